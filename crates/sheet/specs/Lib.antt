@@ -1,0 +1,10 @@
+pub mod Tests
+pub mod Kind
+pub mod Types
+pub mod Head
+pub mod Encode
+pub mod Read
+pub mod Refusals
+pub mod Carried
+pub mod Names
+pub mod Holds

@@ -1,0 +1,180 @@
+//! The commands of the program.
+
+use crate::book;
+use crate::call::{Answer, Question};
+use crate::generator;
+use crate::rng::Rng;
+use crate::standin::arrow::datatypes::DataType::Decimal256;
+use crate::{call, mutants, plain, selftest, vectors};
+use std::collections::BTreeMap;
+use std::io::{self, BufRead, BufWriter, Read, Write};
+use std::process::ExitCode;
+
+const STORED: &str = "vectors/calls.bin";
+
+const USAGE: &str = "usage: oracle COMMAND (run it in the folder of this program)
+  answer                         answers each line 'question mask output work sheet' of its input
+  shelf                          the three lines of the shelf program for a sheet, in bytes
+  generate --seed S --count N    lines for 'answer', good and damaged
+  vectors [--seed S]             the list of vectors, in bytes
+  verify                         whether the stored list is the one that 'vectors' makes
+  replay [FILE]                  runs a stored list, counts the vectors that differ
+  counts                         how many vectors of each class, question and answer are stored
+  plain                          every ordered pair of plain types, in bytes
+  selftest                       the oracle's own tests
+  stops                          whether this build stops on Decimal256(76,0) with (76,76)
+  mutants                        builds each edited copy of the source and replays the list";
+
+pub fn run() -> ExitCode {
+    let words: Vec<String> = std::env::args().skip(1).collect();
+    let command = words.first().map_or("", String::as_str);
+    let done = match command {
+        "answer" => answer_lines(),
+        "shelf" => shelf(),
+        "generate" => generate(option(&words, "--seed", 1), option(&words, "--count", 1000)),
+        "vectors" => print_bytes(&book::write(&vectors::all(option(&words, "--seed", vectors::SEED)))),
+        "verify" => verify(),
+        "replay" => replay(words.get(1).map_or(STORED, String::as_str)),
+        "counts" => counts(),
+        "plain" => print_bytes(&plain::table()),
+        "selftest" => {
+            selftest::run();
+            Ok(true)
+        }
+        "stops" => stops(),
+        "mutants" => mutants::run(),
+        _ => {
+            eprintln!("{USAGE}");
+            Ok(false)
+        }
+    };
+    match done {
+        Ok(true) => ExitCode::SUCCESS,
+        Ok(false) => ExitCode::FAILURE,
+        Err(error) => {
+            eprintln!("oracle: {error}");
+            ExitCode::FAILURE
+        }
+    }
+}
+
+fn option(words: &[String], name: &str, default: u64) -> u64 {
+    let at = words.iter().position(|word| word == name);
+    at.and_then(|at| words.get(at + 1)?.parse().ok()).unwrap_or(default)
+}
+
+fn print_bytes(bytes: &[u8]) -> io::Result<bool> {
+    io::stdout().lock().write_all(bytes)?;
+    Ok(true)
+}
+
+fn answer_lines() -> io::Result<bool> {
+    let mut out = BufWriter::new(io::stdout().lock());
+    for line in io::stdin().lock().lines() {
+        match generator::of_line(&line?) {
+            None => writeln!(out, "not a call")?,
+            Some(call) => match call.answer() {
+                Answer::Refused(number) => writeln!(out, "refused {number}")?,
+                Answer::None => writeln!(out, "none")?,
+                Answer::Type(bytes) => writeln!(out, "type {}", generator::hex(&bytes))?,
+            },
+        }
+    }
+    out.flush()?;
+    Ok(true)
+}
+
+fn shelf() -> io::Result<bool> {
+    let mut sheet = Vec::new();
+    io::stdin().lock().read_to_end(&mut sheet)?;
+    for line in selftest::shelf_lines(&sheet) {
+        println!("{line}");
+    }
+    Ok(true)
+}
+
+fn generate(seed: u64, count: u64) -> io::Result<bool> {
+    let mut rng = Rng::new(seed);
+    let mut out = BufWriter::new(io::stdout().lock());
+    for _ in 0..count {
+        writeln!(out, "{}", generator::line(&generator::any_call(&mut rng)))?;
+    }
+    out.flush()?;
+    Ok(true)
+}
+
+fn verify() -> io::Result<bool> {
+    let stored = std::fs::read(STORED)?;
+    let made = book::write(&vectors::all(vectors::SEED));
+    let same = stored == made;
+    println!("{} bytes stored, {} made, {}", stored.len(), made.len(), if same { "equal" } else { "NOT equal" });
+    Ok(same)
+}
+
+fn stored_vectors(path: &str) -> io::Result<Vec<book::Vector>> {
+    book::read(&std::fs::read(path)?).map_err(io::Error::other)
+}
+
+/// A vector notices where the answer differs or the source panics.
+fn replay(path: &str) -> io::Result<bool> {
+    let stored = stored_vectors(path)?;
+    std::panic::set_hook(Box::new(|_| {}));
+    let differs = |vector: &&book::Vector| {
+        let answer = std::panic::catch_unwind(|| vector.call.answer());
+        !answer.is_ok_and(|answer| answer == vector.answer)
+    };
+    let differing: Vec<&book::Vector> = stored.iter().filter(differs).collect();
+    let mut tags: BTreeMap<u16, usize> = BTreeMap::new();
+    for vector in &differing {
+        *tags.entry(vector.tag).or_default() += 1;
+    }
+    println!("{} of {} differ {tags:?}", differing.len(), stored.len());
+    Ok(differing.is_empty())
+}
+
+fn code_word(answer: &Answer) -> String {
+    match answer {
+        Answer::Refused(number) => format!("refused {number}"),
+        Answer::None => "none".to_string(),
+        Answer::Type(_) => "type".to_string(),
+    }
+}
+
+fn counts() -> io::Result<bool> {
+    let stored = stored_vectors(STORED)?;
+    let mut by_answer: BTreeMap<(&str, String), usize> = BTreeMap::new();
+    let mut by_tag: BTreeMap<u16, usize> = BTreeMap::new();
+    for vector in &stored {
+        let key = (vector.call.question.word(), code_word(&vector.answer));
+        *by_answer.entry(key).or_default() += 1;
+        *by_tag.entry(vector.tag).or_default() += 1;
+    }
+    let greatest = |size: fn(&call::Call) -> u32| stored.iter().map(|v| size(&v.call)).max();
+    println!("{} vectors", stored.len());
+    println!("greatest sheet {:?}", greatest(|call| call.sheet.len() as u32));
+    println!("greatest output {:?}", greatest(|call| call.output));
+    println!("greatest work {:?}", greatest(|call| call.work));
+    for ((question, answer), count) in by_answer {
+        println!("{question} {answer}: {count}");
+    }
+    for (tag, name, _) in vectors::classes() {
+        println!("{tag} | {name} | {}", by_tag.get(&tag).unwrap_or(&0));
+    }
+    Ok(true)
+}
+
+fn stops() -> io::Result<bool> {
+    let pair = [Decimal256(76, 0), Decimal256(76, 76)];
+    for question in call::QUESTIONS {
+        report_stop(question, &pair);
+    }
+    Ok(true)
+}
+
+fn report_stop(question: Question, pair: &[crate::standin::arrow::datatypes::DataType]) {
+    let full = call::FULL_MASK;
+    match std::panic::catch_unwind(|| call::common_type(question, full, pair)) {
+        Ok(answer) => println!("{}: {answer:?}", question.word()),
+        Err(_) => println!("{}: stopped", question.word()),
+    }
+}
