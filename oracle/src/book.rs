@@ -31,6 +31,16 @@ impl Book {
         self.vectors.push(Vector { tag, call, answer });
     }
 
+    /// Leaves at most `most` of the vectors from `start` on, in their order.
+    pub fn thin(&mut self, start: usize, most: usize) {
+        let added = self.vectors.split_off(start);
+        let mut places: Vec<usize> = (0..added.len()).collect();
+        self.rng.shuffle(&mut places);
+        places.truncate(most);
+        let kept = |(place, vector)| places.contains(&place).then_some(vector);
+        self.vectors.extend(added.into_iter().enumerate().filter_map(kept));
+    }
+
     /// A call with space that is exact or somewhat long.
     pub fn ask(&mut self, tag: u16, question: Question, mask: u64, types: &[DataType]) {
         let bytes = sheet::write(types).expect("types that fit in a sheet");

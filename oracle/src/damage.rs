@@ -48,11 +48,11 @@ const DAMAGES: [Damage; 62] = [
         true
     }),
     damage(1, |call, _| cut(call, call.sheet.len().saturating_sub(1))),
-    damage(2, |call, rng| at_any(call, rng, |_, _| true, 0, 0)),
-    damage(2, |call, rng| at_any(call, rng, |_, _| true, 0, 39)),
+    damage(2, |call, rng| set_kind(call, rng, 0)),
+    damage(2, |call, rng| set_kind(call, rng, 39)),
     damage(2, |call, rng| {
         let kind = 39 + rng.below(217);
-        at_any(call, rng, |_, _| true, 0, kind)
+        set_kind(call, rng, kind)
     }),
     damage(3, part_of_plain),
     damage(3, |call, rng| link_any(call, rng, |kind, _| has_parts(kind), 8, |_, _, _| 0)),
@@ -193,6 +193,14 @@ fn set_header(call: &mut Call, at: usize, value: usize) -> bool {
 fn shift_header(call: &mut Call, at: usize, by: i32) -> bool {
     let value = pair(call, 0, at) as i32 + by;
     put_pair(call, 0, at, value as u16 as usize)
+}
+
+/// In any record, met by the walk or not.
+fn set_kind(call: &mut Call, rng: &mut Rng, kind: usize) -> bool {
+    records(call) > 1 && {
+        let record = 1 + rng.below(records(call) - 1);
+        put(call, record, 0, kind)
+    }
 }
 
 fn at_any(call: &mut Call, rng: &mut Rng, fits: fn(u8, u8) -> bool, at: usize, value: usize) -> bool {

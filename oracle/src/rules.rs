@@ -68,7 +68,7 @@ fn plain_pairs(book: &mut Book, tag: u16) {
     let types = one_of_each_plain_kind();
     for left in &types {
         for right in &types {
-            book.ask_all(tag, &[left.clone(), right.clone()]);
+            book.in_turn(tag, FULL_MASK, &[left.clone(), right.clone()]);
         }
     }
 }
@@ -411,6 +411,8 @@ fn maps(book: &mut Book, tag: u16) {
         structure(&[("value", Int32, true), ("key", Utf8, false)]),
         structure(&[("k", Utf8View, false), ("v", UInt8, false)]),
         structure(&[("key", Int8, false), ("value", Int8, false)]),
+        structure(&[("key", dictionary(Int8, Utf8), false), ("value", Date32, false)]),
+        structure(&[("value", Utf8View, false), ("key", dictionary(Int16, Utf8), true)]),
         structure(&[("key", Utf8, false)]),
         Int32,
     ];
@@ -477,7 +479,7 @@ fn alike(book: &mut Book, tag: u16) {
 }
 
 fn random_pairs(book: &mut Book, tag: u16) {
-    for _ in 0..700 {
+    for _ in 0..500 {
         let records = 2 + book.rng.below(9);
         let left = any_type(&mut book.rng, records);
         let right = related(&mut book.rng, &left);
@@ -487,7 +489,7 @@ fn random_pairs(book: &mut Book, tag: u16) {
 }
 
 fn random_lists(book: &mut Book, tag: u16) {
-    for _ in 0..300 {
+    for _ in 0..250 {
         let records = 2 + book.rng.below(6);
         let first = any_type(&mut book.rng, records);
         let mut types = vec![first];

@@ -15,10 +15,24 @@ pub fn classes() -> Vec<Class> {
     classes
 }
 
+/// How many vectors of a class are kept; the rest is left out at random.
+fn most(tag: u16) -> usize {
+    match tag {
+        103 => 961,
+        120 => 200,
+        107 => 220,
+        122 => 500,
+        123 => 250,
+        _ => 150,
+    }
+}
+
 pub fn all(seed: u64) -> Vec<Vector> {
     let mut book = Book::new(seed);
     for (tag, _, fill) in classes() {
+        let before = book.vectors.len();
         fill(&mut book, tag);
+        book.thin(before, most(tag));
     }
     book.vectors
 }

@@ -6,3 +6,6 @@ pub mod Reading
 pub mod Carrying
 pub mod Accepting
 pub mod Accepted
+pub mod Bytewise
+pub mod Figures
+pub mod Walking

@@ -73,3 +73,7 @@ one-cons ts e h = rw e h
 
 pub not-of : {t : Bool} → t ≡ true → not t ≡ false
 not-of e = ap not e
+
+pub and-true : (b : Bool) → b && true ≡ b
+and-true true = refl
+and-true false = refl

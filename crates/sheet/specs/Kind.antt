@@ -2,6 +2,7 @@
 use Prim.Native.Nat.{ℕ}
 use mathlib.Core.Bool.{Bool, true, false, cond, _&&_, _||_}
 use lib.Dec.{leb, eqb}
+use Rattle.sheet.specs.Tests.{between}
 
 abbrev pub null : ℕ
 null = 1
@@ -119,11 +120,11 @@ runEndEncoded = 38
 
 -- a kind is one of 1 to 38
 unfoldable pub isKind : ℕ → Bool
-isKind k = leb null k && leb k runEndEncoded
+isKind k = between null runEndEncoded k
 
 -- `is_decimal`: kinds 14 to 17
 unfoldable pub isDecimal : ℕ → Bool
-isDecimal k = leb decimal32 k && leb k decimal256
+isDecimal k = between decimal32 decimal256 k
 
 -- "the four precision caps 9, 18, 38 and 76 belong to the width"
 unfoldable pub cap : ℕ → ℕ
@@ -135,14 +136,14 @@ sized k = eqb k fixedSizeBinary || eqb k fixedSizeList
 
 -- "Kinds 20–22 and 24: 0 second, 1 milli, 2 micro, 3 nano. Interval: 0 YearMonth, 1 DayTime, 2 MonthDayNano": the greatest unit, 0 for a kind that has none
 unfoldable pub lastUnit : ℕ → ℕ
-lastUnit k = cond ((leb time32 k && leb k timestamp) || eqb k duration) 3 (cond (eqb k interval) 2 0)
+lastUnit k = cond (between time32 timestamp k || eqb k duration) 3 (cond (eqb k interval) 2 0)
 
 -- "Kinds 32–34 and 36 have one part, 37 two (index, value), 38 two (run ends, values), 35 any number, others none"
 unfoldable pub partsRight : ℕ → ℕ → Bool
 partsRight k n =
-    cond ((leb list k && leb k fixedSizeList) || eqb k map) (eqb n 1)
-    (cond (leb dictionary k && leb k runEndEncoded) (eqb n 2) (eqb k struct || eqb n 0))
+    cond (between list fixedSizeList k || eqb k map) (eqb n 1)
+    (cond (between dictionary runEndEncoded k) (eqb n 2) (eqb k struct || eqb n 0))
 
 -- "Only parts of 32–36 and 38 may be nullable or have a name"
 unfoldable pub namesParts : ℕ → Bool
-namesParts k = (leb list k && leb k map) || eqb k runEndEncoded
+namesParts k = between list map k || eqb k runEndEncoded

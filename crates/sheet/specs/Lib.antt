@@ -8,3 +8,5 @@ pub mod Refusals
 pub mod Carried
 pub mod Names
 pub mod Holds
+pub mod Bounds
+pub mod Walk

@@ -1,4 +1,9 @@
 // The sheet of document 01: reading records and labels, and the check that gives refusals 1 to 5.
+mod figure;
+pub mod label;
+pub mod record;
+mod walk;
+
 pub struct Head {
     pub kind: u8,
     pub flags: u8,
@@ -10,6 +15,20 @@ pub struct Head {
     pub name: usize,
     pub nlen: usize,
     pub last: u8,
+}
+
+// What a walk has found so far: the next record, the next label, and whether a figure or a label is wrong.
+struct Progress {
+    due: usize,
+    at: usize,
+    figure: bool,
+    label: bool,
+}
+
+// A walk along a chain: how far it came and how many records the chain has; or a link that leads elsewhere, or a wrong number of parts.
+enum Walked {
+    Came(Progress, usize),
+    Lost,
 }
 
 pub enum Refusal {

@@ -1,0 +1,214 @@
+// What a record says by itself: its kind, its figures, its number of parts and the places of its labels.
+ghost use mathlib.Core.Path.{_≡_};
+ghost use mathlib.Core.Bool.{Bool, true, false, not};
+ghost use mathlib.Core.List.{_∷_, []};
+ghost use Prim.Native.Nat.{_+_, _<_, _≤_};
+ghost use Rattle.sheet.specs.Tests.{allOf, implies, between};
+ghost use Rattle.sheet.specs.Kind.{isKind, isDecimal, cap, sized, lastUnit, partsRight, namesParts};
+ghost use Rattle.sheet.specs.Head.{zonedIn, labelled};
+ghost use Rattle.sheet.specs.Refusals.{biased, decimalRight, figureRight, sizeRight, figuresRight, recordRight, placed, labelRight};
+ghost use Rattle.sheet.specs.Bounds.{Bounded};
+use crate::Head;
+
+fn all(a: bool, b: bool, c: bool, d: bool, e: bool) -> bool
+    ensures { λ r. ⌜ r ≡ allOf (a ∷ b ∷ c ∷ d ∷ e ∷ []) ⌝ }
+{
+    if a {
+        if b {
+            if c {
+                if d {
+                    return e;
+                }
+            }
+        }
+    }
+    false
+}
+
+fn implied(a: bool, b: bool) -> bool
+    ensures { λ r. ⌜ r ≡ implies a b ⌝ }
+{
+    if a { b } else { true }
+}
+
+fn within(lo: u8, hi: u8, k: u8) -> bool
+    ensures { λ r. ⌜ r ≡ between lo hi k ⌝ }
+{
+    if lo <= k { k <= hi } else { false }
+}
+
+pub(crate) fn is_kind(k: u8) -> bool
+    ensures { λ r. ⌜ r ≡ isKind k ⌝ }
+{
+    within(1, 38, k)
+}
+
+fn is_decimal(k: u8) -> bool
+    ensures { λ r. ⌜ r ≡ isDecimal k ⌝ }
+{
+    within(14, 17, k)
+}
+
+fn names_parts(k: u8) -> bool
+    ensures { λ r. ⌜ r ≡ namesParts k ⌝ }
+{
+    if within(32, 36, k) { true } else { k == 38 }
+}
+
+// Whether a record of kind k may have n parts.
+pub(crate) fn parts_right(k: u8, n: usize) -> bool
+    ensures { λ r. ⌜ r ≡ partsRight k n ⌝ }
+{
+    if within(32, 34, k) {
+        return n == 1;
+    }
+    if k == 36 {
+        return n == 1;
+    }
+    if within(37, 38, k) {
+        return n == 2;
+    }
+    if k == 35 { true } else { n == 0 }
+}
+
+fn precision_cap(k: u8) -> usize
+    ensures { λ r. ⌜ (r ≡ cap k) × (r ≤ 76) ⌝ }
+{
+    if k == 14 {
+        return 9;
+    }
+    if k == 15 {
+        return 18;
+    }
+    if k == 16 { 38 } else { 76 }
+}
+
+fn last_unit(k: u8) -> u8
+    ensures { λ r. ⌜ r ≡ lastUnit k ⌝ }
+{
+    if within(20, 22, k) {
+        return 3;
+    }
+    if k == 24 {
+        return 3;
+    }
+    if k == 23 { 2 } else { 0 }
+}
+
+// A scale byte, plus 128.
+fn biased_scale(b: u8) -> usize
+    ensures { λ r. ⌜ r ≡ biased b ⌝ }
+{
+    (b as usize + 128) % 256
+}
+
+fn decimal_right(most: usize, p: u8, s: u8) -> bool
+    ensures { λ r. ⌜ r ≡ decimalRight most p s ⌝ }
+{
+    let q = p as usize;
+    let b = biased_scale(s);
+    all(1 <= q, q <= most, b <= q + 128, q + 1 <= b, true)
+}
+
+fn figure_right(k: u8, figure: u8, scale: u8) -> bool
+    ensures { λ r. ⌜ r ≡ figureRight k figure scale ⌝ }
+{
+    if is_decimal(k) {
+        return decimal_right(precision_cap(k), figure, scale);
+    }
+    let most = last_unit(k);
+    all(figure <= most, scale == 0, true, true, true)
+}
+
+fn size_right(k: u8, size: usize) -> bool
+    ensures { λ r. ⌜ r ≡ sizeRight k size ⌝ }
+{
+    if k == 31 {
+        return size < 2147483648;
+    }
+    if k == 34 {
+        return size < 2147483648;
+    }
+    size == 0
+}
+
+fn figures_right(k: u8, figure: u8, scale: u8, size: usize, sorted: bool, zoned: bool) -> bool
+    ensures { λ r. ⌜ r ≡ figuresRight k figure scale size sorted zoned ⌝ }
+{
+    all(
+        figure_right(k, figure, scale),
+        size_right(k, size),
+        implied(sorted, k == 36),
+        implied(zoned, k == 22),
+        true,
+    )
+}
+
+fn size_in(zoned: bool, quad: usize) -> usize
+    ensures { λ r. ⌜ r ≡ mathlib.Core.Bool.cond zoned 0 quad ⌝ }
+{
+    if zoned { 0 } else { quad }
+}
+
+// Whether a record that is a part of one of kind up has nothing of refusal 4.
+pub(crate) fn record_right(h: Head, up: u8) -> bool
+    ensures { λ r. ⌜ r ≡ recordRight h up ⌝ }
+{
+    let flags = h.flags;
+    let quad = h.quad;
+    let zoned = flags / 4 % 2 == 1;
+    all(
+        figures_right(
+            h.kind,
+            h.figure,
+            h.scale,
+            size_in(zoned, quad),
+            flags / 2 % 2 == 1,
+            zoned,
+        ),
+        implied(flags % 2 == 1, names_parts(up)),
+        flags < 8,
+        implied(zoned, quad < 16777216),
+        h.last == 0,
+    )
+}
+
+// Whether a label of len bytes is where it belongs, o.
+fn is_placed(o: usize, at: usize, len: usize) -> bool
+    ensures { λ r. ⌜ r ≡ placed o at len ⌝ }
+{
+    if len == 0 { at == 0 } else { at == o }
+}
+
+// Whether the labels of a record that is a part of one of kind up are right, and begin at o.
+pub(crate) fn label_right(h: Head, up: u8, o: usize) -> bool
+    requires { ⌜ (o < 1000000) × Bounded h ⌝ }
+    ensures { λ r. ⌜ r ≡ labelRight h up o ⌝ }
+{
+    let quad = h.quad;
+    let nlen = h.nlen;
+    all(
+        is_placed(o, h.name, nlen),
+        implied(nlen != 0, names_parts(up)),
+        implied(
+            h.flags / 4 % 2 == 1,
+            is_placed(o + nlen, quad % 65536, quad / 65536 % 256),
+        ),
+        true,
+        true,
+    )
+}
+
+// How many label bytes a record has.
+pub(crate) fn label_bytes(h: Head) -> usize
+    requires { ⌜ Bounded h ⌝ }
+    ensures { λ r. ⌜ (r ≡ labelled h) × (r ≤ 510) ⌝ }
+{
+    let flags = h.flags;
+    let quad = h.quad;
+    if flags / 4 % 2 == 1 {
+        h.nlen + quad / 65536 % 256
+    } else {
+        h.nlen
+    }
+}
