@@ -1,14 +1,12 @@
 //! The commands of the program.
 
-use crate::book;
 use crate::call::{Answer, Question};
 use crate::generator;
 use crate::rng::Rng;
 use crate::standin::arrow::datatypes::DataType::Decimal256;
-use crate::{call, mutants, plain, selftest, vectors};
+use crate::{call, mutants, plain, selftest, stored, vectors};
 use std::collections::BTreeMap;
 use std::io::{self, BufRead, BufWriter, Read, Write};
-use std::process::ExitCode;
 
 const STORED: &str = "vectors/calls.bin";
 
@@ -25,37 +23,26 @@ const USAGE: &str = "usage: oracle COMMAND (run it in the folder of this program
   stops                          whether this build stops on Decimal256(76,0) with (76,76)
   mutants                        builds each edited copy of the source and replays the list";
 
-pub fn run() -> ExitCode {
+pub fn run() -> io::Result<bool> {
     let words: Vec<String> = std::env::args().skip(1).collect();
-    let command = words.first().map_or("", String::as_str);
-    let done = match command {
+    match words.first().map_or("", String::as_str) {
         "answer" => answer_lines(),
         "shelf" => shelf(),
         "generate" => generate(option(&words, "--seed", 1), option(&words, "--count", 1000)),
-        "vectors" => print_bytes(&book::write(&vectors::all(option(&words, "--seed", vectors::SEED)))),
+        "vectors" => print_bytes(&made(option(&words, "--seed", vectors::SEED))),
         "verify" => verify(),
-        "replay" => replay(words.get(1).map_or(STORED, String::as_str)),
+        "replay" => stored::replay(words.get(1).map_or(STORED, String::as_str)),
         "counts" => counts(),
         "plain" => print_bytes(&plain::table()),
-        "selftest" => {
-            selftest::run();
-            Ok(true)
-        }
+        "selftest" => selftest::run(),
         "stops" => stops(),
-        "mutants" => mutants::run(),
-        _ => {
-            eprintln!("{USAGE}");
-            Ok(false)
-        }
-    };
-    match done {
-        Ok(true) => ExitCode::SUCCESS,
-        Ok(false) => ExitCode::FAILURE,
-        Err(error) => {
-            eprintln!("oracle: {error}");
-            ExitCode::FAILURE
-        }
+        "mutants" => mutants::run(words.get(1).map_or("", String::as_str)),
+        _ => Err(io::Error::other(USAGE)),
     }
+}
+
+fn made(seed: u64) -> Vec<u8> {
+    stored::write(&vectors::all(seed))
 }
 
 fn option(words: &[String], name: &str, default: u64) -> u64 {
@@ -105,31 +92,10 @@ fn generate(seed: u64, count: u64) -> io::Result<bool> {
 
 fn verify() -> io::Result<bool> {
     let stored = std::fs::read(STORED)?;
-    let made = book::write(&vectors::all(vectors::SEED));
+    let made = made(vectors::SEED);
     let same = stored == made;
     println!("{} bytes stored, {} made, {}", stored.len(), made.len(), if same { "equal" } else { "NOT equal" });
     Ok(same)
-}
-
-fn stored_vectors(path: &str) -> io::Result<Vec<book::Vector>> {
-    book::read(&std::fs::read(path)?).map_err(io::Error::other)
-}
-
-/// A vector notices where the answer differs or the source panics.
-fn replay(path: &str) -> io::Result<bool> {
-    let stored = stored_vectors(path)?;
-    std::panic::set_hook(Box::new(|_| {}));
-    let differs = |vector: &&book::Vector| {
-        let answer = std::panic::catch_unwind(|| vector.call.answer());
-        !answer.is_ok_and(|answer| answer == vector.answer)
-    };
-    let differing: Vec<&book::Vector> = stored.iter().filter(differs).collect();
-    let mut tags: BTreeMap<u16, usize> = BTreeMap::new();
-    for vector in &differing {
-        *tags.entry(vector.tag).or_default() += 1;
-    }
-    println!("{} of {} differ {tags:?}", differing.len(), stored.len());
-    Ok(differing.is_empty())
 }
 
 fn code_word(answer: &Answer) -> String {
@@ -141,23 +107,23 @@ fn code_word(answer: &Answer) -> String {
 }
 
 fn counts() -> io::Result<bool> {
-    let stored = stored_vectors(STORED)?;
+    let vectors = stored::load(STORED)?;
     let mut by_answer: BTreeMap<(&str, String), usize> = BTreeMap::new();
     let mut by_tag: BTreeMap<u16, usize> = BTreeMap::new();
-    for vector in &stored {
+    for vector in &vectors {
         let key = (vector.call.question.word(), code_word(&vector.answer));
         *by_answer.entry(key).or_default() += 1;
         *by_tag.entry(vector.tag).or_default() += 1;
     }
-    let greatest = |size: fn(&call::Call) -> u32| stored.iter().map(|v| size(&v.call)).max();
-    println!("{} vectors", stored.len());
+    let greatest = |size: fn(&call::Call) -> u32| vectors.iter().map(|v| size(&v.call)).max();
+    println!("{} vectors", vectors.len());
     println!("greatest sheet {:?}", greatest(|call| call.sheet.len() as u32));
     println!("greatest output {:?}", greatest(|call| call.output));
     println!("greatest work {:?}", greatest(|call| call.work));
     for ((question, answer), count) in by_answer {
         println!("{question} {answer}: {count}");
     }
-    for (tag, name, _) in vectors::classes() {
+    for (tag, name, _) in crate::vectors::classes() {
         println!("{tag} | {name} | {}", by_tag.get(&tag).unwrap_or(&0));
     }
     Ok(true)

@@ -3,7 +3,9 @@
 use crate::call::{Call, Question, FULL_MASK, QUESTIONS};
 use crate::damage;
 use crate::families;
-use crate::make::{any_mask, any_type, related};
+use crate::make::{
+    any_mask, any_name, any_plain, any_type, field, fixed_list, large_list, list, related, structure,
+};
 use crate::rng::Rng;
 use crate::sheet;
 use crate::standin::arrow::datatypes::DataType;
@@ -12,6 +14,8 @@ pub fn any_call(rng: &mut Rng) -> Call {
     match rng.below(20) {
         0..=2 => damage::any_call(rng),
         3 => flipped(rng),
+        _ if rng.once_in(50) => large(rng),
+        _ if rng.once_in(200) => good_call(rng, Question::List, &[]),
         4 => {
             let family = *rng.pick(&families::FAMILIES);
             let count = 1 + rng.below(60);
@@ -30,6 +34,46 @@ pub fn any_call(rng: &mut Rng) -> Call {
             good_call(rng, question, &pair)
         }
     }
+}
+
+/// A pair that is deep, or wide with names in another order or partly changed.
+fn large(rng: &mut Rng) -> Call {
+    let pair = if rng.once_in(2) { deep_pair(rng) } else { wide_pair(rng) };
+    let question = *rng.pick(&QUESTIONS);
+    good_call(rng, question, &pair)
+}
+
+fn deep_pair(rng: &mut Rng) -> [DataType; 2] {
+    let left = any_plain(rng);
+    let mut pair = [related(rng, &left), left];
+    for _ in 0..1 + rng.below(400) {
+        let shape = rng.below(4);
+        let name = any_name(rng);
+        pair = pair.map(|t| match shape {
+            0 => large_list(name, t, rng.once_in(2)),
+            1 => fixed_list("", t, rng.once_in(2), 2),
+            2 => structure(&[(name, t, rng.once_in(2))]),
+            _ => list("", t, rng.once_in(2)),
+        });
+    }
+    pair
+}
+
+fn wide_pair(rng: &mut Rng) -> [DataType; 2] {
+    let count = 1 + rng.below(150);
+    let types: Vec<DataType> = (0..count).map(|_| any_plain(rng)).collect();
+    let mut other: Vec<(String, DataType, bool)> = Vec::new();
+    let changed = rng.once_in(2).then(|| rng.below(count));
+    for (at, t) in types.iter().enumerate() {
+        let name = if changed == Some(at) { "other".to_string() } else { format!("f{at}") };
+        let partner = if rng.once_in(30) { related(rng, t) } else { t.clone() };
+        other.push((name, partner, rng.once_in(2)));
+    }
+    rng.shuffle(&mut other);
+    let one = types.into_iter().enumerate().map(|(at, t)| field(&format!("f{at}"), t, rng.once_in(2)));
+    let one = DataType::Struct(one.collect::<Vec<_>>().into());
+    let other = other.iter().map(|(name, t, nullable)| field(name, t.clone(), *nullable));
+    [one, DataType::Struct(other.collect::<Vec<_>>().into())]
 }
 
 fn any_type_of_some_size(rng: &mut Rng) -> DataType {

@@ -7,7 +7,7 @@ use crate::sheet::{kind_of, precision_cap};
 use crate::standin::arrow::datatypes::DataType;
 use DataType::*;
 
-pub const CLASSES: [(u16, &str, fn(&mut Book, u16)); 27] = [
+pub const CLASSES: [(u16, &str, fn(&mut Book, u16)); 29] = [
     (101, "the twelve marked cases and the worked example", marked),
     (102, "the empty list, one type, the same type again", same),
     (103, "every ordered pair of plain kinds, one type of each", plain_pairs),
@@ -35,6 +35,8 @@ pub const CLASSES: [(u16, &str, fn(&mut Book, u16)); 27] = [
     (125, "sheets at their limits: records, labels, depth, width", limits),
     (126, "demand 3: lists of one family with Nulls, any mask", families),
     (127, "one nested kind with every kind", nested_with_every),
+    (128, "every ordered pair of integers and floats", numbers),
+    (129, "dates with integers", dates_with_integers),
 ];
 
 fn marked(book: &mut Book, tag: u16) {
@@ -104,6 +106,7 @@ fn one_width(book: &mut Book, tag: u16) {
         let (whole, fraction) = (decimal(kind, cap, 0), decimal(kind, cap, cap as i8));
         book.both_ways(tag, &whole, &fraction);
         book.both_ways(tag, &decimal(kind, 1, -126), &fraction);
+        book.both_ways(tag, &decimal(kind, 2, -3), &decimal(kind, 4, -5));
         let corners = corner_decimals(kind);
         for _ in 0..60 {
             let left = book.rng.pick(&corners).clone();
@@ -135,12 +138,14 @@ fn decimals_with_numbers(book: &mut Book, tag: u16) {
     for kind in DECIMALS {
         let cap = precision_cap(kind).expect("a decimal kind");
         let decimals = [
-            decimal(kind, 1, 0),
             decimal(kind, cap, 0),
             decimal(kind, cap, cap as i8),
             decimal(kind, 4, 4),
             decimal(kind, 7, -2),
         ];
+        for number in NUMBERS {
+            book.ask_all(tag, &[decimal(kind, 1, 0), number]);
+        }
         for decimal in decimals {
             for number in NUMBERS {
                 book.in_turn(tag, FULL_MASK, &[decimal.clone(), number.clone()]);
@@ -341,11 +346,12 @@ fn lists(book: &mut Book, tag: u16) {
             fixed_list(name, t.clone(), nullable, 3),
         ]
     };
-    let parts = [(Int8, Int32), (Int32, Int32), (Utf8, Date32), (Utf8, Binary), (Int64, Boolean)];
+    let parts = [(Int8, Int32), (Int32, Int32), (Utf8, Int16), (Utf8, Binary), (Int64, Boolean)];
     for (left, right) in parts {
         for one in shapes("item", &left, false) {
+            book.ask_all(tag, &[one.clone(), list("item", right.clone(), false)]);
             for other in shapes("element", &right, true) {
-                book.ask_all(tag, &[one.clone(), other.clone()]);
+                book.in_turn(tag, FULL_MASK, &[one.clone(), other.clone()]);
                 book.in_turn(tag, FULL_MASK, &[other, one.clone()]);
             }
         }
@@ -401,6 +407,14 @@ fn structs_by_place(book: &mut Book, tag: u16) {
     for right in &rights {
         book.both_ways(tag, &left, right);
         book.both_ways(tag, &list("", left.clone(), true), &list("", right.clone(), true));
+    }
+    let sides = |name: &str, unit: usize, zone: &str, part: DataType| {
+        structure(&[(name, timestamp(unit, Some(zone)), false), ("list", part, true)])
+    };
+    let one = sides("p", 1, "UTC", list("in", Int8, false));
+    for name in ["p", "q"] {
+        let other = sides(name, 2, "+01:00", list("out", Int16, false));
+        book.both_ways(tag, &one, &other);
     }
 }
 
@@ -567,6 +581,25 @@ fn nested_with_every(book: &mut Book, tag: u16) {
         for other in &others {
             book.in_turn(tag, FULL_MASK, &[nested.clone(), other.clone()]);
             book.in_turn(tag, FULL_MASK, &[other.clone(), nested.clone()]);
+        }
+    }
+}
+
+fn numbers(book: &mut Book, tag: u16) {
+    for left in NUMBERS {
+        for right in NUMBERS {
+            book.ask_all(tag, &[left.clone(), right]);
+        }
+    }
+}
+
+fn dates_with_integers(book: &mut Book, tag: u16) {
+    for date in [Date32, Date64] {
+        for integer in INTEGERS {
+            for question in [Question::Union, Question::Compare] {
+                book.ask(tag, question, 0, &[date.clone(), integer.clone()]);
+                book.ask(tag, question, 0, &[integer.clone(), date.clone()]);
+            }
         }
     }
 }

@@ -1,6 +1,7 @@
 //! The stored list: every class in order, from one seed.
 
-use crate::book::{Book, Vector};
+use crate::book::Book;
+use crate::stored::Vector;
 use crate::{damage, rules, traps};
 
 type Class = (u16, &'static str, fn(&mut Book, u16));
@@ -20,10 +21,12 @@ fn most(tag: u16) -> usize {
     match tag {
         103 => 961,
         120 => 200,
-        107 => 220,
+        107 => 484,
+        110 => 200,
+        128 => 363,
         122 => 500,
         123 => 250,
-        _ => 150,
+        _ => 135,
     }
 }
 

@@ -14,7 +14,7 @@ use Rattle.sheet.specs.Head.{headFrom, blank, headAt, labelled, nullable
 use Rattle.sheet.specs.Encode.{linkTo, headOf, header, encode}
 use Rattle.sheet.specs.Read.{recordsOf, labelsOf, labelAt, shapeOf, fieldOf, walkFrom, start, read}
 use Rattle.sheet.specs.Names.{namesDiffer}
-use Rattle.sheet.specs.Refusals.{allZero, torn, anyFrom, badKind, linked, badChain, Met, met, recordRight, anyWrong, badFigure, labelRight, misplaced, badLabel, Condition, conditions, firstMet, refusal}
+use Rattle.sheet.specs.Refusals.{allZero, torn, anyFrom, badKind, linked, badChain, Met, met, recordRight, anyWrong, badFigure, labelRight, misplaced, walk, badLabel, Condition, conditions, firstMet, refusal}
 use Rattle.sheet.specs.Carried.{FieldRight, FieldsRight, Carried}
 use Rattle.sheet.specs.Holds.{Plain, Span, Stands, Holds}
 use Rattle.sheet.specs.declared.Head.{Head}
@@ -154,20 +154,28 @@ none-met (c ∷ cs) p h i = go (c .met) refl h i (none-met cs (p .1))
     go false e h zero f = e
     go false e h (suc i) f = f h i
 
+-- a sheet of which nothing but two equal names is left to be found
+pub record Sound (s : List ℕ) : Type 0 where
+  pub whole : torn s ≡ false
+  pub kinds : badKind s ≡ false
+  pub chain : badChain s ≡ false
+  pub figures : badFigure s ≡ false
+  pub places : misplaced s 0 (walk s) ≡ false
+
 -- what an accepted sheet is known not to be
 record Unrefused (s : List ℕ) : Type 0 where
-  whole : torn s ≡ false
-  kinds : badKind s ≡ false
-  chain : badChain s ≡ false
-  figures : badFigure s ≡ false
-  places : badLabel s ≡ false
+  sound : Sound s
+  differ : namesDiffer (read s) ≡ true
 
 unrefused : (s : List ℕ) → refusal s ≡ 0 → Unrefused s
-unfolding refusal
+unfolding refusal badLabel
 unrefused s h =
     let a : (i : ℕ) → metAt (conditions s) i ≡ false =
     none-met (conditions s) (omega arith, (omega arith, (omega arith, (omega arith, (omega arith, tt))))) h in
-    record { whole = a 0; kinds = a 1; chain = a 2; figures = a 3; places = a 4 }
+    record {
+      sound = record { whole = a 0; kinds = a 1; chain = a 2; figures = a 3; places = one-at _ 0 (a 4) };
+      differ = not-false (namesDiffer (read s)) (one-at _ 1 (a 4));
+    }
 
 any-not : (test : ℕ → Bool) (r k : ℕ) → anyFrom test r k ≡ false → (j : ℕ) → r ≤ j → j < r + k → test j ≡ false
 any-not test r zero h j lo hi = absurd (omega arith)
@@ -182,7 +190,7 @@ all-zero [] j h = refl
 all-zero (b ∷ bs) zero h = eqb-true b 0 (and-fst (eqb b 0) _ h)
 all-zero (b ∷ bs) (suc j) h = all-zero bs j (and-snd (eqb b 0) _ h)
 
-module _ (s : List ℕ) (plain : Plain s) (u : Unrefused s) where
+module _ (s : List ℕ) (plain : Plain s) (u : Sound s) where
   record Sized : Type 0 where
     least : 16 ≤ length s
     some-records : 1 ≤ recordsOf s
@@ -217,11 +225,11 @@ module _ (s : List ℕ) (plain : Plain s) (u : Unrefused s) where
       (all-at _ 0 h, omega (arith, sizes .some-records))
 
   all-kept : Kept s (recordsOf s) 1 0 0 (read s) []
-  unfolding read badFigure badLabel
+  unfolding read badFigure
   all-kept =
       kept s (recordsOf s) plain (sizes .long) kind-at (recordsOf s) 0 (start (recordsOf s)) 1 0 [] (omega arith) (chain-right .0)
       (ap (anyWrong s) (append-nil (met 0 1 (read s))) ∙ u .figures)
-      (ap (misplaced s 0) (append-nil (met 0 1 (read s))) ∙ one-at _ 0 (u .places))
+      (ap (misplaced s 0) (append-nil (met 0 1 (read s))) ∙ u .places)
 
   labels-right : length (labels (read s)) ≡ labelsOf s
   unfolding misplaced
@@ -231,14 +239,13 @@ module _ (s : List ℕ) (plain : Plain s) (u : Unrefused s) where
       omega arith
 
   -- what is accepted may be carried
-  carried : Carried (read s)
-  unfolding badLabel
-  carried =
+  carried : namesDiffer (read s) ≡ true → Carried (read s)
+  carried d =
       record {
         few = omega (arith, chain-right .1, sizes .few-records);
         short = omega (arith, labels-right, sizes .few-labels);
         right = all-kept .right;
-        differ = not-false (namesDiffer (read s)) (one-at _ 1 (u .places));
+        differ = d;
       }
 
   header-byte : (j : ℕ) → j < 16 → getD s j 0 ≡ getD (header (recordsOf s) (labelsOf s)) j 0
@@ -259,13 +266,17 @@ module _ (s : List ℕ) (plain : Plain s) (u : Unrefused s) where
       holds-encode s (read s) plain (omega (arith, sizes .long, chain-right .1, labels-right))
       (rw (chain-right .1, labels-right) header-span) (rw (chain-right .1) (all-kept .holds))
 
+-- the chain of a sound sheet stands in it
+pub sound-holds : (s : List ℕ) → Plain s → Sound s → Holds s (recordsOf s) 1 0 (read s)
+sound-holds s plain u = all-kept s plain u .holds
+
 -- `encode (read s) ≡ s` for every accepted sheet
 pub accepted-encode : (s : List ℕ) → Plain s → refusal s ≡ 0 → encode (read s) ≡ s
-accepted-encode s plain h = encoded s plain (unrefused s h)
+accepted-encode s plain h = encoded s plain (unrefused s h .sound)
 
 -- the types of an accepted sheet may be carried
 pub accepted-carried : (s : List ℕ) → Plain s → refusal s ≡ 0 → Carried (read s)
-accepted-carried s plain h = carried s plain (unrefused s h)
+accepted-carried s plain h = carried s plain (unrefused s h .sound) (unrefused s h .differ)
 
 -- two accepted sheets with the same types are the same bytes
 pub accepted-same : (s s′ : List ℕ) → Plain s → Plain s′ → refusal s ≡ 0 → refusal s′ ≡ 0 → read s ≡ read s′ → s ≡ s′
@@ -273,14 +284,14 @@ accepted-same s s′ plain plain′ h h′ e = sym (accepted-encode s plain h) �
 
 -- the chain of an accepted sheet stands in it
 pub accepted-holds : (s : List ℕ) → Plain s → refusal s ≡ 0 → Holds s (recordsOf s) 1 0 (read s)
-accepted-holds s plain h = all-kept s plain (unrefused s h) .holds
+accepted-holds s plain h = sound-holds s plain (unrefused s h .sound)
 
 -- the header of an accepted sheet
 pub accepted-n : (s : List ℕ) → Plain s → refusal s ≡ 0 → recordsOf s ≡ 1 + count (read s)
-accepted-n s plain h = sym (chain-right s plain (unrefused s h) .1)
+accepted-n s plain h = sym (chain-right s plain (unrefused s h .sound) .1)
 
 pub accepted-m : (s : List ℕ) → Plain s → refusal s ≡ 0 → labelsOf s ≡ length (labels (read s))
-accepted-m s plain h = sym (labels-right s plain (unrefused s h))
+accepted-m s plain h = sym (labels-right s plain (unrefused s h .sound))
 
 pub accepted-length : (s : List ℕ) → Plain s → refusal s ≡ 0 → length s ≡ 16 * recordsOf s + labelsOf s
-accepted-length s plain h = sizes s plain (unrefused s h) .long
+accepted-length s plain h = sizes s plain (unrefused s h .sound) .long

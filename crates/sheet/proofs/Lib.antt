@@ -9,3 +9,6 @@ pub mod Accepted
 pub mod Bytewise
 pub mod Figures
 pub mod Walking
+pub mod Repeating
+pub mod Scans
+pub mod Verdicts

@@ -1,6 +1,6 @@
 -- How a chain stands in bytes, record by record.
 use mathlib.Core.Path.{_≡_}
-use Prim.Native.Nat.{ℕ, _+_, _*_, _<_}
+use Prim.Native.Nat.{ℕ, _+_, _*_, _<_, _≤_}
 use mathlib.Core.Bool.{Bool}
 use mathlib.Core.List.{List}
 use lib.ListN.{length, getD, take, drop}
@@ -28,3 +28,10 @@ Holds s n r o (field name nullable shape parts rest) =
     Stands s n r o name nullable shape (linkTo (r + 1) parts) (linkTo (r + 1 + count parts) rest)
     × (Holds s n (r + 1) (o + length (ownLabels name shape)) parts
     × Holds s n (r + 1 + count parts) (o + length (ownLabels name shape) + length (labels parts)) rest)
+
+-- a link leads to the chain t at record r, past floor, in a sheet of n records
+pub record Leads (s : List ℕ) (n floor link r o : ℕ) (t : Fields) : Type 0 where
+  pub holds : Holds s n r o t
+  pub is : link ≡ linkTo r t
+  pub above : floor < r
+  pub inside : r + count t ≤ n

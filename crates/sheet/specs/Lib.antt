@@ -10,3 +10,5 @@ pub mod Names
 pub mod Holds
 pub mod Bounds
 pub mod Walk
+pub mod Limits
+pub mod Found

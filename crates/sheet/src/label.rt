@@ -4,7 +4,8 @@ ghost use Prim.Native.Nat.{_+_, _*_, _<_, _≤_};
 ghost use lib.ListN.{length, take, drop};
 ghost use Rattle.sheet.specs.Read.{labelAt};
 ghost use Rattle.sheet.specs.Names.{sameBytes};
-ghost use Rattle.sheet.specs.Bounds.{Filled};
+ghost use Rattle.sheet.specs.Bounds.{Bounded, Filled};
+use crate::Head;
 
 // The label of len bytes at an offset, as a part of the sheet: what lies inside, where the sheet ends before it does.
 pub fn label_at(s: &[u8], n: usize, at: usize, len: usize) -> &[u8]
@@ -65,4 +66,12 @@ pub fn same_label(s: &[u8], a: usize, m: usize, t: &[u8], b: usize, n: usize) ->
     let i = fill(s, a, m, &mut x);
     let j = fill(t, b, n, &mut y);
     same(&x[..i], &y[..j])
+}
+
+// Whether the name of record head h of a sheet of n records is that of head g of one of m.
+pub fn same_name(s: &[u8], n: usize, h: Head, t: &[u8], m: usize, g: Head) -> bool
+    requires { ⌜ ((n < 65536) × (m < 65536)) × (Bounded h × Bounded g) ⌝ }
+    ensures { λ r. ⌜ r ≡ sameBytes (labelAt (now (s .entry)) n (h .name) (h .nlen)) (labelAt (now (t .entry)) m (g .name) (g .nlen)) ⌝ }
+{
+    same_label(s, 16 * n + h.name, h.nlen, t, 16 * m + g.name, g.nlen)
 }
