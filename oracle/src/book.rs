@@ -6,6 +6,9 @@ use crate::sheet;
 use crate::standin::arrow::datatypes::DataType;
 use crate::stored::Vector;
 
+/// A number, what the vectors of the class are for, and the function that adds them.
+pub type Class = (u16, &'static str, fn(&mut Book, u16));
+
 pub struct Book {
     pub vectors: Vec<Vector>,
     pub rng: Rng,

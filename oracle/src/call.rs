@@ -72,7 +72,9 @@ impl Call {
             Err(number) => Answer::Refused(number),
             Ok(types) => match common_type(self.question, self.mask, &types) {
                 None => Answer::None,
-                Some(found) => Answer::Type(sheet::write(&[found]).expect("no longer than its sheet")),
+                Some(found) => {
+                    Answer::Type(sheet::write(&[found]).expect("no longer than its sheet"))
+                }
             },
         }
     }

@@ -1,10 +1,10 @@
 //! The commands of the program.
 
-use crate::call::{Answer, Question};
+use crate::call::{common_type, Answer, Call, FULL_MASK, QUESTIONS};
 use crate::generator;
 use crate::rng::Rng;
-use crate::standin::arrow::datatypes::DataType::Decimal256;
-use crate::{call, mutants, plain, selftest, stored, vectors};
+use crate::standin::arrow::datatypes::DataType::{Decimal128, Decimal256, Decimal32};
+use crate::{mutants, plain, selftest, stored, vectors};
 use std::collections::BTreeMap;
 use std::io::{self, BufRead, BufWriter, Read, Write};
 
@@ -20,7 +20,7 @@ const USAGE: &str = "usage: oracle COMMAND (run it in the folder of this program
   counts                         how many vectors of each class, question and answer are stored
   plain                          every ordered pair of plain types, in bytes
   selftest                       the oracle's own tests
-  stops                          whether this build stops on Decimal256(76,0) with (76,76)
+  stops                          whether this build stops where a sum leaves 8 signed bits
   mutants                        builds each edited copy of the source and replays the list";
 
 pub fn run() -> io::Result<bool> {
@@ -94,7 +94,8 @@ fn verify() -> io::Result<bool> {
     let stored = std::fs::read(STORED)?;
     let made = made(vectors::SEED);
     let same = stored == made;
-    println!("{} bytes stored, {} made, {}", stored.len(), made.len(), if same { "equal" } else { "NOT equal" });
+    let word = if same { "equal" } else { "NOT equal" };
+    println!("{} bytes stored, {} made, {word}", stored.len(), made.len());
     Ok(same)
 }
 
@@ -115,7 +116,7 @@ fn counts() -> io::Result<bool> {
         *by_answer.entry(key).or_default() += 1;
         *by_tag.entry(vector.tag).or_default() += 1;
     }
-    let greatest = |size: fn(&call::Call) -> u32| vectors.iter().map(|v| size(&v.call)).max();
+    let greatest = |size: fn(&Call) -> u32| vectors.iter().map(|v| size(&v.call)).max();
     println!("{} vectors", vectors.len());
     println!("greatest sheet {:?}", greatest(|call| call.sheet.len() as u32));
     println!("greatest output {:?}", greatest(|call| call.output));
@@ -129,18 +130,19 @@ fn counts() -> io::Result<bool> {
     Ok(true)
 }
 
+/// Sums that leave 8 signed bits: the debug build stops on them, the release build wraps.
 fn stops() -> io::Result<bool> {
-    let pair = [Decimal256(76, 0), Decimal256(76, 76)];
-    for question in call::QUESTIONS {
-        report_stop(question, &pair);
+    let pairs = [
+        [Decimal256(76, 0), Decimal256(76, 76)],
+        [Decimal32(1, -126), Decimal32(9, 9)],
+        [Decimal128(1, -126), Decimal256(76, 76)],
+    ];
+    for pair in &pairs {
+        for question in QUESTIONS {
+            let answer = std::panic::catch_unwind(|| common_type(question, FULL_MASK, pair));
+            let said = answer.map_or("stopped".to_string(), |answer| format!("{answer:?}"));
+            println!("{} of {pair:?}: {said}", question.word());
+        }
     }
     Ok(true)
-}
-
-fn report_stop(question: Question, pair: &[crate::standin::arrow::datatypes::DataType]) {
-    let full = call::FULL_MASK;
-    match std::panic::catch_unwind(|| call::common_type(question, full, pair)) {
-        Ok(answer) => println!("{}: {answer:?}", question.word()),
-        Err(_) => println!("{}: stopped", question.word()),
-    }
 }

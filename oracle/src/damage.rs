@@ -1,14 +1,15 @@
 //! Damaged calls: every condition of the refusal table, alone and in company.
 
-use crate::book::Book;
+use crate::book::{Book, Class};
 use crate::call::{Answer, Call, Question, FULL_MASK, QUESTIONS};
 use crate::make::*;
+use crate::readings;
 use crate::rng::Rng;
 use crate::sheet::{self, precision_cap, LIST, MAP, RECORD, STRUCT, TIMESTAMP};
 use crate::standin::arrow::datatypes::DataType;
 use DataType::*;
 
-pub const CLASSES: [(u16, &str, fn(&mut Book, u16)); 12] = [
+pub const CLASSES: [Class; 12] = [
     (301, "torn, alone", alone),
     (302, "kind, alone", alone),
     (303, "chain, alone", alone),
@@ -34,7 +35,7 @@ const fn damage(number: u8, apply: fn(&mut Call, &mut Rng) -> bool) -> Damage {
     Damage { number, apply }
 }
 
-const DAMAGES: [Damage; 62] = [
+const DAMAGES: [Damage; 63] = [
     damage(1, |call, rng| cut(call, rng.below(16))),
     damage(1, |call, _| cut(call, 15)),
     damage(1, |call, _| set_header(call, 0, 0)),
@@ -59,15 +60,26 @@ const DAMAGES: [Damage; 62] = [
     damage(3, |call, rng| link_any(call, rng, |kind, _| has_parts(kind), 8, |r, _, _| r)),
     damage(3, |call, rng| link_any(call, rng, |kind, _| has_parts(kind), 8, |_, old, _| old + 1)),
     damage(3, |call, rng| link_any(call, rng, |kind, _| has_parts(kind), 8, |r, _, _| r - 1)),
-    damage(3, |call, rng| link_any(call, rng, |_, parent| parent >= 37, 10, |_, old, n| if old == 0 { n - 1 } else { 0 })),
+    damage(3, |call, rng| {
+        link_any(
+            call,
+            rng,
+            |_, parent| parent >= 37,
+            10,
+            |_, old, n| if old == 0 { n - 1 } else { 0 },
+        )
+    }),
     damage(3, |call, rng| link_any(call, rng, |_, _| true, 10, |r, _, _| r)),
     damage(3, |call, rng| link_any(call, rng, |_, _| true, 10, |r, _, _| r.max(2) - 1)),
     damage(3, |call, rng| link_any(call, rng, |_, _| true, 10, |_, _, n| n)),
     damage(3, |call, rng| link_any(call, rng, |_, _| true, 10, |_, _, _| 0xffff)),
     damage(3, |call, rng| link_any(call, rng, |_, _| true, 10, |_, old, _| old + 1)),
-    damage(3, |call, rng| link_any(call, rng, |_, _| true, 10, |_, old, n| if old == 0 { n - 1 } else { 0 })),
+    damage(3, |call, rng| {
+        link_any(call, rng, |_, _| true, 10, |_, old, n| if old == 0 { n - 1 } else { 0 })
+    }),
     damage(3, |call, rng| link_any(call, rng, |_, _| true, 8, |_, _, n| n + 3)),
     damage(3, part_too_many),
+    damage(3, sibling_as_part),
     damage(3, unmet_record),
     damage(4, |call, rng| {
         let bit = 8 << rng.below(5);
@@ -203,7 +215,13 @@ fn set_kind(call: &mut Call, rng: &mut Rng, kind: usize) -> bool {
     }
 }
 
-fn at_any(call: &mut Call, rng: &mut Rng, fits: fn(u8, u8) -> bool, at: usize, value: usize) -> bool {
+fn at_any(
+    call: &mut Call,
+    rng: &mut Rng,
+    fits: fn(u8, u8) -> bool,
+    at: usize,
+    value: usize,
+) -> bool {
     find(call, rng, fits).is_some_and(|record| put(call, record, at, value))
 }
 
@@ -249,6 +267,14 @@ fn part_too_many(call: &mut Call, rng: &mut Rng) -> bool {
     }
     put_pair(call, part, 10, next);
     next != 0 && put_pair(call, record, 10, 0)
+}
+
+/// What follows a plain record becomes its part, in a walk that is otherwise right.
+fn sibling_as_part(call: &mut Call, rng: &mut Rng) -> bool {
+    let Some(record) = find(call, rng, |kind, _| kind < LIST) else { return false };
+    let next = pair(call, record, 10);
+    put_pair(call, record, 8, next);
+    put_pair(call, record, 10, 0)
 }
 
 fn unmet_record(call: &mut Call, _: &mut Rng) -> bool {
@@ -455,110 +481,8 @@ fn in_company(book: &mut Book, tag: u16) {
     }
 }
 
-// Limits and readings, by hand
-
-/// A sheet with this header over a body of the length that it names.
-fn raw(records: usize, labels: usize, body: Vec<u8>) -> Vec<u8> {
-    let mut sheet = vec![0; RECORD];
-    sheet[..2].copy_from_slice(&(records as u16).to_le_bytes());
-    sheet[2..4].copy_from_slice(&(labels as u16).to_le_bytes());
-    sheet.extend(body);
-    sheet
-}
-
-/// Int8 records in one chain, without the header.
-fn chain_of_int8(count: usize) -> Vec<u8> {
-    let mut body = Vec::new();
-    for record in 1..=count {
-        let mut bytes = [0; RECORD];
-        bytes[0] = 3;
-        if record < count {
-            bytes[10..12].copy_from_slice(&(record as u16 + 1).to_le_bytes());
-        }
-        body.extend(bytes);
-    }
-    body
-}
-
-/// Each hand-made sheet with the answer that a list call on it must give.
-pub fn hand_made() -> Vec<(Vec<u8>, Answer)> {
-    let refused = |sheet: Vec<u8>, number: u8| (sheet, Answer::Refused(number));
-    let written = |types: &[DataType]| sheet::write(types).expect("types that fit in a sheet");
-    let edited = |types: &[DataType], edits: &[(usize, usize, u8)]| {
-        let mut sheet = written(types);
-        for &(record, at, value) in edits {
-            sheet[RECORD * record + at] = value;
-        }
-        sheet
-    };
-    let found = |types: &[DataType], answer: DataType| (written(types), Answer::Type(written(&[answer])));
-    let zoned = structure(&[("a", timestamp(0, Some("UTC")), false)]);
-    let odd_dictionary = dictionary(structure(&[]), dictionary(Utf8, Null));
-    vec![
-        refused(vec![], 1),
-        refused(raw(0, 0, vec![]), 1),
-        refused(raw(1025, 0, chain_of_int8(1024)), 1),
-        (raw(1024, 0, chain_of_int8(1023)), Answer::Type(written(&[Int8]))),
-        refused(raw(1, 16385, vec![0; 16385]), 1),
-        refused(raw(1, 16384, vec![b'x'; 16384]), 5),
-        refused(raw(1, 1, vec![0]), 5),
-        (raw(1, 0, vec![]), Answer::None),
-        // A bad kind in a record that the walk never meets.
-        refused(edited(&[Int8, Int16], &[(1, 10, 0), (2, 0, 39)]), 2),
-        refused(edited(&[Int8, Int16], &[(1, 10, 0)]), 3),
-        refused(edited(&[Int8], &[(1, 8, 1)]), 3),
-        refused(edited(&[list("", Int8, false)], &[(1, 8, 0), (1, 10, 2)]), 3),
-        // Zone bytes without the bit, the bit on another kind, byte 7.
-        refused(edited(&[timestamp(0, None)], &[(1, 6, 1)]), 4),
-        refused(edited(&[timestamp(0, None)], &[(1, 4, 1)]), 4),
-        refused(edited(&[Int8], &[(1, 1, 4)]), 4),
-        refused(edited(&[timestamp(0, Some("Z"))], &[(1, 7, 1)]), 4),
-        refused(edited(&[Int8], &[(1, 1, 1)]), 4),
-        refused(edited(&[dictionary(Int8, Utf8)], &[(2, 1, 1)]), 4),
-        refused(edited(&[dictionary(Int8, Utf8)], &[(3, 1, 1)]), 4),
-        refused(edited(&[Int8], &[(1, 15, 1)]), 4),
-        // A present empty zone, or an empty name, with an offset.
-        refused(edited(&[timestamp(0, Some(""))], &[(1, 4, 1)]), 5),
-        refused(edited(&[list("", Int8, true)], &[(2, 12, 1)]), 5),
-        refused(edited(&[Int8], &[(1, 12, 1)]), 5),
-        refused(edited(&[Int8], &[(1, 14, 1)]), 5),
-        refused(edited(&[timestamp(0, Some("UTC"))], &[(1, 6, 4)]), 5),
-        refused(edited(&[timestamp(0, Some("UTC"))], &[(1, 6, 2)]), 5),
-        refused(edited(&[zoned.clone()], &[(2, 12, 3), (2, 4, 0)]), 5),
-        refused(written(&[structure(&[("", Int8, false), ("", Int8, true)])]), 5),
-        refused(written(&[structure(&[("a", Int8, false), ("b", Int8, true), ("a", Null, true)])]), 5),
-        // Accepted: any unit for Time32 and Time64, any part for a Map, any index for a
-        // Dictionary, equal names in run ends, size 0, a Struct without parts.
-        found(&[Time32(UNITS[3])], Time32(UNITS[3])),
-        found(&[Time64(UNITS[0])], Time64(UNITS[0])),
-        found(&[map("", Int8, false, true)], map("", Int8, false, true)),
-        found(&[odd_dictionary.clone()], odd_dictionary),
-        found(&[zoned.clone()], zoned),
-        found(
-            &[RunEndEncoded(field("a", Utf8, true), field("a", Int8, false))],
-            RunEndEncoded(field("a", Utf8, true), field("a", Int8, false)),
-        ),
-        found(&[FixedSizeBinary(0)], FixedSizeBinary(0)),
-        found(&[fixed_list("", Null, false, 0)], fixed_list("", Null, false, 0)),
-        found(&[FixedSizeBinary(i32::MAX)], FixedSizeBinary(i32::MAX)),
-        found(&[structure(&[])], structure(&[])),
-        found(&[Decimal256(76, -51)], Decimal256(76, -51)),
-        refused(written(&[Decimal256(76, -52)]), 4),
-        found(&[Decimal32(9, -118)], Decimal32(9, -118)),
-        refused(written(&[Decimal32(9, -119)]), 4),
-        refused(written(&[Decimal32(10, 0)]), 4),
-        refused(written(&[Decimal64(19, 0)]), 4),
-        refused(written(&[Decimal128(39, 0)]), 4),
-        refused(written(&[Decimal256(77, 0)]), 4),
-        refused(written(&[Decimal128(0, 0)]), 4),
-        refused(written(&[Decimal128(3, 4)]), 4),
-        refused(written(&[FixedSizeBinary(-1)]), 4),
-        refused(written(&[fixed_list("", Int8, true, i32::MIN)]), 4),
-    ]
-}
-
 fn by_hand(book: &mut Book, tag: u16) {
-    for (sheet, _) in hand_made() {
+    for (sheet, _) in readings::hand_made() {
         book.add(tag, Call::new(Question::List, FULL_MASK, sheet));
     }
     for bit in [0, 39, 40, 63] {

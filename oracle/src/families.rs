@@ -124,9 +124,9 @@ pub fn due(family: Family, types: &[DataType]) -> DataType {
 /// A list of the family with some Nulls and at least one type that is not Null.
 pub fn any_list(rng: &mut Rng, family: Family, count: usize) -> Vec<DataType> {
     let mut types: Vec<DataType> = (0..count).map(|_| any_member(rng, family)).collect();
-    for at in 1..count {
+    for listed in types.iter_mut().skip(1) {
         if rng.once_in(5) {
-            types[at] = Null;
+            *listed = Null;
         }
     }
     rng.shuffle(&mut types);

@@ -4,7 +4,8 @@ use crate::call::{Call, Question, FULL_MASK, QUESTIONS};
 use crate::damage;
 use crate::families;
 use crate::make::{
-    any_mask, any_name, any_plain, any_type, field, fixed_list, large_list, list, related, structure,
+    any_mask, any_name, any_plain, any_type, field, fixed_list, large_list, list, related,
+    structure,
 };
 use crate::rng::Rng;
 use crate::sheet;
@@ -70,7 +71,8 @@ fn wide_pair(rng: &mut Rng) -> [DataType; 2] {
         other.push((name, partner, rng.once_in(2)));
     }
     rng.shuffle(&mut other);
-    let one = types.into_iter().enumerate().map(|(at, t)| field(&format!("f{at}"), t, rng.once_in(2)));
+    let one =
+        types.into_iter().enumerate().map(|(at, t)| field(&format!("f{at}"), t, rng.once_in(2)));
     let one = DataType::Struct(one.collect::<Vec<_>>().into());
     let other = other.iter().map(|(name, t, nullable)| field(name, t.clone(), *nullable));
     [one, DataType::Struct(other.collect::<Vec<_>>().into())]
@@ -143,7 +145,7 @@ pub fn hex(bytes: &[u8]) -> String {
 }
 
 fn of_hex(digits: &str) -> Option<Vec<u8>> {
-    if digits.len() % 2 != 0 || !digits.is_ascii() {
+    if !digits.len().is_multiple_of(2) || !digits.is_ascii() {
         return None;
     }
     let byte = |at: usize| u8::from_str_radix(&digits[at..at + 2], 16).ok();

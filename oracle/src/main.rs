@@ -16,6 +16,7 @@ mod generator;
 mod make;
 mod mutants;
 mod plain;
+mod readings;
 mod rng;
 mod rules;
 mod selftest;

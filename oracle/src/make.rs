@@ -107,15 +107,15 @@ pub fn any_decimal(rng: &mut Rng, kind: u8) -> DataType {
     let cap = i32::from(precision_cap(kind).expect("a decimal kind"));
     let precision = match rng.below(4) {
         0 => cap,
-        1 => rng.from_to(1.max(cap - 3), cap),
-        _ => rng.from_to(1, cap),
+        1 => rng.between(1.max(cap - 3), cap),
+        _ => rng.between(1, cap),
     };
     let scale = match rng.below(6) {
         0 => 0,
         1 => precision,
-        2 => rng.from_to(-12, 0).max(precision - 127),
-        3 => rng.from_to(precision - 127, 0),
-        _ => rng.from_to(0, precision),
+        2 => rng.between(-12, 0).max(precision - 127),
+        3 => rng.between(precision - 127, 0),
+        _ => rng.between(0, precision),
     };
     decimal(kind, precision as u8, scale as i8)
 }
@@ -320,7 +320,9 @@ fn related_plain(rng: &mut Rng, base: &DataType) -> DataType {
     let same_category = !rng.once_in(8);
     match base {
         _ if !same_category => any_plain(rng),
-        Decimal32(..) | Decimal64(..) | Decimal128(..) | Decimal256(..) => related_decimal(rng, base),
+        Decimal32(..) | Decimal64(..) | Decimal128(..) | Decimal256(..) => {
+            related_decimal(rng, base)
+        }
         _ if base.is_numeric() => match rng.below(4) {
             0 => {
                 let kind = any_decimal_kind(rng);

@@ -130,6 +130,10 @@ pub fn run(only: &str) -> io::Result<bool> {
         all_noticed = all_noticed && noticed;
         println!("{said} | {}", mutant.name);
     }
-    println!("{} mutants, {}", mutants.len(), if all_noticed { "all noticed" } else { "NOT all noticed" });
+    println!(
+        "{} mutants, {}",
+        mutants.len(),
+        if all_noticed { "all noticed" } else { "NOT all noticed" }
+    );
     Ok(all_noticed)
 }

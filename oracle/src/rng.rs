@@ -21,7 +21,7 @@ impl Rng {
     }
 
     /// A number from `low` to `high`, both included.
-    pub fn from_to(&mut self, low: i32, high: i32) -> i32 {
+    pub fn between(&mut self, low: i32, high: i32) -> i32 {
         low + self.below((high - low + 1) as usize) as i32
     }
 

@@ -1,13 +1,13 @@
 //! Vectors for the rules of the source, class by class.
 
-use crate::book::Book;
+use crate::book::{Book, Class};
 use crate::call::{Question, FULL_MASK};
 use crate::make::*;
 use crate::sheet::{kind_of, precision_cap};
 use crate::standin::arrow::datatypes::DataType;
 use DataType::*;
 
-pub const CLASSES: [(u16, &str, fn(&mut Book, u16)); 29] = [
+pub const CLASSES: [Class; 29] = [
     (101, "the twelve marked cases and the worked example", marked),
     (102, "the empty list, one type, the same type again", same),
     (103, "every ordered pair of plain kinds, one type of each", plain_pairs),
@@ -249,8 +249,20 @@ fn folds(book: &mut Book, tag: u16) {
         [Utf8, Int8, LargeUtf8, UInt64, Int64],
         [Decimal32(9, 2), Int64, Decimal64(18, 2), Float32, Utf8],
         [Utf8View, Null, dictionary(Int8, Utf8), Utf8, dictionary(UInt16, LargeUtf8)],
-        [timestamp(0, Some("UTC")), Date32, timestamp(3, Some("+01:00")), timestamp(1, None), Date64],
-        [Int32, dictionary(Int8, Int8), run_ends(Int16, Float32), UInt32, dictionary(Int64, UInt64)],
+        [
+            timestamp(0, Some("UTC")),
+            Date32,
+            timestamp(3, Some("+01:00")),
+            timestamp(1, None),
+            Date64,
+        ],
+        [
+            Int32,
+            dictionary(Int8, Int8),
+            run_ends(Int16, Float32),
+            UInt32,
+            dictionary(Int64, UInt64),
+        ],
         [UInt64, Float16, Decimal128(38, 30), Int8, Decimal128(20, 0)],
     ];
     for pool in &pools {
@@ -283,7 +295,8 @@ fn value_types() -> Vec<DataType> {
 fn dictionaries(book: &mut Book, tag: u16) {
     for (at, left) in value_types().iter().enumerate() {
         for right in value_types() {
-            let (small, other) = (dictionary(Int8, left.clone()), dictionary(UInt16, right.clone()));
+            let (small, other) =
+                (dictionary(Int8, left.clone()), dictionary(UInt16, right.clone()));
             book.in_turn(tag, FULL_MASK, &[small.clone(), other.clone()]);
             book.in_turn(tag, FULL_MASK, &[small.clone(), right.clone()]);
             book.in_turn(tag, FULL_MASK, &[right.clone(), small.clone()]);
@@ -462,10 +475,7 @@ fn alike(book: &mut Book, tag: u16) {
             dictionary(Int8, structure(&[("a", Int8, false)])),
             dictionary(Int8, structure(&[("b", Int8, false)])),
         ),
-        (
-            dictionary(list("a", Int8, true), Int8),
-            dictionary(list("b", Int8, true), Int8),
-        ),
+        (dictionary(list("a", Int8, true), Int8), dictionary(list("b", Int8, true), Int8)),
         (
             RunEndEncoded(field("r", Int16, false), field("v", Int8, true)),
             RunEndEncoded(field("q", Int16, false), field("w", Int8, true)),
@@ -559,7 +569,8 @@ fn limits(book: &mut Book, tag: u16) {
     book.ask_all(tag, &[named(Int8), named(timestamp(0, Some(&long)))]);
     book.ask_all(tag, &[named(timestamp(2, Some("Z"))), named(timestamp(0, Some(&long)))]);
     let rest = "z".repeat(16384 - 63 * 255 - 255);
-    let full = [nest(63, &long, timestamp(0, Some(&long))), nest(63, "", timestamp(1, Some(&rest)))];
+    let full =
+        [nest(63, &long, timestamp(0, Some(&long))), nest(63, "", timestamp(1, Some(&rest)))];
     book.ask(tag, Question::Compare, 0, &full);
 }
 

@@ -1,20 +1,24 @@
 //! Vectors for the traps of DESIGN.md, under its numbers: tag 200 + n is trap n.
 
-use crate::book::Book;
+use crate::book::{Book, Class};
 use crate::call::{Question, FULL_MASK};
 use crate::make::*;
 use crate::sheet::kind_of;
 use crate::standin::arrow::datatypes::DataType;
 use DataType::*;
 
-pub const CLASSES: [(u16, &str, fn(&mut Book, u16)); 13] = [
+pub const CLASSES: [Class; 13] = [
     (201, "union and compare lose the wrapper, the list keeps it", lost_wrapper),
     (202, "a wrapper is kept for an equal value, not for an alike one", kept_wrapper),
     (203, "in a list the wrapped value goes left", wrapped_left),
     (204, "a Dictionary whose joined value is Utf8View, in a list", view_alone),
     (205, "run ends with run ends in a list: types joined, fields the new type's", run_fields),
     (206, "Structs in a list: types by name, nullability by place", struct_in_list),
-    (207, "Map entries by the Struct rule of union and compare, without the alike test", map_entries),
+    (
+        207,
+        "Map entries by the Struct rule of union and compare, without the alike test",
+        map_entries,
+    ),
     (208, "categories are tested at the top only", categories_at_top),
     (209, "strings with times; a Timestamp with a date", strings_with_times),
     (210, "Null with a Dictionary or run ends asks the value first", null_with_wrapper),
@@ -66,7 +70,8 @@ fn wrapped_left(book: &mut Book, tag: u16) {
 }
 
 fn view_alone(book: &mut Book, tag: u16) {
-    for (one, other) in [(Utf8, Utf8View), (Utf8View, Utf8), (Utf8View, Utf8View), (Utf8View, Int8)] {
+    for (one, other) in [(Utf8, Utf8View), (Utf8View, Utf8), (Utf8View, Utf8View), (Utf8View, Int8)]
+    {
         book.both_ways(tag, &dictionary(Int8, one.clone()), &other);
         book.both_ways(tag, &dictionary(Int8, one.clone()), &dictionary(Int16, other.clone()));
         book.both_ways(tag, &run_ends(Int16, one), &other);

@@ -1,10 +1,8 @@
 //! The stored list: every class in order, from one seed.
 
-use crate::book::Book;
+use crate::book::{Book, Class};
 use crate::stored::Vector;
 use crate::{damage, rules, traps};
-
-type Class = (u16, &'static str, fn(&mut Book, u16));
 
 pub const SEED: u64 = 20261115;
 
@@ -26,7 +24,9 @@ fn most(tag: u16) -> usize {
         128 => 363,
         122 => 500,
         123 => 250,
-        _ => 135,
+        309 => 224,
+        311 => usize::MAX,
+        _ => 128,
     }
 }
 

@@ -12,3 +12,4 @@ pub mod Walking
 pub mod Repeating
 pub mod Scans
 pub mod Verdicts
+pub mod Lowest
