@@ -1,0 +1,11 @@
+pub mod Data
+pub mod Kinds
+pub mod Strings
+pub mod Times
+pub mod Numbers
+pub mod Same
+pub mod Rules
+pub mod Wrappers
+pub mod Nested
+pub mod Answers
+pub mod Families
