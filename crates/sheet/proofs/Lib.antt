@@ -13,3 +13,4 @@ pub mod Repeating
 pub mod Scans
 pub mod Verdicts
 pub mod Lowest
+pub mod Capped

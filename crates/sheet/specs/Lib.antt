@@ -12,3 +12,4 @@ pub mod Bounds
 pub mod Walk
 pub mod Limits
 pub mod Found
+pub mod Caps

@@ -9,6 +9,7 @@ ghost use Rattle.sheet.specs.Head.{zonedIn, labelled};
 ghost use Rattle.sheet.specs.Refusals.{biased, decimalRight, figureRight, sizeRight, figuresRight, recordRight, placed, labelRight};
 ghost use Rattle.sheet.specs.Bounds.{Bounded};
 use crate::Head;
+use crate::caps::precision_cap;
 
 fn all(a: bool, b: bool, c: bool, d: bool, e: bool) -> bool
     ensures { λ r. ⌜ r ≡ allOf (a ∷ b ∷ c ∷ d ∷ e ∷ []) ⌝ }
@@ -31,7 +32,8 @@ fn implied(a: bool, b: bool) -> bool
     if a { b } else { true }
 }
 
-fn within(lo: u8, hi: u8, k: u8) -> bool
+// Whether k is one of lo to hi.
+pub fn within(lo: u8, hi: u8, k: u8) -> bool
     ensures { λ r. ⌜ r ≡ between lo hi k ⌝ }
 {
     if lo <= k { k <= hi } else { false }
@@ -43,7 +45,7 @@ pub(crate) fn is_kind(k: u8) -> bool
     within(1, 38, k)
 }
 
-fn is_decimal(k: u8) -> bool
+pub fn is_decimal(k: u8) -> bool
     ensures { λ r. ⌜ r ≡ isDecimal k ⌝ }
 {
     within(14, 17, k)
@@ -71,18 +73,6 @@ pub(crate) fn parts_right(k: u8, n: usize) -> bool
     if k == 35 { true } else { n == 0 }
 }
 
-fn precision_cap(k: u8) -> usize
-    ensures { λ r. ⌜ (r ≡ cap k) × (r ≤ 76) ⌝ }
-{
-    if k == 14 {
-        return 9;
-    }
-    if k == 15 {
-        return 18;
-    }
-    if k == 16 { 38 } else { 76 }
-}
-
 fn last_unit(k: u8) -> u8
     ensures { λ r. ⌜ r ≡ lastUnit k ⌝ }
 {
@@ -96,8 +86,8 @@ fn last_unit(k: u8) -> u8
 }
 
 // A scale byte, plus 128.
-fn biased_scale(b: u8) -> usize
-    ensures { λ r. ⌜ r ≡ biased b ⌝ }
+pub fn biased_scale(b: u8) -> usize
+    ensures { λ r. ⌜ (r ≡ biased b) × (r < 256) ⌝ }
 {
     (b as usize + 128) % 256
 }

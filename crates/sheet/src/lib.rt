@@ -1,5 +1,4 @@
 // The sheet of document 01: reading records and labels, and the check that gives refusals 1 to 5.
-mod figure;
 mod header;
 
 ghost use mathlib.Core.Path.{_≡_};
@@ -14,6 +13,8 @@ use header::odd_kind;
 use twins::twins;
 use walk::walk;
 
+pub mod caps;
+pub mod figure;
 pub mod label;
 pub mod record;
 mod twins;

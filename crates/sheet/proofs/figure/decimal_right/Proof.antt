@@ -39,7 +39,7 @@ all-requires c κs = search needs
 returns : tie.Need-returns
 unfolding decimalRight allOf
 returns c =
-    rw (c .before .biased-scale .ensures) at (c .all .ensures)
+    rw (c .before .biased-scale .ensures .0) at (c .all .ensures)
 
 pub decimal-right-spec : {M : Type 1} → statement M
 decimal-right-spec =

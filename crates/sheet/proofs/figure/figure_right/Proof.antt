@@ -20,7 +20,7 @@ use Rattle.sheet.proofs.figure.all.Reads as all-reads
 use Rattle.sheet.proofs.figure.decimal_right.Reads as decimal-right-reads
 use Rattle.sheet.proofs.figure.is_decimal.Reads as is-decimal-reads
 use Rattle.sheet.proofs.figure.last_unit.Reads as last-unit-reads
-use Rattle.sheet.proofs.figure.precision_cap.Reads as precision-cap-reads
+use Rattle.sheet.proofs.caps.precision_cap.Reads as precision-cap-reads
 
 -- src/figure.rt:117:8
 is-decimal-requires : tie.Need-is-decimal-requires
