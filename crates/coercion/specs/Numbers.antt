@@ -74,21 +74,26 @@ decimalCoercion l r =
     (cond (eqb (l .kind) (r .kind)) (some (getWiderDecimalType l r)) (getWiderDecimalTypeCrossVariant l r))
     (cond (isDecimal (l .kind)) (getCommonDecimalType l r) (cond (isDecimal (r .kind)) (getCommonDecimalType r l) none))
 
--- `numerical_coercion`, on kinds
-unfoldable pub numericalCoercion : ℕ → ℕ → Option Figures
-numericalCoercion k j =
+-- `numerical_coercion`, on kinds: floats first
+abbrev pub floatCoercion : ℕ → ℕ → Option Figures
+floatCoercion k j =
     cond (oneIs Kind.float64 k j) (some (ofKind Kind.float64))
-    (cond (oneIs Kind.float32 k j) (some (ofKind Kind.float32))
-    (cond (oneIs Kind.float16 k j) (some (ofKind Kind.float16))
-    (cond (withKind Kind.uint64 isSigned k j) (some (decimal Kind.decimal128 20 128))
+    (cond (oneIs Kind.float32 k j) (some (ofKind Kind.float32)) (cond (oneIs Kind.float16 k j) (some (ofKind Kind.float16)) none))
+
+-- and then integers
+abbrev pub integerCoercion : ℕ → ℕ → Option Figures
+integerCoercion k j =
+    cond (withKind Kind.uint64 isSigned k j) (some (decimal Kind.decimal128 20 128))
     (cond (oneIs Kind.uint64 k j) (some (ofKind Kind.uint64))
     (cond (oneIs Kind.int64 k j || withKind Kind.uint32 (between Kind.int8 Kind.int32) k j) (some (ofKind Kind.int64))
     (cond (oneIs Kind.uint32 k j) (some (ofKind Kind.uint32))
     (cond (oneIs Kind.int32 k j || withKind Kind.uint16 (between Kind.int8 Kind.int16) k j) (some (ofKind Kind.int32))
     (cond (oneIs Kind.uint16 k j) (some (ofKind Kind.uint16))
     (cond (oneIs Kind.int16 k j || withKind Kind.uint8 (λ i. eqb i Kind.int8) k j) (some (ofKind Kind.int16))
-    (cond (oneIs Kind.int8 k j) (some (ofKind Kind.int8))
-    (cond (oneIs Kind.uint8 k j) (some (ofKind Kind.uint8)) none)))))))))))
+    (cond (oneIs Kind.int8 k j) (some (ofKind Kind.int8)) (cond (oneIs Kind.uint8 k j) (some (ofKind Kind.uint8)) none))))))))
+
+unfoldable pub numericalCoercion : ℕ → ℕ → Option Figures
+numericalCoercion k j = orElse (floatCoercion k j) (integerCoercion k j)
 
 abbrev pub sameFigures : Figures → Figures → Bool
 sameFigures l r = eqb (l .kind) (r .kind) && (eqb (l .figure) (r .figure) && eqb (l .scale) (r .scale))

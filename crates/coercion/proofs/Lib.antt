@@ -1,0 +1,10 @@
+pub mod Maybe
+pub mod Fuel
+pub mod Folding
+pub mod Weights
+pub mod Lighter
+pub mod Shorter
+pub mod NumbersRight
+pub mod PlainRight
+pub mod NestedRight
+pub mod AnswersRight
