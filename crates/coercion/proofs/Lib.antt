@@ -8,3 +8,9 @@ pub mod NumbersRight
 pub mod PlainRight
 pub mod NestedRight
 pub mod AnswersRight
+pub mod Bridge
+pub mod Sameness
+pub mod Feeding
+pub mod Words
+pub mod Layouts
+pub mod DecimalRule

@@ -3,6 +3,7 @@ pub mod Kinds
 pub mod Strings
 pub mod Times
 pub mod Numbers
+pub mod Signed
 pub mod Same
 pub mod Rules
 pub mod Wrappers
