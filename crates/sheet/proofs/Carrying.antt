@@ -115,11 +115,11 @@ label-right o up name nullable shape parts first next fine h =
     (all-cons _ (named-own up name (fine .mayBeNamed))
     (all-cons _ (rw (flag-zone nullable (shape .sorted) (shape .zone)) (zone-own (o + length name) (shape .size) (shape .zone) h (fine .ownZone))) all-nil))
 
-zone-length : (o size : ℕ) (zone : Zone) → o < 65536 → Label (zoneBytes zone) → cond (isZoned zone) (quadOf o size zone / 65536 % 256) 0 ≡ length (zoneBytes zone)
+pub zone-length : (o size : ℕ) (zone : Zone) → o < 65536 → Label (zoneBytes zone) → cond (isZoned zone) (quadOf o size zone / 65536 % 256) 0 ≡ length (zoneBytes zone)
 zone-length o size absent h l = refl
 zone-length o size (present z) h l = quad-length o z h (l .short)
 
-own-length : (o : ℕ) (name : List ℕ) (nullable : Bool) (shape : Shape) (first next : ℕ) → Label (zoneBytes (shape .zone)) → o + length name < 65536
+pub own-length : (o : ℕ) (name : List ℕ) (nullable : Bool) (shape : Shape) (first next : ℕ) → Label (zoneBytes (shape .zone)) → o + length name < 65536
     → labelled (headOf o name nullable shape first next) ≡ length (ownLabels name shape)
 own-length o name nullable shape first next l h =
     ap (λ (k : ℕ). length name + k)

@@ -32,17 +32,17 @@ high-end F a s n floor link lo hi r o (field name nullable shape parts rest) l =
 -- a record that a link leads to: its parts and the rest are led to by its own links
 module _ (s : List ℕ) (n floor link r o : ℕ) (name : List ℕ) (nullable : Bool) (shape : Shape) (parts rest : Fields)
     (l : Leads s n floor link r o (field name nullable shape parts rest)) (h : Head) (e : h ≡ headAt s link) where
-  head-is : h ≡ headOf o name nullable shape (linkTo (r + 1) parts) (linkTo (r + 1 + count parts) rest)
+  pub head-is : h ≡ headOf o name nullable shape (linkTo (r + 1) parts) (linkTo (r + 1 + count parts) rest)
   head-is = e ∙ ap (headAt s) (l .is) ∙ l .holds .0 .head
 
-  name-is : labelAt s n (h .name) (h .nlen) ≡ name
+  pub name-is : labelAt s n (h .name) (h .nlen) ≡ name
   name-is =
       ap (λ (x : Head). labelAt s n (x .name) (x .nlen)) head-is ∙ label-back s n o name (span-left name (zoneBytes (shape .zone)) (l .holds .0 .label))
 
-  kind-is : h .kind ≡ shape .kind
+  pub kind-is : h .kind ≡ shape .kind
   kind-is = ap (λ (x : Head). x .kind) head-is
 
-  first-leads : Leads s n link (h .first) (r + 1) (o + length (ownLabels name shape)) parts
+  pub first-leads : Leads s n link (h .first) (r + 1) (o + length (ownLabels name shape)) parts
   unfolding count
   first-leads =
       record {
@@ -52,7 +52,7 @@ module _ (s : List ℕ) (n floor link r o : ℕ) (name : List ℕ) (nullable : B
         inside = omega (arith, l .inside);
       }
 
-  next-leads : Leads s n link (h .next) (r + 1 + count parts) (o + length (ownLabels name shape) + length (labels parts)) rest
+  pub next-leads : Leads s n link (h .next) (r + 1 + count parts) (o + length (ownLabels name shape) + length (labels parts)) rest
   unfolding count
   next-leads =
       record {

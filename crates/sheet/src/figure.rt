@@ -134,7 +134,8 @@ fn figures_right(k: u8, figure: u8, scale: u8, size: usize, sorted: bool, zoned:
     )
 }
 
-fn size_in(zoned: bool, quad: usize) -> usize
+// The size that bytes 4 to 7 hold, 0 where they hold the place of a zone.
+pub fn size_in(zoned: bool, quad: usize) -> usize
     ensures { λ r. ⌜ r ≡ mathlib.Core.Bool.cond zoned 0 quad ⌝ }
 {
     if zoned { 0 } else { quad }
@@ -190,7 +191,7 @@ pub(crate) fn label_right(h: Head, up: u8, o: usize) -> bool
 }
 
 // How many label bytes a record has.
-pub(crate) fn label_bytes(h: Head) -> usize
+pub fn label_bytes(h: Head) -> usize
     requires { ⌜ Bounded h ⌝ }
     ensures { λ r. ⌜ (r ≡ labelled h) × (r ≤ 510) ⌝ }
 {

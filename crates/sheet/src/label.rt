@@ -41,7 +41,7 @@ fn same(a: &[u8], b: &[u8]) -> bool
 }
 
 // Fills a buffer from the front with the m bytes of s from a on, as far as s has them, and says how many they were.
-fn fill(s: &[u8], a: usize, m: usize, buf: &mut [u8]) -> usize
+pub fn fill(s: &[u8], a: usize, m: usize, buf: &mut [u8]) -> usize
     requires { ⌜ m ≤ length (now buf) ⌝ }
     ensures { λ r. ⌜ Filled (take m (drop a (now (s .entry)))) (now (buf .entry)) (now (buf .exit)) r ⌝ }
 {

@@ -1,0 +1,6 @@
+pub mod Sources
+pub mod Sameness
+pub mod Puts
+pub mod Frames
+pub mod Copying
+pub mod Chained

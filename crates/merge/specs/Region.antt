@@ -1,0 +1,123 @@
+-- The destination in the work space: records from its front, labels after the room of all records.
+use mathlib.Core.Path.{_≡_}
+use Prim.Native.Nat.{ℕ, _+_, _*_, _-_, _<_, _≤_}
+use mathlib.Core.Bool.{Bool, true, false, cond, _&&_}
+use mathlib.Core.List.{List, [], _∷_}
+use mathlib.Core.Logic.{_⊎_}
+use lib.ListN.{length, getD, take, drop}
+use lib.Dec.{ltb, eqb}
+use Rattle.sheet.specs.Types.{Fields, end, field, count, labels}
+use Rattle.sheet.specs.Types.{Shape, ownLabels}
+use Rattle.sheet.specs.Encode.{linkTo}
+use Rattle.sheet.specs.Holds.{Stands, Holds}
+use Rattle.merge.specs.Source.{Source}
+use Rattle.sheet.specs.Head.{headAt, zonedIn, zoneLen}
+use Rattle.sheet.specs.declared.Head.{Head}
+use Rattle.merge.specs.Writes.{side}
+use Rattle.merge.specs.declared.Space.{Space}
+use Rattle.merge.specs.declared.Spot.{Spot}
+use Rattle.merge.specs.declared.Out.{Out}
+use Rattle.merge.specs.declared.Out.the-variants.{Done, No, Full}
+
+-- a work space of two halves, each with room for the records and the labels of the sheet
+pub record Room (w : List ℕ) (space : Space) : Type 0 where
+  pub half : space .half ≡ 16 * space .n + space .m
+  pub few : space .n ≤ 1024
+  pub short : space .m ≤ 16384
+  pub inside : 2 * space .half ≤ length w
+
+-- the second half, where answers are written
+abbrev pub region : Space → List ℕ → List ℕ
+region space w = drop (space .half) w
+
+-- nothing of w has changed but in the second half: records from a place on, and labels from a place on
+pub record Kept (space : Space) (w v : List ℕ) (at label : ℕ) : Type 0 where
+  pub long : length v ≡ length w
+  pub below : (j : ℕ) → j < space .half + 16 * at → getD v j 0 ≡ getD w j 0
+  pub between : (j : ℕ) → space .half + 16 * space .n ≤ j → j < space .half + (16 * space .n + label) → getD v j 0 ≡ getD w j 0
+  pub above : (j : ℕ) → space .half + (16 * space .n + space .m) ≤ j → getD v j 0 ≡ getD w j 0
+
+-- a chain that stands in one of the sources, within the room of a half
+pub record Held (space : Space) (s : List ℕ) (floor link r o up : ℕ) (t : Fields) : Type 0 where
+  pub source : Source s (space .n) floor link r o up t
+  pub low : o + length (labels t) ≤ space .m
+
+-- a place in the destination that is within its room
+pub record Inside (space : Space) (to : Spot) : Type 0 where
+  pub some : 0 < to .at
+  pub records : to .at ≤ space .n
+  pub letters : to .label ≤ space .m
+
+-- the next place is not before the last
+abbrev pub Grows : Space → Spot → Out → Type 0
+Grows space to (Done d) = Inside space d × ((to .at ≤ d .at) × (to .label ≤ d .label))
+Grows space to No = Unit
+Grows space to Full = Unit
+
+-- the next place is past a record
+abbrev pub Further : Spot → Out → Type 0
+Further to (Done d) = to .at < d .at
+Further to No = Unit
+Further to Full = Unit
+
+-- there is no room for z records and y label bytes
+abbrev pub Short : Space → Spot → ℕ → ℕ → Type 0
+Short space to z y = (space .n < to .at + z) ⊎ (space .m < to .label + y)
+
+-- a chain was written at a place, up to the next
+pub record Wrote (space : Space) (v : List ℕ) (to d : Spot) (t : Fields) : Type 0 where
+  pub records : d .at ≡ to .at + count t
+  pub letters : d .label ≡ to .label + length (labels t)
+  pub holds : Holds (region space v) (space .n) (to .at) (to .label) t
+
+-- a link from record `link` on, in a chain whose first record is now number at
+abbrev pub movedLink : ℕ → ℕ → ℕ → ℕ
+movedLink x link at = cond (ltb link x && ltb (at + (x - link)) 65536) (at + (x - link)) 0
+
+-- the offset of a label of len bytes whose place is o
+abbrev pub movedLabel : ℕ → ℕ → ℕ
+movedLabel o len = cond (eqb len 0) 0 o
+
+-- the head of record `link`, as record number at, its labels from a place on
+abbrev pub movedHead : Head → ℕ → ℕ → ℕ → Head
+movedHead h link at label =
+    record {
+      kind = h .kind;
+      flags = h .flags;
+      figure = h .figure;
+      scale = h .scale;
+      quad = cond (zonedIn h) (movedLabel (label + h .nlen) (zoneLen h) + 65536 * zoneLen h) (h .quad);
+      first = movedLink (h .first) link at;
+      next = movedLink (h .next) link at;
+      name = movedLabel label (h .nlen);
+      nlen = h .nlen;
+      last = h .last;
+    }
+
+-- what is said of a record that was copied: whatever field stands at its place, its record stands at the destination
+abbrev pub CopyMeans : Space → List ℕ → List ℕ → ℕ → Spot → Out → Type 0
+CopyMeans space s v link to (Done d) =
+    (floor r o up : ℕ) (name : List ℕ) (nullable : Bool) (shape : Shape) (parts rest : Fields) → Held space s floor link r o up (field name nullable shape parts rest)
+    → (d .at ≡ to .at + 1) × ((d .label ≡ to .label + length (ownLabels name shape))
+    × Stands (region space v) (space .n) (to .at) (to .label) name nullable shape (linkTo (to .at + 1) parts) (linkTo (to .at + 1 + count parts) rest))
+CopyMeans space s v link to No = ⊥
+CopyMeans space s v link to Full =
+    (floor r o up : ℕ) (name : List ℕ) (nullable : Bool) (shape : Shape) (parts rest : Fields) → Held space s floor link r o up (field name nullable shape parts rest)
+    → space .m < to .label + length (ownLabels name shape)
+
+pub record CopiedRecord (space : Space) (s w v : List ℕ) (link : ℕ) (to : Spot) (o : Out) : Type 0 where
+  pub kept : Kept space w v (to .at) (to .label)
+  pub grows : Grows space to o
+  pub further : Further to o
+  pub means : CopyMeans space s v link to o
+
+-- what is said of a chain that was copied
+abbrev pub ChainMeans : Space → List ℕ → List ℕ → ℕ → Spot → Out → Type 0
+ChainMeans space s v link to (Done d) = (floor r o up : ℕ) (t : Fields) → Held space s floor link r o up t → Wrote space v to d t
+ChainMeans space s v link to No = ⊥
+ChainMeans space s v link to Full = (floor r o up : ℕ) (t : Fields) → Held space s floor link r o up t → Short space to (count t) (length (labels t))
+
+pub record CopiedChain (space : Space) (s w v : List ℕ) (link : ℕ) (to : Spot) (o : Out) : Type 0 where
+  pub kept : Kept space w v (to .at) (to .label)
+  pub grows : Grows space to o
+  pub means : ChainMeans space s v link to o

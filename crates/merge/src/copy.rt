@@ -1,0 +1,161 @@
+// Copying a chain of a side to the destination.
+ghost use mathlib.Core.Path.{_≡_};
+ghost use mathlib.Core.Bool.{cond};
+ghost use Prim.Native.Nat.{_+_, _*_, _≤_, _<_};
+ghost use lib.ListN.{length};
+ghost use Rattle.sheet.specs.Head.{headAt, zonedIn, zoneLen, labelled};
+ghost use Rattle.sheet.specs.Bounds.{Bounded};
+ghost use Rattle.merge.specs.Writes.{side};
+ghost use Rattle.merge.specs.Region.{Room, Inside, movedLink, movedLabel, movedHead, CopiedRecord, CopiedChain};
+use crate::Out;
+use crate::Space;
+use crate::Spot;
+use crate::write::look;
+use crate::write::put_head;
+use crate::write::put_label;
+use sheet::Head;
+
+fn moved_link(x: usize, link: usize, at: usize) -> usize
+    requires { ⌜ (x < 65536) × (at < 65536) ⌝ }
+    ensures { λ r. ⌜ (r ≡ movedLink x link at) × (r < 65536) ⌝ }
+{
+    if link < x {
+        let y = at + (x - link);
+        if y < 65536 {
+            return y;
+        }
+    }
+    0
+}
+
+fn moved_label(o: usize, len: usize) -> usize
+    ensures { λ r. ⌜ (r ≡ movedLabel o len) × (r ≤ o) ⌝ }
+{
+    if len == 0 { 0 } else { o }
+}
+
+// The length of a record's zone, 0 where it has none.
+fn zone_bytes(h: Head) -> usize
+    ensures { λ r. ⌜ (r ≡ cond (zonedIn h) (zoneLen h) 0) × (r < 256) ⌝ }
+{
+    let quad = h.quad;
+    if h.flags / 4 % 2 == 1 {
+        quad / 65536 % 256
+    } else {
+        0
+    }
+}
+
+// Bytes 4 to 7 of a record whose labels begin at a place.
+fn moved_quad(h: Head, label: usize) -> usize
+    requires { ⌜ (label < 32768) × Bounded h ⌝ }
+    ensures { λ r. ⌜ (r ≡ cond (zonedIn h) (movedLabel (label + h .nlen) (zoneLen h) + 65536 * zoneLen h) (h .quad)) × (r < 4294967296) ⌝ }
+{
+    let quad = h.quad;
+    let nlen = h.nlen;
+    if h.flags / 4 % 2 == 1 {
+        let len = quad / 65536 % 256;
+        moved_label(label + nlen, len) + 65536 * len
+    } else {
+        quad
+    }
+}
+
+fn moved_head(h: Head, link: usize, at: usize, label: usize) -> Head
+    requires { ⌜ ((at < 65536) × (label < 32768)) × Bounded h ⌝ }
+    ensures { λ r. ⌜ (r ≡ movedHead h link at label) × Bounded r ⌝ }
+{
+    let nlen = h.nlen;
+    let quad = moved_quad(h, label);
+    let first = moved_link(h.first, link, at);
+    let next = moved_link(h.next, link, at);
+    let name = moved_label(label, nlen);
+    Head {
+        kind: h.kind,
+        flags: h.flags,
+        figure: h.figure,
+        scale: h.scale,
+        quad,
+        first,
+        next,
+        name,
+        nlen,
+        last: h.last,
+    }
+}
+
+// Copies record `link` of a side, with its labels, and without its parts.
+fn copy_record(
+    sheet: &[u8],
+    work: &mut [u8],
+    space: Space,
+    swap: bool,
+    h: Head,
+    link: usize,
+    to: Spot,
+) -> Out
+    requires { ⌜ (Room (now work) space × Inside space to) × ((to .at < space .n) × Bounded h) ⌝ }
+    requires { ⌜ h ≡ headAt (side swap (now sheet) (now work)) link ⌝ }
+    ensures { λ o. ⌜ CopiedRecord space (side swap (now (sheet .entry)) (now (work .entry))) (now (work .entry)) (now (work .exit)) link to o ⌝ }
+{
+    let n = space.n;
+    let m = space.m;
+    let half = space.half;
+    let at = to.at;
+    let label = to.label;
+    let nlen = h.nlen;
+    let quad = h.quad;
+    let zlen = zone_bytes(h);
+    if m < label + (nlen + zlen) {
+        return Out::Full;
+    }
+    let base = half + 16 * n;
+    put_label(sheet, work, swap, 16 * n + h.name, nlen, base + label);
+    put_label(
+        sheet,
+        work,
+        swap,
+        16 * n + quad % 65536,
+        zlen,
+        base + (label + nlen),
+    );
+    put_head(work, half + 16 * at, moved_head(h, link, at, label));
+    Out::Done(Spot {
+        at: at + 1,
+        label: label + (nlen + zlen),
+    })
+}
+
+// Copies the chain that a link of a side leads to.
+pub fn copy_fields(
+    sheet: &[u8],
+    work: &mut [u8],
+    space: Space,
+    swap: bool,
+    link: usize,
+    to: Spot,
+) -> Out
+    requires { ⌜ Room (now work) space × Inside space to ⌝ }
+    ensures { λ o. ⌜ CopiedChain space (side swap (now (sheet .entry)) (now (work .entry))) (now (work .entry)) (now (work .exit)) link to o ⌝ }
+{
+    if link == 0 {
+        return Out::Done(to);
+    }
+    let n = space.n;
+    let at = to.at;
+    if n <= at {
+        return Out::Full;
+    }
+    let h = look(sheet, &*work, swap, link);
+    let first = h.first;
+    let next = h.next;
+    match copy_record(sheet, work, space, swap, h, link, to) {
+        Out::Done(d) => match copy_fields(sheet, work, space, swap, first, d) {
+            Out::Done(e) => copy_fields(sheet, work, space, swap, next, e),
+            Out::No => Out::No,
+            Out::Full => Out::Full,
+        },
+        Out::No => Out::No,
+        Out::Full => Out::Full,
+    }
+}
