@@ -12,13 +12,13 @@ use lib.Seq.{take-at}
 use Rattle.sheet.specs.Tests.{allOf, oneOf, between}
 use Rattle.sheet.specs.Kind as Kind
 use Rattle.sheet.specs.Kind.{isKind, isDecimal, cap, sized, lastUnit, partsRight, namesParts}
-use Rattle.sheet.specs.Types.{Fields, end, field, arity, count, labels}
+use Rattle.sheet.specs.Types.{Zone, present, Fields, end, field, arity, count, labels}
 use Rattle.sheet.specs.Head.{headAt}
 use Rattle.sheet.specs.Names.{sameBytes, hasName, repeats, namesDiffer}
 use Rattle.sheet.specs.Encode.{records, encode}
 use Rattle.sheet.specs.Read.{walkFrom, read}
 use Rattle.sheet.specs.Refusals as Sheet
-use Rattle.coercion.specs.Data.{DataType, single, typesOf, firstOf, Question, list, union, compare, plain, ofKind}
+use Rattle.coercion.specs.Data.{DataType, single, typesOf, firstOf, Question, list, union, compare, plain, zoned, ofKind, ofUnit}
 use Rattle.coercion.specs.Numbers.{decimal}
 use Rattle.coercion.specs.Numbers as Numbers
 use Rattle.coercion.specs.Times as Times
@@ -44,6 +44,14 @@ two k p s j q t = top 3 ++ (row k p s 2 ++ row j q t 0)
 abbrev pub one : ℕ → ℕ → ℕ → Option (List ℕ)
 one k p s = some (top 2 ++ row k p s 0)
 
+-- a header with labels, and a record with flags, the place of a zone, links and the place of a name
+abbrev pub topWith : ℕ → ℕ → List ℕ
+topWith n m = n ∷ 0 ∷ m ∷ 0 ∷ 0 ∷ 0 ∷ 0 ∷ 0 ∷ 0 ∷ 0 ∷ 0 ∷ 0 ∷ 0 ∷ 0 ∷ 0 ∷ 0 ∷ []
+
+abbrev pub rowWith : ℕ → ℕ → ℕ → ℕ → ℕ → ℕ → ℕ → ℕ → List ℕ
+rowWith kind flags zone zlen first next name nlen =
+    kind ∷ flags ∷ 0 ∷ 0 ∷ zone ∷ 0 ∷ zlen ∷ 0 ∷ first ∷ 0 ∷ next ∷ 0 ∷ name ∷ 0 ∷ nlen ∷ 0 ∷ []
+
 -- a question, the bytes of a sheet, and the bytes of the answer's sheet, or none
 pub record Entry : Type 0 where
   pub question : Question
@@ -57,7 +65,26 @@ entry question sheet answer = record { question = question; sheet = sheet; answe
 abbrev pub allThree : List ℕ → Option (List ℕ) → List Entry → List Entry
 allThree sheet answer rest = entry list sheet answer ∷ entry union sheet answer ∷ entry compare sheet answer ∷ rest
 
--- the marked cases (1) to (12), and Int64, Decimal128(7,2); a scale of −3 is stored as 253
+-- "Wrong turns: the left zone in a list (the later one wins)": Timestamp(second, "A"), Timestamp(second, "B")
+abbrev pub zones : List ℕ
+zones = topWith 3 2 ++ (rowWith 22 4 0 1 0 2 0 0 ++ (rowWith 22 4 1 1 0 0 0 0 ++ (65 ∷ 66 ∷ [])))
+
+abbrev pub laterZone : List ℕ
+laterZone = topWith 2 1 ++ (rowWith 22 4 0 1 0 0 0 0 ++ (66 ∷ []))
+
+-- "a nullable flag that follows the name in a list": Struct(a: Int8 nullable, b: Int8), Struct(b: Int8, a: Int8)
+abbrev pub structs : List ℕ
+structs =
+    topWith 7 4
+    ++ (rowWith 35 0 0 0 2 4 0 0
+    ++ (rowWith 3 1 0 0 0 3 0 1
+    ++ (rowWith 3 0 0 0 0 0 1 1
+    ++ (rowWith 35 0 0 0 5 0 0 0 ++ (rowWith 3 0 0 0 0 6 2 1 ++ (rowWith 3 0 0 0 0 0 3 1 ++ (97 ∷ 98 ∷ 98 ∷ 97 ∷ [])))))))
+
+abbrev pub byPlace : List ℕ
+byPlace = topWith 4 2 ++ (rowWith 35 0 0 0 2 0 0 0 ++ (rowWith 3 1 0 0 0 3 0 1 ++ (rowWith 3 0 0 0 0 0 1 1 ++ (98 ∷ 97 ∷ []))))
+
+-- the marked cases (1) to (12), Int64, Decimal128(7,2), and two wrong turns; a scale of −3 is stored as 253
 abbrev pub table : List Entry
 table =
     -- (1) empty: list none
@@ -88,7 +115,9 @@ table =
     ∷ entry compare (two 18 0 0 3 0 0) (one 18 0 0)
     ∷ entry list (two 18 0 0 3 0 0) none
     -- Int64, Decimal128(7,2): Decimal128(22,2)
-    ∷ allThree (two 6 0 0 16 7 2) (one 16 22 2) [])))))))
+    ∷ allThree (two 6 0 0 16 7 2) (one 16 22 2)
+    -- the later zone wins, and nullability goes by place
+    (entry list zones (some laterZone) ∷ entry list structs (some byPlace) ∷ []))))))))
 
 -- every mask bit from 1 to 38
 abbrev pub fullMask : ℕ
@@ -122,7 +151,8 @@ unfolding allOf oneOf between isKind isDecimal cap sized lastUnit partsRight nam
     Numbers.decimalCoercion Numbers.numericalCoercion Numbers.binaryNumericCoercion Times.temporalCoercion Times.temporalCoercionNonstrictTimezone
     Times.isTimeWithValidUnit Strings.stringCoercion Strings.binaryCoercion Rules.nullCoercion Rules.stringNumericCoercion
     Rules.stringNumericUnionCoercion Rules.stringTemporalCoercion Same.sameZone Same.sameShape Same.sameFields Same.sameType Wrappers.wrapperCoercion
-    Nested.structCoercion Nested.listCoercion Nested.mapCoercion Answers.coerceIn Answers.coercion Answers.categoryOf Answers.hasCategory
+    Nested.joinFields Nested.fieldsHaveSameNames Nested.withName Nested.byName Nested.partners Nested.structCoercion Nested.listCoercion
+    Nested.mapCoercion Answers.coerceIn Answers.coercion Answers.categoryOf Answers.hasCategory
     Answers.categoriesIn Answers.foldFrom Answers.foldTypes Answers.typeUnionResolution badMask badPair badSpace refusal outcome
 computed = refl
 
@@ -212,6 +242,16 @@ kind k = plain (ofKind k)
 abbrev pub dec : ℕ → ℕ → ℕ → DataType
 dec k p s = plain (decimal k p s)
 
+-- a Timestamp in seconds with a zone of one byte; an Int8 under a name of one byte; a Struct
+abbrev pub zonedSecond : ℕ → DataType
+zonedSecond z = zoned (ofUnit Kind.timestamp 0) (present (z ∷ []))
+
+abbrev pub item : ℕ → Bool → Fields → Fields
+item name nullable rest = field (name ∷ []) nullable (kind Kind.int8 .shape) end rest
+
+abbrev pub structOf : Fields → DataType
+structOf fields = record { shape = kind Kind.struct .shape; parts = fields }
+
 abbrev pub pair : Question → DataType → DataType → Option DataType → Words
 pair question l r answer = record { question = question; types = l ∷ r ∷ []; answer = answer }
 
@@ -235,7 +275,10 @@ words =
     ∷ pair compare (kind Kind.utf8) (kind Kind.int32) (some (kind Kind.int32))
     ∷ pair compare (kind Kind.date32) (kind Kind.int8) (some (kind Kind.date32))
     ∷ pair list (kind Kind.date32) (kind Kind.int8) none
-    ∷ pairs (kind Kind.int64) (dec Kind.decimal128 7 (128 + 2)) (some (dec Kind.decimal128 22 (128 + 2))) [])))))))
+    ∷ pairs (kind Kind.int64) (dec Kind.decimal128 7 (128 + 2)) (some (dec Kind.decimal128 22 (128 + 2)))
+    (pair list (zonedSecond 65) (zonedSecond 66) (some (zonedSecond 66))
+    ∷ pair list (structOf (item 97 true (item 98 false end))) (structOf (item 98 false (item 97 false end))) (some (structOf (item 98 true (item 97 false end))))
+    ∷ []))))))))
 
 -- types as a chain, and a line of that table in bytes
 abbrev pub chainOf : List DataType → Fields

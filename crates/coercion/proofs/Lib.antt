@@ -14,3 +14,4 @@ pub mod Feeding
 pub mod Words
 pub mod Layouts
 pub mod DecimalRule
+pub mod Turns
