@@ -1,1 +1,5 @@
 pub mod Marked
+pub mod Answering
+pub mod Demanded
+pub mod Asking
+pub mod Instance

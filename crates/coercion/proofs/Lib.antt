@@ -15,3 +15,16 @@ pub mod Words
 pub mod Layouts
 pub mod DecimalRule
 pub mod Turns
+pub mod Chain
+pub mod Moments
+pub mod Categories
+pub mod Joins
+pub mod Resolving
+pub mod Tables
+pub mod Codes
+pub mod Ranked
+pub mod Decimals
+pub mod Leasts
+pub mod Outgrowing
+pub mod Commons
+pub mod Fitting

@@ -10,3 +10,5 @@ pub mod Wrappers
 pub mod Nested
 pub mod Answers
 pub mod Families
+pub mod Meaning
+pub mod Zones
