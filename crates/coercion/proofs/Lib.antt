@@ -28,3 +28,4 @@ pub mod Leasts
 pub mod Outgrowing
 pub mod Commons
 pub mod Fitting
+pub mod Cores

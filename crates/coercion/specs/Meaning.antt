@@ -4,11 +4,11 @@ use Prim.Native.Nat.{ℕ}
 use mathlib.Core.Bool.{Bool, true, false}
 use mathlib.Core.List.{List}
 use mathlib.Core.Option.{Option, none, some}
-use Rattle.sheet.specs.Types.{Zone, absent, present}
+use Rattle.sheet.specs.Types.{Zone, absent, present, Shape, Fields, end, field}
 use Rattle.sheet.specs.Kind as Kind
 use Rattle.coercion.specs.Data.{DataType, ofUnit, zoned}
 use Rattle.coercion.specs.Times.{nanosecond}
-use Rattle.coercion.specs.Answers.{Category, array, boolean, numeric, dateTime, composite, unknown, notSupported}
+use Rattle.coercion.specs.Answers.{Category, array, boolean, numeric, dateTime, composite, unknown, notSupported, categoryOf}
 use Rattle.coercion.specs.declared.Figures.{Figures}
 use Rattle.coercion.specs.declared.Common.{Common}
 use Rattle.coercion.specs.declared.Common.the-variants as Common
@@ -58,3 +58,9 @@ isSupported dateTime = true
 isSupported composite = true
 isSupported unknown = true
 isSupported notSupported = false
+
+-- the category of a wrapper's value, its second part
+abbrev pub valueCategory : Fields → Category
+valueCategory end = notSupported
+valueCategory (field n b s p end) = notSupported
+valueCategory (field n b s p (field n₂ b₂ s₂ p₂ rest)) = categoryOf s₂ p₂

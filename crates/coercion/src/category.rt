@@ -5,8 +5,12 @@ ghost use Prim.Native.Nat.{ℕ, _<_};
 ghost use lib.Bits.{bitOr};
 ghost use lib.Count.{ones};
 ghost use lib.Dec.{ltb};
-ghost use Rattle.coercion.specs.Answers.{ownCategory};
-ghost use Rattle.coercion.specs.Meaning.{categoryBit, isSupported};
+ghost use mathlib.Core.Bool.{Bool};
+ghost use mathlib.Core.List.{List};
+ghost use Rattle.sheet.specs.Types.{Shape, Fields, field};
+ghost use Rattle.sheet.specs.Holds.{Leads};
+ghost use Rattle.coercion.specs.Answers.{ownCategory, categoryOf};
+ghost use Rattle.coercion.specs.Meaning.{categoryBit, isSupported, valueCategory};
 use crate::tests::either;
 use crate::tests::is_date;
 use crate::tests::is_list;
@@ -14,6 +18,7 @@ use crate::tests::is_numeric;
 use crate::tests::is_span;
 use crate::tests::is_string;
 use crate::tests::is_time;
+use sheet::record::head_at;
 
 // The bit of the category of a kind that is no wrapper.
 pub fn category_bit(k: u8) -> u8
@@ -56,4 +61,34 @@ pub fn is_mixed(bits: u8) -> bool
     ensures { λ r. ⌜ r ≡ ltb 1 (ones bits) ⌝ }
 {
     1 < u8::count_ones(bits)
+}
+
+// The kind of the value below all wrappers of record r, whose category is that of the type; 0, which has none, where a wrapper has no value.
+pub fn core_kind(s: &[u8], n: usize, r: usize) -> u8
+    ensures { λ k. ⌜ ((floor i o : ℕ) (name : List ℕ) (nullable : Bool) (shape : Shape) (parts rest : Fields) → Leads (now (s .entry)) n floor r i o (field name nullable shape parts rest) → ownCategory k ≡ categoryOf shape parts) ⌝ }
+{
+    let h = head_at(s, r);
+    let kind = h.kind;
+    if either(kind == 37, kind == 38) {
+        return value_kind(s, n, r, h.first);
+    }
+    kind
+}
+
+// The same of the second part of a wrapper at record r, whose first part is at a link.
+fn value_kind(s: &[u8], n: usize, r: usize, first: usize) -> u8
+    ensures { λ k. ⌜ ((i o : ℕ) (parts : Fields) → Leads (now (s .entry)) n r first i o parts → ownCategory k ≡ valueCategory parts) ⌝ }
+{
+    if first <= r {
+        return 0;
+    }
+    let g = head_at(s, first);
+    let value = g.next;
+    if value <= first {
+        return 0;
+    }
+    if n <= value {
+        return 0;
+    }
+    core_kind(s, n, value)
 }
