@@ -4,3 +4,4 @@ pub mod Puts
 pub mod Frames
 pub mod Copying
 pub mod Chained
+pub mod Laying

@@ -1,3 +1,4 @@
 pub mod Source
 pub mod Writes
 pub mod Region
+pub mod Goal

@@ -1,21 +1,22 @@
 -- The destination in the work space: records from its front, labels after the room of all records.
 use mathlib.Core.Path.{_≡_}
-use Prim.Native.Nat.{ℕ, _+_, _*_, _-_, _<_, _≤_}
+use Prim.Native.Nat.{ℕ, _+_, _*_, _-_, _/_, _<_, _≤_}
 use mathlib.Core.Bool.{Bool, true, false, cond, _&&_}
 use mathlib.Core.List.{List, [], _∷_}
 use mathlib.Core.Logic.{_⊎_}
 use lib.ListN.{length, getD, take, drop}
 use lib.Dec.{ltb, eqb}
 use Rattle.sheet.specs.Types.{Fields, end, field, count, labels}
-use Rattle.sheet.specs.Types.{Shape, ownLabels}
-use Rattle.sheet.specs.Encode.{linkTo}
-use Rattle.sheet.specs.Holds.{Stands, Holds}
+use Rattle.sheet.specs.Types.{Shape, zoneBytes, ownLabels}
+use Rattle.sheet.specs.Encode.{linkTo, bit}
+use Rattle.sheet.specs.Holds.{Span, Stands, Holds}
 use Rattle.merge.specs.Source.{Source}
 use Rattle.sheet.specs.Head.{headAt, zonedIn, zoneLen}
 use Rattle.sheet.specs.declared.Head.{Head}
 use Rattle.merge.specs.Writes.{side}
 use Rattle.merge.specs.declared.Space.{Space}
 use Rattle.merge.specs.declared.Spot.{Spot}
+use Rattle.merge.specs.declared.Goal.{Goal}
 use Rattle.merge.specs.declared.Out.{Out}
 use Rattle.merge.specs.declared.Out.the-variants.{Done, No, Full}
 
@@ -78,21 +79,56 @@ movedLink x link at = cond (ltb link x && ltb (at + (x - link)) 65536) (at + (x 
 abbrev pub movedLabel : ℕ → ℕ → ℕ
 movedLabel o len = cond (eqb len 0) 0 o
 
--- the head of record `link`, as record number at, its labels from a place on
-abbrev pub movedHead : Head → ℕ → ℕ → ℕ → Head
-movedHead h link at label =
+-- the head of record `link` at a goal: its own figures and zone, the goal's name and nullability, its parts after it, and a next record that is given
+abbrev pub goalHead : Head → ℕ → Goal → ℕ → Head
+goalHead h link g next =
     record {
       kind = h .kind;
-      flags = h .flags;
+      flags = h .flags / 2 * 2 + bit (g .nullable);
       figure = h .figure;
       scale = h .scale;
-      quad = cond (zonedIn h) (movedLabel (label + h .nlen) (zoneLen h) + 65536 * zoneLen h) (h .quad);
-      first = movedLink (h .first) link at;
-      next = movedLink (h .next) link at;
-      name = movedLabel label (h .nlen);
-      nlen = h .nlen;
+      quad = cond (zonedIn h) (movedLabel (g .label + g .nlen) (zoneLen h) + 65536 * zoneLen h) (h .quad);
+      first = movedLink (h .first) link (g .at);
+      next = next;
+      name = movedLabel (g .label) (g .nlen);
+      nlen = g .nlen;
       last = h .last;
     }
+
+-- a goal within the room, whose name is there
+pub record Ready (space : Space) (g : Goal) : Type 0 where
+  pub some : 0 < g .at
+  pub records : g .at ≤ space .n
+  pub letters : g .label + g .nlen ≤ space .m
+  pub short : g .nlen ≤ 255
+
+-- the name that stands at a goal
+pub record Named (space : Space) (w : List ℕ) (g : Goal) (name : List ℕ) : Type 0 where
+  pub long : length name ≡ g .nlen
+  pub span : Span (region space w) (16 * space .n + g .label) name
+
+-- what is said of a head that was copied: whatever field stands at its place, its shape stands at the goal, under whatever name stands there
+abbrev pub HeadMeans : Space → List ℕ → List ℕ → List ℕ → Head → ℕ → Goal → ℕ → Out → Type 0
+HeadMeans space s w v h link g next (Done d) =
+    (d .at ≡ g .at + 1)
+    × ((floor r o up : ℕ) (name : List ℕ) (nullable : Bool) (shape : Shape) (parts rest : Fields) → Held space s floor link r o up (field name nullable shape parts rest)
+    → h ≡ headAt s link → (d .label ≡ g .label + g .nlen + length (zoneBytes (shape .zone)))
+    × ((own : List ℕ) → Named space w g own → Stands (region space v) (space .n) (g .at) (g .label) own (g .nullable) shape (linkTo (g .at + 1) parts) next))
+HeadMeans space s w v h link g next No = ⊥
+HeadMeans space s w v h link g next Full =
+    (floor r o up : ℕ) (name : List ℕ) (nullable : Bool) (shape : Shape) (parts rest : Fields) → Held space s floor link r o up (field name nullable shape parts rest)
+    → h ≡ headAt s link → space .m < g .label + g .nlen + length (zoneBytes (shape .zone))
+
+-- the next place is past the record and the name
+abbrev pub Passes : Space → Goal → Out → Type 0
+Passes space g (Done d) = Inside space d × ((g .at < d .at) × (g .label + g .nlen ≤ d .label))
+Passes space g No = Unit
+Passes space g Full = Unit
+
+pub record CopiedHead (space : Space) (s w v : List ℕ) (h : Head) (link : ℕ) (g : Goal) (next : ℕ) (o : Out) : Type 0 where
+  pub kept : Kept space w v (g .at) (g .label + g .nlen)
+  pub passes : Passes space g o
+  pub means : HeadMeans space s w v h link g next o
 
 -- what is said of a record that was copied: whatever field stands at its place, its record stands at the destination
 abbrev pub CopyMeans : Space → List ℕ → List ℕ → ℕ → Spot → Out → Type 0

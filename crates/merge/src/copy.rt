@@ -1,12 +1,14 @@
 // Copying a chain of a side to the destination.
 ghost use mathlib.Core.Path.{_≡_};
 ghost use mathlib.Core.Bool.{cond};
-ghost use Prim.Native.Nat.{_+_, _*_, _≤_, _<_};
+ghost use Prim.Native.Nat.{_+_, _*_, _/_, _≤_, _<_};
 ghost use lib.ListN.{length};
-ghost use Rattle.sheet.specs.Head.{headAt, zonedIn, zoneLen, labelled};
+ghost use Rattle.sheet.specs.Head.{headAt, nullableIn, zonedIn, zoneLen};
+ghost use Rattle.sheet.specs.Encode.{bit};
 ghost use Rattle.sheet.specs.Bounds.{Bounded};
 ghost use Rattle.merge.specs.Writes.{side};
-ghost use Rattle.merge.specs.Region.{Room, Inside, movedLink, movedLabel, movedHead, CopiedRecord, CopiedChain};
+ghost use Rattle.merge.specs.Region.{Room, Inside, Ready, movedLink, movedLabel, goalHead, CopiedHead, CopiedRecord, CopiedChain};
+use crate::Goal;
 use crate::Out;
 use crate::Space;
 use crate::Spot;
@@ -28,7 +30,7 @@ fn moved_link(x: usize, link: usize, at: usize) -> usize
     0
 }
 
-fn moved_label(o: usize, len: usize) -> usize
+pub fn moved_label(o: usize, len: usize) -> usize
     ensures { λ r. ⌜ (r ≡ movedLabel o len) × (r ≤ o) ⌝ }
 {
     if len == 0 { 0 } else { o }
@@ -46,33 +48,44 @@ fn zone_bytes(h: Head) -> usize
     }
 }
 
-// Bytes 4 to 7 of a record whose labels begin at a place.
+// Bytes 4 to 7 of a record whose zone belongs at a place.
 fn moved_quad(h: Head, label: usize) -> usize
-    requires { ⌜ (label < 32768) × Bounded h ⌝ }
-    ensures { λ r. ⌜ (r ≡ cond (zonedIn h) (movedLabel (label + h .nlen) (zoneLen h) + 65536 * zoneLen h) (h .quad)) × (r < 4294967296) ⌝ }
+    requires { ⌜ (label < 65536) × Bounded h ⌝ }
+    ensures { λ r. ⌜ (r ≡ cond (zonedIn h) (movedLabel label (zoneLen h) + 65536 * zoneLen h) (h .quad)) × (r < 4294967296) ⌝ }
 {
     let quad = h.quad;
-    let nlen = h.nlen;
     if h.flags / 4 % 2 == 1 {
         let len = quad / 65536 % 256;
-        moved_label(label + nlen, len) + 65536 * len
+        moved_label(label, len) + 65536 * len
     } else {
         quad
     }
 }
 
-fn moved_head(h: Head, link: usize, at: usize, label: usize) -> Head
-    requires { ⌜ ((at < 65536) × (label < 32768)) × Bounded h ⌝ }
-    ensures { λ r. ⌜ (r ≡ movedHead h link at label) × Bounded r ⌝ }
+// Byte 1 with another nullable bit.
+fn with_nullable(flags: u8, nullable: bool) -> u8
+    ensures { λ r. ⌜ r ≡ flags / 2 * 2 + bit nullable ⌝ }
 {
-    let nlen = h.nlen;
-    let quad = moved_quad(h, label);
-    let first = moved_link(h.first, link, at);
-    let next = moved_link(h.next, link, at);
+    if nullable {
+        flags / 2 * 2 + 1
+    } else {
+        flags / 2 * 2
+    }
+}
+
+fn goal_head(h: Head, link: usize, g: Goal, next: usize) -> Head
+    requires { ⌜ ((g .at < 65536) × ((g .label + g .nlen < 65536) × (g .nlen ≤ 255))) × ((next < 65536) × Bounded h) ⌝ }
+    ensures { λ r. ⌜ (r ≡ goalHead h link g next) × Bounded r ⌝ }
+{
+    let label = g.label;
+    let nlen = g.nlen;
+    let quad = moved_quad(h, label + nlen);
+    let first = moved_link(h.first, link, g.at);
     let name = moved_label(label, nlen);
+    let flags = with_nullable(h.flags, g.nullable);
     Head {
         kind: h.kind,
-        flags: h.flags,
+        flags,
         figure: h.figure,
         scale: h.scale,
         quad,
@@ -82,6 +95,50 @@ fn moved_head(h: Head, link: usize, at: usize, label: usize) -> Head
         nlen,
         last: h.last,
     }
+}
+
+// Copies the head and the zone of record `link` of a side to a goal.
+pub fn copy_head(
+    sheet: &[u8],
+    work: &mut [u8],
+    space: Space,
+    swap: bool,
+    h: Head,
+    link: usize,
+    g: Goal,
+    next: usize,
+) -> Out
+    requires { ⌜ (Room (now work) space × Ready space g) × ((g .at < space .n) × ((next < 65536) × Bounded h)) ⌝ }
+    ensures { λ o. ⌜ CopiedHead space (side swap (now (sheet .entry)) (now (work .entry))) (now (work .entry)) (now (work .exit)) h link g next o ⌝ }
+{
+    let n = space.n;
+    let half = space.half;
+    let at = g.at;
+    let label = g.label + g.nlen;
+    let quad = h.quad;
+    let zlen = zone_bytes(h);
+    if space.m < label + zlen {
+        return Out::Full;
+    }
+    put_label(
+        sheet,
+        work,
+        swap,
+        16 * n + quad % 65536,
+        zlen,
+        half + 16 * n + label,
+    );
+    put_head(work, half + 16 * at, goal_head(h, link, g, next));
+    Out::Done(Spot {
+        at: at + 1,
+        label: label + zlen,
+    })
+}
+
+fn is_nullable(h: Head) -> bool
+    ensures { λ r. ⌜ r ≡ nullableIn h ⌝ }
+{
+    h.flags % 2 == 1
 }
 
 // Copies record `link` of a side, with its labels, and without its parts.
@@ -99,31 +156,36 @@ fn copy_record(
     ensures { λ o. ⌜ CopiedRecord space (side swap (now (sheet .entry)) (now (work .entry))) (now (work .entry)) (now (work .exit)) link to o ⌝ }
 {
     let n = space.n;
-    let m = space.m;
-    let half = space.half;
     let at = to.at;
     let label = to.label;
     let nlen = h.nlen;
-    let quad = h.quad;
-    let zlen = zone_bytes(h);
-    if m < label + (nlen + zlen) {
+    if space.m < label + nlen {
         return Out::Full;
     }
-    let base = half + 16 * n;
-    put_label(sheet, work, swap, 16 * n + h.name, nlen, base + label);
     put_label(
         sheet,
         work,
         swap,
-        16 * n + quad % 65536,
-        zlen,
-        base + (label + nlen),
+        16 * n + h.name,
+        nlen,
+        space.half + 16 * n + label,
     );
-    put_head(work, half + 16 * at, moved_head(h, link, at, label));
-    Out::Done(Spot {
-        at: at + 1,
-        label: label + (nlen + zlen),
-    })
+    let g = Goal {
+        at,
+        label,
+        nlen,
+        nullable: is_nullable(h),
+    };
+    copy_head(
+        sheet,
+        work,
+        space,
+        swap,
+        h,
+        link,
+        g,
+        moved_link(h.next, link, at),
+    )
 }
 
 // Copies the chain that a link of a side leads to.

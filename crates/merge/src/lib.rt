@@ -1,6 +1,7 @@
 // The merge of two types in lent buffers.
 pub mod alike;
 pub mod copy;
+pub mod lay;
 pub mod write;
 
 // The sizes that all functions share: the sheet's records and label bytes, and the length of half of the work space, which is the sheet's.
@@ -21,4 +22,12 @@ pub enum Out {
     Done(Spot),
     No,
     Full,
+}
+
+// A place in the destination for a type under a name. The name's bytes stand there already, nlen of them from label on.
+pub struct Goal {
+    pub at: usize,
+    pub label: usize,
+    pub nlen: usize,
+    pub nullable: bool,
 }
