@@ -108,7 +108,7 @@ fn same_record(a: &[u8], n: usize, g: Head, b: &[u8], m: usize, h: Head, named: 
 }
 
 // Whether the chain that a link of a leads to is the one that a link of b leads to.
-pub fn same_fields(
+pub(crate) fn same_fields(
     a: &[u8],
     n: usize,
     floor: usize,
@@ -141,7 +141,15 @@ pub fn same_fields(
 }
 
 // Whether the type of record i of a is that of record j of b.
-pub fn same_type(a: &[u8], n: usize, i: usize, b: &[u8], m: usize, j: usize, named: bool) -> bool
+pub(crate) fn same_type(
+    a: &[u8],
+    n: usize,
+    i: usize,
+    b: &[u8],
+    m: usize,
+    j: usize,
+    named: bool,
+) -> bool
     requires { ⌜ (n < 65536) × (m < 65536) ⌝ }
     ensures { λ e. ⌜ SameTypes (now (a .entry)) n i (now (b .entry)) m j named e ⌝ }
 {

@@ -30,7 +30,7 @@ fn moved_link(x: usize, link: usize, at: usize) -> usize
     0
 }
 
-pub fn moved_label(o: usize, len: usize) -> usize
+pub(crate) fn moved_label(o: usize, len: usize) -> usize
     ensures { λ r. ⌜ (r ≡ movedLabel o len) × (r ≤ o) ⌝ }
 {
     if len == 0 { 0 } else { o }
@@ -98,7 +98,7 @@ fn goal_head(h: Head, link: usize, g: Goal, next: usize) -> Head
 }
 
 // Copies the head and the zone of record `link` of a side to a goal.
-pub fn copy_head(
+pub(crate) fn copy_head(
     sheet: &[u8],
     work: &mut [u8],
     space: Space,
@@ -189,7 +189,7 @@ fn copy_record(
 }
 
 // Copies the chain that a link of a side leads to.
-pub fn copy_fields(
+pub(crate) fn copy_fields(
     sheet: &[u8],
     work: &mut [u8],
     space: Space,

@@ -30,7 +30,7 @@ fn flags_of(nullable: bool, sorted: bool) -> u8
 }
 
 // Writes the record of a type without a zone, with a link to its parts.
-pub fn lay(
+pub(crate) fn lay(
     work: &mut [u8],
     space: Space,
     g: Goal,
@@ -67,7 +67,14 @@ pub fn lay(
 }
 
 // Writes a type that has neither parts nor a zone.
-pub fn lay_plain(work: &mut [u8], space: Space, g: Goal, kind: u8, figure: u8, scale: u8) -> Out
+pub(crate) fn lay_plain(
+    work: &mut [u8],
+    space: Space,
+    g: Goal,
+    kind: u8,
+    figure: u8,
+    scale: u8,
+) -> Out
     requires { ⌜ Room (now work) space × Ready space g ⌝ }
     ensures { λ o. ⌜ LaidPlain space (now (work .entry)) (now (work .exit)) g (shapeFor kind figure scale 0 false) o ⌝ }
 {
@@ -81,7 +88,7 @@ pub fn lay_plain(work: &mut [u8], space: Space, g: Goal, kind: u8, figure: u8, s
 }
 
 // Copies the type at a link of a side to a goal.
-pub fn copy_type(
+pub(crate) fn copy_type(
     sheet: &[u8],
     work: &mut [u8],
     space: Space,

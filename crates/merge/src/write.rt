@@ -11,7 +11,7 @@ use sheet::label::fill;
 use sheet::record::head_at;
 
 // The head of record r of a side.
-pub fn look(sheet: &[u8], work: &[u8], swap: bool, r: usize) -> Head
+pub(crate) fn look(sheet: &[u8], work: &[u8], swap: bool, r: usize) -> Head
     ensures { λ h. ⌜ (h ≡ headAt (side swap (now (sheet .entry)) (now (work .entry))) r) × Bounded h ⌝ }
 {
     if swap {
@@ -30,7 +30,7 @@ fn put(work: &mut [u8], at: usize, bytes: &[u8])
 }
 
 // Puts the sixteen bytes of a head into a buffer.
-pub fn put_head(work: &mut [u8], at: usize, h: Head)
+pub(crate) fn put_head(work: &mut [u8], at: usize, h: Head)
     requires { ⌜ (at + 16 ≤ length (now work)) × Bounded h ⌝ }
     ensures { λ _. ⌜ Put (now (work .entry)) (now (work .exit)) at (bytesOf h) ⌝ }
 {
@@ -73,7 +73,14 @@ fn fetch(sheet: &[u8], work: &[u8], swap: bool, from: usize, len: usize, buf: &m
 }
 
 // Puts a label of a side into the work space, by way of an array of its own.
-pub fn put_label(sheet: &[u8], work: &mut [u8], swap: bool, from: usize, len: usize, at: usize)
+pub(crate) fn put_label(
+    sheet: &[u8],
+    work: &mut [u8],
+    swap: bool,
+    from: usize,
+    len: usize,
+    at: usize,
+)
     requires { ⌜ (len ≤ 255) × (at + len ≤ length (now work)) ⌝ }
     ensures { λ _. ⌜ Put (now (work .entry)) (now (work .exit)) at (take len (drop from (side swap (now (sheet .entry)) (now (work .entry))))) ⌝ }
 {
