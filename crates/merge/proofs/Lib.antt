@@ -5,3 +5,4 @@ pub mod Frames
 pub mod Copying
 pub mod Chained
 pub mod Laying
+pub mod Tying

@@ -5,9 +5,11 @@ use mathlib.Core.Bool.{Bool, true, false, cond}
 use mathlib.Core.List.{List, [], _∷_}
 use mathlib.Core.Logic.{_⊎_}
 use mathlib.Core.Option.{Option, none, some}
-use lib.ListN.{length}
+use lib.ListN.{length, getD}
 use Rattle.sheet.specs.Types.{Zone, absent, Shape, Fields, end, field, labels, zoneBytes}
+use Rattle.sheet.specs.Head.{headAt}
 use Rattle.sheet.specs.Holds.{Stands}
+use Rattle.sheet.specs.declared.Head.{Head}
 use Rattle.coercion.specs.Data.{DataType, size}
 use Rattle.merge.specs.Region.{region, Kept, Held, Inside, Wrote, Named, Passes}
 use Rattle.merge.specs.declared.Space.{Space}
@@ -67,3 +69,26 @@ pub record CopiedType (space : Space) (s w v : List ℕ) (link : ℕ) (g : Goal)
 -- the shape of a type that has no zone
 abbrev pub shapeFor : ℕ → ℕ → ℕ → ℕ → Bool → Shape
 shapeFor kind figure scale size sorted = record { kind = kind; figure = figure; scale = scale; size = size; sorted = sorted; zone = absent }
+
+-- a head with another next link
+abbrev pub tiedTo : ℕ → Head → Head
+tiedTo next h =
+    record {
+      kind = h .kind;
+      flags = h .flags;
+      figure = h .figure;
+      scale = h .scale;
+      quad = h .quad;
+      first = h .first;
+      next = next;
+      name = h .name;
+      nlen = h .nlen;
+      last = h .last;
+    }
+
+-- a record of the second half got another next link, and nothing else has changed
+pub record Tied (space : Space) (w v : List ℕ) (at next : ℕ) : Type 0 where
+  pub long : length v ≡ length w
+  pub below : (j : ℕ) → j < space .half + 16 * at → getD v j 0 ≡ getD w j 0
+  pub above : (j : ℕ) → space .half + 16 * at + 16 ≤ j → getD v j 0 ≡ getD w j 0
+  pub head : headAt (region space v) at ≡ tiedTo next (headAt (region space w) at)

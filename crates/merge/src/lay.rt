@@ -6,7 +6,7 @@ ghost use lib.ListN.{length};
 ghost use Rattle.sheet.specs.Encode.{bit};
 ghost use Rattle.merge.specs.Writes.{side};
 ghost use Rattle.merge.specs.Region.{Room, Ready};
-ghost use Rattle.merge.specs.Goal.{Laid, LaidPlain, CopiedType, shapeFor};
+ghost use Rattle.merge.specs.Goal.{Laid, LaidPlain, CopiedType, Tied, shapeFor};
 use crate::Goal;
 use crate::Out;
 use crate::Space;
@@ -17,6 +17,7 @@ use crate::copy::moved_label;
 use crate::write::look;
 use crate::write::put_head;
 use sheet::Head;
+use sheet::record::head_at;
 
 // Byte 1 of a record without a zone.
 fn flags_of(nullable: bool, sorted: bool) -> u8
@@ -109,4 +110,14 @@ pub(crate) fn copy_type(
         Out::No => Out::No,
         Out::Full => Out::Full,
     }
+}
+
+// Ties a record that was written to the next of its chain, by a link.
+pub(crate) fn tie(work: &mut [u8], space: Space, at: usize, next: usize)
+    requires { ⌜ Room (now work) space × ((at < space .n) × (next < 65536)) ⌝ }
+    ensures { λ _. ⌜ Tied space (now (work .entry)) (now (work .exit)) at next ⌝ }
+{
+    let half = space.half;
+    let h = head_at(&work[half..], at);
+    put_head(work, half + 16 * at, Head { next, ..h })
 }
