@@ -8,24 +8,24 @@ use Prim.Native.Nat.{ℕ, zero, suc, _+_, _*_, _-_, _<_, _≤_}
 use native.Mathlib.Omega.{arith}
 use lib.ListN.{length, getD, drop, length-append, length-drop}
 use lib.Seq.{getD-drop}
-use Rattle.sheet.specs.Types.{Zone, absent, Shape, Fields, end, field, count, zoneBytes, ownLabels, labels}
+use Rattle.sheet.specs.Types.{Zone, absent, present, Shape, Fields, end, field, count, zoneBytes, ownLabels, labels}
 use Rattle.sheet.specs.Head.{headAt, bytesOf}
 use Rattle.sheet.specs.Encode.{linkTo, offset, bit, headOf}
 use Rattle.sheet.specs.Holds.{Span, Stands, Holds}
 use Rattle.sheet.specs.declared.Head.{Head}
-use Rattle.sheet.proofs.Spans.{span-join, span-nil}
+use Rattle.sheet.proofs.Spans.{span-join, span-nil, span-move}
 use Rattle.sheet.proofs.Heads.{span-head}
 use Rattle.coercion.specs.Data.{DataType, size}
 use Rattle.merge.specs.Writes.{side, Put}
 use Rattle.merge.specs.Region.{Room, region, Kept, Held, Inside, Ready, Named, Passes, Wrote, Short, movedLabel, CopiedHead, CopiedChain}
-use Rattle.merge.specs.Goal.{letters, spotOf, fieldFor, NoRoom, Means, Writes, Laid, LaidPlain, CopiedType, typeOf, shapeFor}
+use Rattle.merge.specs.Goal.{letters, spotOf, fieldFor, NoRoom, Means, Writes, Laid, LaidPlain, LaidZoned, CopiedType, typeOf, shapeFor, zonedShape}
 use Rattle.merge.specs.declared.Space.{Space}
 use Rattle.merge.specs.declared.Spot.{Spot}
 use Rattle.merge.specs.declared.Goal.{Goal}
 use Rattle.merge.specs.declared.Out.{Out}
 use Rattle.merge.specs.declared.Out.the-variants.{Done, No, Full}
 use Rattle.merge.proofs.Frames.{span-frame, stands-frame, wrote-frame, kept-self, kept-trans, kept-wider}
-use Rattle.merge.proofs.Copying.{span-region, head-kept, held-side, moved-name}
+use Rattle.merge.proofs.Copying.{span-region, label-kept, head-kept, held-side, moved-name}
 use Rattle.merge.proofs.Chained.{held-first}
 
 -- the name at a goal stays while what is written comes after it
@@ -88,6 +88,88 @@ plain-laid space w v g kind figure scale ready lt l =
             holds = (l .stands name nm, (tt, tt));
           };
     }
+
+pub zoned-full : (space : Space) (w : List ℕ) (g : Goal) (kind figure : ℕ) (zone : List ℕ) → NoRoom space g 1 (length zone) → LaidZoned space w w g kind figure zone Full
+zoned-full space w g kind figure zone h =
+    record { writes = record { kept = kept-self w (g .at) (g .label + g .nlen); passes = tt }; means = h }
+
+-- the head of a type with a zone, at a goal
+abbrev pub zonedHead : Goal → ℕ → ℕ → List ℕ → Head
+zonedHead g kind figure zone =
+    record {
+      kind = kind;
+      flags = bit (g .nullable) + 4;
+      figure = figure;
+      scale = 0;
+      quad = movedLabel (g .label + g .nlen) (length zone) + 65536 * length zone;
+      first = 0;
+      next = 0;
+      name = movedLabel (g .label) (g .nlen);
+      nlen = g .nlen;
+      last = 0;
+    }
+
+pub zoned-head : (g : Goal) (kind figure : ℕ) (zone : List ℕ) (flags off place : ℕ) → flags ≡ bit (g .nullable) + 4 → off ≡ movedLabel (g .label + g .nlen) (length zone)
+    → place ≡ movedLabel (g .label) (g .nlen)
+    → record { kind = kind; flags = flags; figure = figure; scale = 0; quad = off + 65536 * length zone; first = 0; next = 0; name = place; nlen = g .nlen; last = 0 }
+    ≡ zonedHead g kind figure zone
+zoned-head g kind figure zone flags off place ef eo ep =
+    λ i.
+    record {
+      kind = kind;
+      flags = ef i;
+      figure = figure;
+      scale = 0;
+      quad = eo i + 65536 * length zone;
+      first = 0;
+      next = 0;
+      name = ep i;
+      nlen = g .nlen;
+      last = 0;
+    }
+
+-- a type with a zone: the zone was put, and then the head
+module _ (space : Space) (w v₁ v : List ℕ) (g : Goal) (kind figure : ℕ) (zone : List ℕ) (room : Room w space) (ready : Ready space g)
+    (lt : g .at < space .n) (fits : g .label + g .nlen + length zone ≤ space .m) (q : Put w v₁ (space .half + 16 * space .n + (g .label + g .nlen)) zone)
+    (x : Head) (ex : x ≡ zonedHead g kind figure zone) (p : Put v₁ v (space .half + 16 * g .at) (bytesOf x)) where
+  zoned-kept : Kept space w v (g .at) (g .label + g .nlen)
+  zoned-kept =
+      kept-trans (label-kept space w v₁ (g .at) (g .label + g .nlen) (g .label + g .nlen) zone (ready .records) (omega arith) fits q)
+      (head-kept space v₁ v (g .at) (g .label + g .nlen) x lt p)
+
+  zoned-stands : (name : List ℕ) → Named space w g name → Stands (region space v) (space .n) (g .at) (g .label) name (g .nullable) (zonedShape kind figure zone) 0 0
+  zoned-stands name nm =
+      let l = sym (nm .long) in
+      let a = ap (movedLabel (g .label)) l ∙ moved-name (g .label) name in
+      let b = ap (λ (k : ℕ). k + 65536 * length zone) (moved-name (g .label + g .nlen) zone ∙ ap (λ (k : ℕ). offset (g .label + k) zone) l) in
+      let e : zonedHead g kind figure zone ≡ headOf (g .label) name (g .nullable) (zonedShape kind figure zone) 0 0 =
+      λ i. record { kind = kind; flags = bit (g .nullable) + 4; figure = figure; scale = 0; quad = b i; first = 0; next = 0; name = a i; nlen = l i; last = 0 } in
+      record {
+        head = span-head (region space v) (g .at) x (span-region space v (16 * g .at) (bytesOf x) (p .span)) ∙ ex ∙ e;
+        label =
+            span-join name zone (named-kept space w v (g .at) (g .label + g .nlen) g (omega arith) zoned-kept nm .span)
+            (span-region space v (16 * space .n + g .label + length name) zone
+            (span-move {i = space .half + 16 * space .n + (g .label + g .nlen)} (omega (arith, nm .long))
+            (span-frame {w = v₁} v zone (p .long) (λ j lo hi. p .above j (omega arith)) (q .span))));
+      }
+
+  pub zoned-laid : LaidZoned space w v g kind figure zone (Done (record { at = g .at + 1; label = g .label + g .nlen + length zone }))
+  unfolding count labels
+  zoned-laid =
+      record {
+        writes =
+            record {
+              kept = zoned-kept;
+              passes = (record { some = omega arith; records = omega arith; letters = fits }, (omega arith, omega arith));
+            };
+        means =
+            λ name nm.
+            record {
+              records = omega arith;
+              letters = omega (arith, nm .long, length-append name zone, length-append (name ++ zone) []);
+              holds = (zoned-stands name nm, (tt, tt));
+            };
+      }
 
 -- a type that was copied: its head, and its fields after it
 module _ (space : Space) (s w : List ℕ) (swap : Bool) (link : ℕ) (g : Goal) where

@@ -6,7 +6,7 @@ use mathlib.Core.List.{List, [], _∷_}
 use mathlib.Core.Logic.{_⊎_}
 use mathlib.Core.Option.{Option, none, some}
 use lib.ListN.{length, getD}
-use Rattle.sheet.specs.Types.{Zone, absent, Shape, Fields, end, field, labels, zoneBytes}
+use Rattle.sheet.specs.Types.{Zone, absent, present, Shape, Fields, end, field, labels, zoneBytes}
 use Rattle.sheet.specs.Head.{headAt}
 use Rattle.sheet.specs.Holds.{Stands}
 use Rattle.sheet.specs.declared.Head.{Head}
@@ -92,3 +92,12 @@ pub record Tied (space : Space) (w v : List ℕ) (at next : ℕ) : Type 0 where
   pub below : (j : ℕ) → j < space .half + 16 * at → getD v j 0 ≡ getD w j 0
   pub above : (j : ℕ) → space .half + 16 * at + 16 ≤ j → getD v j 0 ≡ getD w j 0
   pub head : headAt (region space v) at ≡ tiedTo next (headAt (region space w) at)
+
+-- the shape of a type that has a zone
+abbrev pub zonedShape : ℕ → ℕ → List ℕ → Shape
+zonedShape kind figure zone = record { kind = kind; figure = figure; scale = 0; size = 0; sorted = false; zone = present zone }
+
+-- a type with a zone that was written at a goal
+pub record LaidZoned (space : Space) (w v : List ℕ) (g : Goal) (kind figure : ℕ) (zone : List ℕ) (o : Out) : Type 0 where
+  pub writes : Writes space w v g o
+  pub means : Means space w v g 1 (length zone) o (some (typeOf (zonedShape kind figure zone) end))

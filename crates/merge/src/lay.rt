@@ -6,7 +6,7 @@ ghost use lib.ListN.{length};
 ghost use Rattle.sheet.specs.Encode.{bit};
 ghost use Rattle.merge.specs.Writes.{side};
 ghost use Rattle.merge.specs.Region.{Room, Ready};
-ghost use Rattle.merge.specs.Goal.{Laid, LaidPlain, CopiedType, Tied, shapeFor};
+ghost use Rattle.merge.specs.Goal.{Laid, LaidPlain, LaidZoned, CopiedType, Tied, shapeFor};
 use crate::Goal;
 use crate::Out;
 use crate::Space;
@@ -15,6 +15,7 @@ use crate::copy::copy_fields;
 use crate::copy::copy_head;
 use crate::copy::moved_label;
 use crate::write::look;
+use crate::write::put;
 use crate::write::put_head;
 use sheet::Head;
 use sheet::record::head_at;
@@ -86,6 +87,62 @@ pub(crate) fn lay_plain(
     }
     lay(work, space, g, kind, figure, scale, 0, false, 0);
     Out::Done(Spot { at: at + 1, label })
+}
+
+// Byte 1 of a record with a zone.
+fn zoned_flags(nullable: bool) -> u8
+    ensures { λ r. ⌜ r ≡ bit nullable + 4 ⌝ }
+{
+    if nullable { 5 } else { 4 }
+}
+
+// Writes a type that has a zone, which may be empty.
+pub(crate) fn lay_zoned(
+    work: &mut [u8],
+    space: Space,
+    g: Goal,
+    kind: u8,
+    figure: u8,
+    zone: &[u8],
+) -> Out
+    requires { ⌜ (Room (now work) space × Ready space g) × (length (now zone) ≤ 255) ⌝ }
+    ensures { λ o. ⌜ LaidZoned space (now (work .entry)) (now (work .exit)) g kind figure (now (zone .entry)) o ⌝ }
+{
+    let at = g.at;
+    let half = space.half;
+    let nlen = g.nlen;
+    let label = g.label + nlen;
+    let zlen = zone.len();
+    if space.n <= at {
+        return Out::Full;
+    }
+    if space.m < label + zlen {
+        return Out::Full;
+    }
+    put(work, half + 16 * space.n + label, zone);
+    let name = moved_label(g.label, nlen);
+    let quad = moved_label(label, zlen) + 65536 * zlen;
+    let flags = zoned_flags(g.nullable);
+    put_head(
+        work,
+        half + 16 * at,
+        Head {
+            kind,
+            flags,
+            figure,
+            scale: 0,
+            quad,
+            first: 0,
+            next: 0,
+            name,
+            nlen,
+            last: 0,
+        },
+    );
+    Out::Done(Spot {
+        at: at + 1,
+        label: label + zlen,
+    })
 }
 
 // Copies the type at a link of a side to a goal.

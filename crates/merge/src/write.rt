@@ -22,7 +22,7 @@ pub(crate) fn look(sheet: &[u8], work: &[u8], swap: bool, r: usize) -> Head
 }
 
 // Puts bytes into a buffer, from at on.
-fn put(work: &mut [u8], at: usize, bytes: &[u8])
+pub(crate) fn put(work: &mut [u8], at: usize, bytes: &[u8])
     requires { ⌜ at + length (now bytes) ≤ length (now work) ⌝ }
     ensures { λ _. ⌜ Put (now (work .entry)) (now (work .exit)) at (now (bytes .entry)) ⌝ }
 {
