@@ -1,4 +1,7 @@
 // A type without parts as the file has it, and what the rules answer as such a type.
+ghost use mathlib.Core.Path.{_≡_};
+ghost use Rattle.coercion.specs.Meaning.{figuresIn, kindOf};
+ghost use Rattle.plain_pairs.specs.Plain.{noType, samePlain, firstOf, figuresOf, timestampIn, ofFigures, ofKind, ofSide, ofMoment};
 use coercion::Common;
 use coercion::Figures;
 use coercion::Found;
@@ -13,7 +16,9 @@ pub struct Plain {
     pub zone: u8,
 }
 
-pub fn nothing() -> Plain {
+pub fn nothing() -> Plain
+    ensures { λ o. ⌜ o ≡ noType ⌝ }
+{
     Plain {
         kind: 0,
         figure: 0,
@@ -22,15 +27,30 @@ pub fn nothing() -> Plain {
     }
 }
 
-pub fn same(a: Plain, b: Plain) -> bool {
-    a.kind == b.kind && a.figure == b.figure && a.scale == b.scale && a.zone == b.zone
+pub fn same(a: Plain, b: Plain) -> bool
+    ensures { λ o. ⌜ o ≡ samePlain a b ⌝ }
+{
+    if a.kind != b.kind {
+        return false;
+    }
+    if a.figure != b.figure {
+        return false;
+    }
+    if a.scale != b.scale {
+        return false;
+    }
+    a.zone == b.zone
 }
 
-pub fn first_of(a: Plain, b: Plain) -> Plain {
+pub fn first_of(a: Plain, b: Plain) -> Plain
+    ensures { λ o. ⌜ o ≡ firstOf a b ⌝ }
+{
     if a.kind == 0 { b } else { a }
 }
 
-pub fn figures(p: Plain) -> Figures {
+pub fn figures(p: Plain) -> Figures
+    ensures { λ o. ⌜ o ≡ figuresOf p ⌝ }
+{
     Figures {
         kind: p.kind,
         figure: p.figure,
@@ -38,7 +58,9 @@ pub fn figures(p: Plain) -> Figures {
     }
 }
 
-pub fn timestamp(unit: u8, zone: u8) -> Plain {
+pub fn timestamp(unit: u8, zone: u8) -> Plain
+    ensures { λ o. ⌜ o ≡ timestampIn unit zone ⌝ }
+{
     Plain {
         kind: 22,
         figure: unit,
@@ -47,7 +69,9 @@ pub fn timestamp(unit: u8, zone: u8) -> Plain {
     }
 }
 
-pub fn of_common(c: Common) -> Plain {
+pub fn of_common(c: Common) -> Plain
+    ensures { λ o. ⌜ o ≡ ofFigures (figuresIn c) ⌝ }
+{
     match c {
         Common::Of(f) => Plain {
             kind: f.kind,
@@ -59,7 +83,9 @@ pub fn of_common(c: Common) -> Plain {
     }
 }
 
-pub fn of_found(f: Found) -> Plain {
+pub fn of_found(f: Found) -> Plain
+    ensures { λ o. ⌜ o ≡ ofKind (kindOf f) ⌝ }
+{
     match f {
         Found::Kind(kind) => Plain {
             kind,
@@ -71,7 +97,9 @@ pub fn of_found(f: Found) -> Plain {
     }
 }
 
-pub fn of_side(s: Side, l: Plain, r: Plain) -> Plain {
+pub fn of_side(s: Side, l: Plain, r: Plain) -> Plain
+    ensures { λ o. ⌜ o ≡ ofSide s l r ⌝ }
+{
     match s {
         Side::Left => l,
         Side::Right => r,
@@ -79,7 +107,9 @@ pub fn of_side(s: Side, l: Plain, r: Plain) -> Plain {
     }
 }
 
-pub fn of_moment(m: Moment, l: Plain, r: Plain) -> Plain {
+pub fn of_moment(m: Moment, l: Plain, r: Plain) -> Plain
+    ensures { λ o. ⌜ o ≡ ofMoment m l r ⌝ }
+{
     match m {
         Moment::Left => l,
         Moment::Right => r,

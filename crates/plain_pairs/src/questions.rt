@@ -1,4 +1,11 @@
 // The three questions on two plain types.
+ghost use mathlib.Core.Path.{_≡_};
+ghost use mathlib.Core.Bool.{true};
+ghost use mathlib.Core.List.{[], _∷_};
+ghost use Rattle.coercion.specs.Data.{list, union, compare};
+ghost use Rattle.coercion.specs.Rules.{stringNumericCoercion, stringNumericUnionCoercion};
+ghost use Rattle.coercion.specs.Answers.{coercion, foldTypes};
+ghost use Rattle.plain_pairs.specs.Typed.{isPlain, typeIn, plainOf, fitsIn, rulesOf, answerTo, answerIn};
 use crate::plain::Plain;
 use crate::plain::first_of;
 use crate::plain::nothing;
@@ -12,6 +19,8 @@ use coercion::category::is_supported;
 use coercion::category::with_category;
 use coercion::sides::string_numeric_coercion;
 use coercion::sides::string_numeric_union_coercion;
+use coercion::tests::both;
+use sheet::figure::within;
 
 pub const LIST: u8 = 1;
 
@@ -19,45 +28,65 @@ pub const UNION: u8 = 2;
 
 pub const COMPARE: u8 = 3;
 
-fn string_numeric(l: Plain, r: Plain) -> Plain {
+fn string_numeric(l: Plain, r: Plain) -> Plain
+    ensures { λ o. ⌜ o ≡ plainOf (stringNumericCoercion (typeIn l) (typeIn r)) ⌝ }
+{
     of_side(string_numeric_coercion(l.kind, r.kind), l, r)
 }
 
-fn compare(l: Plain, r: Plain) -> Plain {
+fn string_numeric_union(l: Plain, r: Plain) -> Plain
+    ensures { λ o. ⌜ o ≡ plainOf (stringNumericUnionCoercion (typeIn l) (typeIn r)) ⌝ }
+{
+    of_side(string_numeric_union_coercion(l.kind, r.kind), l, r)
+}
+
+fn compare(l: Plain, r: Plain) -> Plain
+    requires { ⌜ (isPlain (l .kind) ≡ true) × (isPlain (r .kind) ≡ true) ⌝ }
+    ensures { λ o. ⌜ o ≡ answerTo compare l r ⌝ }
+{
     let a = first_of(common(l, r), string_numeric(l, r));
     let b = first_of(a, string_temporal(l, r));
     first_of(b, binary(l, r))
 }
 
-fn union_of(l: Plain, r: Plain) -> Plain {
-    let side = string_numeric_union_coercion(l.kind, r.kind);
-    let a = first_of(common(l, r), of_side(side, l, r));
+fn union_of(l: Plain, r: Plain) -> Plain
+    requires { ⌜ (isPlain (l .kind) ≡ true) × (isPlain (r .kind) ≡ true) ⌝ }
+    ensures { λ o. ⌜ o ≡ answerTo union l r ⌝ }
+{
+    let a = first_of(common(l, r), string_numeric_union(l, r));
     let b = first_of(a, string_temporal(l, r));
     first_of(b, binary(l, r))
 }
 
 // A new type of a list and the candidate so far.
-fn step(new: Plain, candidate: Plain) -> Plain {
+fn step(new: Plain, candidate: Plain) -> Plain
+    requires { ⌜ (isPlain (new .kind) ≡ true) × (isPlain (candidate .kind) ≡ true) ⌝ }
+    ensures { λ o. ⌜ o ≡ plainOf (coercion (rulesOf list) (typeIn new) (typeIn candidate)) ⌝ }
+{
     let a = first_of(common(new, candidate), string_numeric(new, candidate));
     first_of(a, binary(new, candidate))
 }
 
-// Null is supported and has no bit.
-fn fits(a: u8, b: u8) -> bool {
-    if !is_supported(a) || !is_supported(b) {
+// Both have a category, and no two categories besides Unknown. Null is supported and has no bit.
+fn fits(l: Plain, r: Plain) -> bool
+    requires { ⌜ (isPlain (l .kind) ≡ true) × (isPlain (r .kind) ≡ true) ⌝ }
+    ensures { λ o. ⌜ o ≡ fitsIn (typeIn l ∷ typeIn r ∷ []) ⌝ }
+{
+    if !both(is_supported(l.kind), is_supported(r.kind)) {
         return false;
     }
-    !is_mixed(with_category(with_category(0, a), b))
+    !is_mixed(with_category(with_category(0, l.kind), r.kind))
 }
 
-fn list(first: Plain, second: Plain) -> Plain {
-    if same(first, second) {
-        return first;
-    }
-    if !fits(first.kind, second.kind) {
-        return nothing();
-    }
+// Nulls are skipped.
+fn fold(first: Plain, second: Plain) -> Plain
+    requires { ⌜ (isPlain (first .kind) ≡ true) × (isPlain (second .kind) ≡ true) ⌝ }
+    ensures { λ o. ⌜ o ≡ plainOf (foldTypes (rulesOf list) (typeIn first ∷ typeIn second ∷ [])) ⌝ }
+{
     if first.kind == 1 {
+        if second.kind == 1 {
+            return nothing();
+        }
         return second;
     }
     if second.kind == 1 {
@@ -66,7 +95,26 @@ fn list(first: Plain, second: Plain) -> Plain {
     step(second, first)
 }
 
-pub fn answer(question: u8, l: Plain, r: Plain) -> Plain {
+fn list(first: Plain, second: Plain) -> Plain
+    requires { ⌜ (isPlain (first .kind) ≡ true) × (isPlain (second .kind) ≡ true) ⌝ }
+    ensures { λ o. ⌜ o ≡ answerTo list first second ⌝ }
+{
+    if same(second, first) {
+        return first;
+    }
+    if !fits(first, second) {
+        return nothing();
+    }
+    fold(first, second)
+}
+
+// No answer for a kind that has parts or is none.
+pub fn answer(question: u8, l: Plain, r: Plain) -> Plain
+    ensures { λ o. ⌜ o ≡ answerIn question l r ⌝ }
+{
+    if !both(within(1, 31, l.kind), within(1, 31, r.kind)) {
+        return nothing();
+    }
     if question == LIST {
         return list(l, r);
     }
