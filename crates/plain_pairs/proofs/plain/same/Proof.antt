@@ -18,12 +18,14 @@ returns-2 c =
 -- src/plain.rt:40:9
 returns-3 : tie.Need-returns-3
 returns-3 c =
-    rw (eq-eqb _ _ ((c .before .before .before .before .before .before .if1 .left))) (rw (eq-eqb _ _ ((c .before .before .before .if2 .left))) (rw (ne-eqb _ _ ((c .if3 .taken))) refl))
+    rw (eq-eqb _ _ (c .before .before .before .before .before .before .if1 .left))
+    (rw (eq-eqb _ _ (c .before .before .before .if2 .left)) (rw (ne-eqb _ _ (c .if3 .taken)) refl))
 
 -- src/plain.rt:30:1
 returns-4 : tie.Need-returns-4
 returns-4 c =
-    rw (eq-eqb _ _ ((c .before .before .before .before .before .before .before .before .if1 .left))) (rw (eq-eqb _ _ ((c .before .before .before .before .before .if2 .left))) (rw (eq-eqb _ _ ((c .before .before .if3 .left))) refl))
+    rw (eq-eqb _ _ (c .before .before .before .before .before .before .before .before .if1 .left))
+    (rw (eq-eqb _ _ (c .before .before .before .before .before .if2 .left)) (rw (eq-eqb _ _ (c .before .before .if3 .left)) refl))
 
 pub same-spec : {M : Type 1} → statement M
 same-spec = tie.close (tie.spec returns returns-2 returns-3 returns-4)

@@ -35,40 +35,57 @@ nothing-requires c κs = search needs
 returns : tie.Need-returns
 unfolding answerIn
 returns c =
-    rw (sym ((c .before .before .both .ensures) ∙ ap₂ _&&_ ((c .before .before .before .before .within .ensures)) ((c .before .before .before .within2 .ensures))) ∙ not-true _ ((c .before .if1 .taken))) ((c .nothing .ensures))
+    let b = c .before .before in
+    let e = sym (b .both .ensures ∙ ap₂ _&&_ (b .before .before .within .ensures) (b .before .within2 .ensures)) ∙ not-true _ (c .before .if1 .taken) in
+    rw e (c .nothing .ensures)
 
 -- src/questions.rt:119:9
 list-requires : tie.Need-list-requires
 list-requires c κs =
-    let e = sym ((c .before .before .both .ensures) ∙ ap₂ _&&_ ((c .before .before .before .before .within .ensures)) ((c .before .before .before .within2 .ensures))) ∙ not-false _ ((c .before .if1 .left)) in (and-fst (isPlain ((c .before .before .before .before .before .args .l .kind))) (isPlain ((c .before .before .before .before .before .args .r .kind))) e, and-snd (isPlain ((c .before .before .before .before .before .args .l .kind))) (isPlain ((c .before .before .before .before .before .args .r .kind))) e)
+    let b = c .before .before in
+    let e = sym (b .both .ensures ∙ ap₂ _&&_ (b .before .before .within .ensures) (b .before .within2 .ensures)) ∙ not-false _ (c .before .if1 .left) in
+    let a = b .before .before .before .args in
+    (and-fst (isPlain (a .l .kind)) (isPlain (a .r .kind)) e, and-snd (isPlain (a .l .kind)) (isPlain (a .r .kind)) e)
 
 -- src/questions.rt:119:9
 returns-2 : tie.Need-returns-2
 unfolding answerIn
 returns-2 c =
-    rw (sym ((c .before .before .before .both .ensures) ∙ ap₂ _&&_ ((c .before .before .before .before .before .within .ensures)) ((c .before .before .before .before .within2 .ensures))) ∙ not-false _ ((c .before .before .if1 .left)), eq-eqb _ _ ((c .before .if2 .taken))) ((c .list .ensures))
+    let b = c .before .before .before in
+    let e = sym (b .both .ensures ∙ ap₂ _&&_ (b .before .before .within .ensures) (b .before .within2 .ensures)) ∙ not-false _ (c .before .before .if1 .left) in
+    rw (e, eq-eqb _ _ (c .before .if2 .taken)) (c .list .ensures)
 
 -- src/questions.rt:122:9
 union-of-requires : tie.Need-union-of-requires
 union-of-requires c κs =
-    let e = sym ((c .before .before .before .both .ensures) ∙ ap₂ _&&_ ((c .before .before .before .before .before .within .ensures)) ((c .before .before .before .before .within2 .ensures))) ∙ not-false _ ((c .before .before .if1 .left)) in (and-fst (isPlain ((c .before .before .before .before .before .before .args .l .kind))) (isPlain ((c .before .before .before .before .before .before .args .r .kind))) e, and-snd (isPlain ((c .before .before .before .before .before .before .args .l .kind))) (isPlain ((c .before .before .before .before .before .before .args .r .kind))) e)
+    let b = c .before .before .before in
+    let e = sym (b .both .ensures ∙ ap₂ _&&_ (b .before .before .within .ensures) (b .before .within2 .ensures)) ∙ not-false _ (c .before .before .if1 .left) in
+    let a = b .before .before .before .args in
+    (and-fst (isPlain (a .l .kind)) (isPlain (a .r .kind)) e, and-snd (isPlain (a .l .kind)) (isPlain (a .r .kind)) e)
 
 -- src/questions.rt:122:9
 returns-3 : tie.Need-returns-3
 unfolding answerIn
 returns-3 c =
-    rw (sym ((c .before .before .before .before .both .ensures) ∙ ap₂ _&&_ ((c .before .before .before .before .before .before .within .ensures)) ((c .before .before .before .before .before .within2 .ensures))) ∙ not-false _ ((c .before .before .before .if1 .left)), ne-eqb _ _ ((c .before .before .if2 .left)), eq-eqb _ _ ((c .before .if3 .taken))) ((c .union-of .ensures))
+    let b = c .before .before .before .before in
+    let e = sym (b .both .ensures ∙ ap₂ _&&_ (b .before .before .within .ensures) (b .before .within2 .ensures)) ∙ not-false _ (c .before .before .before .if1 .left) in
+    rw (e, ne-eqb _ _ (c .before .before .if2 .left), eq-eqb _ _ (c .before .if3 .taken)) (c .union-of .ensures)
 
 -- src/questions.rt:124:5
 compare-requires : tie.Need-compare-requires
 compare-requires c κs =
-    let e = sym ((c .before .before .before .both .ensures) ∙ ap₂ _&&_ ((c .before .before .before .before .before .within .ensures)) ((c .before .before .before .before .within2 .ensures))) ∙ not-false _ ((c .before .before .if1 .left)) in (and-fst (isPlain ((c .before .before .before .before .before .before .args .l .kind))) (isPlain ((c .before .before .before .before .before .before .args .r .kind))) e, and-snd (isPlain ((c .before .before .before .before .before .before .args .l .kind))) (isPlain ((c .before .before .before .before .before .before .args .r .kind))) e)
+    let b = c .before .before .before in
+    let e = sym (b .both .ensures ∙ ap₂ _&&_ (b .before .before .within .ensures) (b .before .within2 .ensures)) ∙ not-false _ (c .before .before .if1 .left) in
+    let a = b .before .before .before .args in
+    (and-fst (isPlain (a .l .kind)) (isPlain (a .r .kind)) e, and-snd (isPlain (a .l .kind)) (isPlain (a .r .kind)) e)
 
 -- src/questions.rt:112:1
 returns-4 : tie.Need-returns-4
 unfolding answerIn
 returns-4 c =
-    rw (sym ((c .before .before .before .before .both .ensures) ∙ ap₂ _&&_ ((c .before .before .before .before .before .before .within .ensures)) ((c .before .before .before .before .before .within2 .ensures))) ∙ not-false _ ((c .before .before .before .if1 .left)), ne-eqb _ _ ((c .before .before .if2 .left)), ne-eqb _ _ ((c .before .if3 .left))) ((c .compare .ensures))
+    let b = c .before .before .before .before in
+    let e = sym (b .both .ensures ∙ ap₂ _&&_ (b .before .before .within .ensures) (b .before .within2 .ensures)) ∙ not-false _ (c .before .before .before .if1 .left) in
+    rw (e, ne-eqb _ _ (c .before .before .if2 .left), ne-eqb _ _ (c .before .if3 .left)) (c .compare .ensures)
 
 pub answer-spec : {M : Type 1} → statement M
 answer-spec =

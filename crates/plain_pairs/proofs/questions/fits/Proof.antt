@@ -33,7 +33,11 @@ both-requires c κs = search needs
 -- src/questions.rt:76:9
 returns : tie.Need-returns
 returns c =
-    sym (fitting ((c .before .before .before .before .args .l)) ((c .before .before .before .before .args .r)) ((c .before .before .before .before .pre .0)) ((c .before .before .before .before .pre .1)) ∙ rw (sym ((c .before .both .ensures) ∙ ap₂ _&&_ ((c .before .before .before .is-supported .ensures)) ((c .before .before .is-supported2 .ensures))) ∙ not-true _ ((c .if1 .taken))))
+    let b = c .before in
+    let a = c .before .before .before .before .args in
+    let h = c .before .before .before .before .pre in
+    let e = sym (b .both .ensures ∙ ap₂ _&&_ (b .before .before .is-supported .ensures) (b .before .is-supported2 .ensures)) ∙ not-true _ (c .if1 .taken) in
+    sym (fitting (a .l) (a .r) (h .0) (h .1) ∙ rw e)
 
 -- src/questions.rt:78:29
 with-category-requires : tie.Need-with-category-requires
@@ -50,7 +54,12 @@ is-mixed-requires c κs = search needs
 -- src/questions.rt:71:1
 returns-2 : tie.Need-returns-2
 returns-2 c =
-    sym (fitting ((c .before .before .before .before .before .before .before .args .l)) ((c .before .before .before .before .before .before .before .args .r)) ((c .before .before .before .before .before .before .before .pre .0)) ((c .before .before .before .before .before .before .before .pre .1)) ∙ rw (sym ((c .before .before .before .before .both .ensures) ∙ ap₂ _&&_ ((c .before .before .before .before .before .before .is-supported .ensures)) ((c .before .before .before .before .before .is-supported2 .ensures))) ∙ not-false _ ((c .before .before .before .if1 .left))) (ap not (sym ((c .is-mixed .ensures) ∙ ap (λ (n : ℕ). ltb 1 (ones n)) ((c .before .with-category2 .ensures) ∙ ap (λ (n : ℕ). bitOr n (categoryBit (ownCategory ((c .before .before .before .before .before .before .before .args .r .kind))))) ((c .before .before .with-category .ensures)))))))
+    let b = c .before .before .before .before in
+    let a = c .before .before .before .before .before .before .before .args in
+    let h = c .before .before .before .before .before .before .before .pre in
+    let e = sym (b .both .ensures ∙ ap₂ _&&_ (b .before .before .is-supported .ensures) (b .before .is-supported2 .ensures)) ∙ not-false _ (c .before .before .before .if1 .left) in
+    let bits = c .before .with-category2 .ensures ∙ ap (λ (n : ℕ). bitOr n (categoryBit (ownCategory (a .r .kind)))) (c .before .before .with-category .ensures) in
+    sym (fitting (a .l) (a .r) (h .0) (h .1) ∙ rw e (ap not (sym (c .is-mixed .ensures ∙ ap (λ (n : ℕ). ltb 1 (ones n)) bits))))
 
 pub fits-spec : {M : Type 1} → statement M
 fits-spec =

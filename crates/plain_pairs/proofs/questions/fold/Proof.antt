@@ -20,17 +20,20 @@ nothing-requires c κs = search needs
 returns : tie.Need-returns
 unfolding plainOf
 returns c =
-    (c .nothing .ensures) ∙ sym (ap plainOf (fold-nulls (rulesOf list) ((c .before .before .before .before .before .args .first)) ((c .before .before .before .before .before .args .second)) (eq-eqb _ _ ((c .before .before .before .if1 .taken))) (eq-eqb _ _ ((c .before .if2 .taken)))))
+    let a = c .before .before .before .before .before .args in
+    c .nothing .ensures ∙ sym (ap plainOf (fold-nulls (rulesOf list) (a .first) (a .second) (eq-eqb _ _ (c .before .before .before .if1 .taken)) (eq-eqb _ _ (c .before .if2 .taken))))
 
 -- src/questions.rt:90:9
 returns-2 : tie.Need-returns-2
 returns-2 c =
-    sym (ap plainOf (fold-left (rulesOf list) ((c .before .before .before .before .args .first)) ((c .before .before .before .before .args .second)) (eq-eqb _ _ ((c .before .before .if1 .taken))) (ne-eqb _ _ ((c .if2 .left)))) ∙ back ((c .before .before .before .before .args .second)))
+    let a = c .before .before .before .before .args in
+    sym (ap plainOf (fold-left (rulesOf list) (a .first) (a .second) (eq-eqb _ _ (c .before .before .if1 .taken)) (ne-eqb _ _ (c .if2 .left))) ∙ back (a .second))
 
 -- src/questions.rt:93:9
 returns-3 : tie.Need-returns-3
 returns-3 c =
-    sym (ap plainOf (fold-right (rulesOf list) ((c .before .before .before .before .args .first)) ((c .before .before .before .before .args .second)) (ne-eqb _ _ ((c .before .before .if1 .left))) (eq-eqb _ _ ((c .if3 .taken)))) ∙ back ((c .before .before .before .before .args .first)))
+    let a = c .before .before .before .before .args in
+    sym (ap plainOf (fold-right (rulesOf list) (a .first) (a .second) (ne-eqb _ _ (c .before .before .if1 .left)) (eq-eqb _ _ (c .if3 .taken))) ∙ back (a .first))
 
 -- src/questions.rt:95:5
 step-requires : tie.Need-step-requires
@@ -39,7 +42,8 @@ step-requires c κs = search needs
 -- src/questions.rt:82:1
 returns-4 : tie.Need-returns-4
 returns-4 c =
-    (c .step .ensures) ∙ sym (ap plainOf (fold-both (rulesOf list) ((c .before .before .before .before .before .args .first)) ((c .before .before .before .before .before .args .second)) (ne-eqb _ _ ((c .before .before .before .if1 .left))) (ne-eqb _ _ ((c .before .if3 .left)))))
+    let a = c .before .before .before .before .before .args in
+    c .step .ensures ∙ sym (ap plainOf (fold-both (rulesOf list) (a .first) (a .second) (ne-eqb _ _ (c .before .before .before .if1 .left)) (ne-eqb _ _ (c .before .if3 .left))))
 
 pub fold-spec : {M : Type 1} → statement M
 fold-spec =

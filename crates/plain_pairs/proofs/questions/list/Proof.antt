@@ -21,7 +21,9 @@ same-requires c κs = search needs
 -- src/questions.rt:103:9
 returns : tie.Need-returns
 returns c =
-    sym (ap plainOf (list-equal (rulesOf list) ((c .before .before .args .first)) ((c .before .before .args .second)) (same-type ((c .before .before .args .second)) ((c .before .before .args .first)) ∙ sym ((c .before .same .ensures)) ∙ (c .if1 .taken))) ∙ back ((c .before .before .args .first)))
+    let a = c .before .before .args in
+    let e = same-type (a .second) (a .first) ∙ sym (c .before .same .ensures) ∙ c .if1 .taken in
+    sym (ap plainOf (list-equal (rulesOf list) (a .first) (a .second) e) ∙ back (a .first))
 
 -- src/questions.rt:105:9
 fits-requires : tie.Need-fits-requires
@@ -35,7 +37,10 @@ nothing-requires c κs = search needs
 returns-2 : tie.Need-returns-2
 unfolding plainOf
 returns-2 c =
-    (c .nothing .ensures) ∙ sym (ap plainOf (list-mixed (rulesOf list) ((c .before .before .before .before .before .args .first)) ((c .before .before .before .before .before .args .second)) (same-type ((c .before .before .before .before .before .args .second)) ((c .before .before .before .before .before .args .first)) ∙ sym ((c .before .before .before .before .same .ensures)) ∙ (c .before .before .before .if1 .left)) (sym ((c .before .before .fits2 .ensures)) ∙ not-true _ ((c .before .if2 .taken)))))
+    let a = c .before .before .before .before .before .args in
+    let e = same-type (a .second) (a .first) ∙ sym (c .before .before .before .before .same .ensures) ∙ c .before .before .before .if1 .left in
+    let f = sym (c .before .before .fits2 .ensures) ∙ not-true _ (c .before .if2 .taken) in
+    c .nothing .ensures ∙ sym (ap plainOf (list-mixed (rulesOf list) (a .first) (a .second) e f))
 
 -- src/questions.rt:108:5
 fold-requires : tie.Need-fold-requires
@@ -44,7 +49,10 @@ fold-requires c κs = search needs
 -- src/questions.rt:98:1
 returns-3 : tie.Need-returns-3
 returns-3 c =
-    (c .fold .ensures) ∙ sym (ap plainOf (list-folds (rulesOf list) ((c .before .before .before .before .before .args .first)) ((c .before .before .before .before .before .args .second)) (same-type ((c .before .before .before .before .before .args .second)) ((c .before .before .before .before .before .args .first)) ∙ sym ((c .before .before .before .before .same .ensures)) ∙ (c .before .before .before .if1 .left)) (sym ((c .before .before .fits2 .ensures)) ∙ not-false _ ((c .before .if2 .left)))))
+    let a = c .before .before .before .before .before .args in
+    let e = same-type (a .second) (a .first) ∙ sym (c .before .before .before .before .same .ensures) ∙ c .before .before .before .if1 .left in
+    let f = sym (c .before .before .fits2 .ensures) ∙ not-false _ (c .before .if2 .left) in
+    c .fold .ensures ∙ sym (ap plainOf (list-folds (rulesOf list) (a .first) (a .second) e f))
 
 pub list-spec : {M : Type 1} → statement M
 list-spec =

@@ -1,6 +1,4 @@
-use mathlib.Core.Path.{ap₂, _∙_}
 use Rattle.coercion.specs.Strings.{binaryCoercion}
-use Rattle.plain_pairs.specs.Plain.{firstOf}
 use Rattle.plain_pairs.proofs.Bytes.{kind-back}
 use Rattle.plain_pairs.proofs.Asked.{steps}
 use borrow.Author.Needs.{needs}

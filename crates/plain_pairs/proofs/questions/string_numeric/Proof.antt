@@ -21,7 +21,9 @@ of-side-requires c κs = search needs
 returns : tie.Need-returns
 unfolding typeIn
 returns c =
-    (c .of-side .ensures) ∙ side-back ((c .before .string-numeric-coercion .result)) ((c .before .before .args .l)) ((c .before .before .args .r)) ∙ ap plainOf ((c .before .string-numeric-coercion .ensures) (typeIn ((c .before .before .args .l))) (typeIn ((c .before .before .args .r))) refl refl)
+    let a = c .before .before .args in
+    let s = c .before .string-numeric-coercion in
+    c .of-side .ensures ∙ side-back (s .result) (a .l) (a .r) ∙ ap plainOf (s .ensures (typeIn (a .l)) (typeIn (a .r)) refl refl)
 
 pub string-numeric-spec : {M : Type 1} → statement M
 string-numeric-spec =

@@ -1,5 +1,3 @@
-use mathlib.Core.Path.{ap₂, _∙_}
-use Rattle.plain_pairs.specs.Plain.{firstOf}
 use Rattle.plain_pairs.proofs.Asked.{commons}
 use borrow.Author.Needs.{needs}
 use Rattle.plain_pairs.proofs.rules.common.Statement.{statement}

@@ -20,13 +20,15 @@ nothing-requires c κs = search needs
 -- src/rules.rt:33:1
 returns : tie.Need-returns
 returns c =
-    rw (same-type ((c .before .before .args .l)) ((c .before .before .args .r)) ∙ sym ((c .before .same .ensures)) ∙ (c .if1 .taken)) (sym (back ((c .before .before .args .l))))
+    let a = c .before .before .args in
+    rw (same-type (a .l) (a .r) ∙ sym (c .before .same .ensures) ∙ c .if1 .taken) (sym (back (a .l)))
 
 -- src/rules.rt:33:1
 returns-2 : tie.Need-returns-2
 unfolding plainOf
 returns-2 c =
-    rw (same-type ((c .before .before .before .args .l)) ((c .before .before .before .args .r)) ∙ sym ((c .before .before .same .ensures)) ∙ (c .before .if1 .left)) ((c .nothing .ensures))
+    let a = c .before .before .before .args in
+    rw (same-type (a .l) (a .r) ∙ sym (c .before .before .same .ensures) ∙ c .before .if1 .left) (c .nothing .ensures)
 
 pub equal-spec : {M : Type 1} → statement M
 equal-spec = tie.close (tie.spec same-requires nothing-requires returns returns-2)

@@ -23,7 +23,9 @@ of-side-requires c κs = search needs
 returns : tie.Need-returns
 unfolding typeIn
 returns c =
-    (c .of-side .ensures) ∙ side-back ((c .before .null-coercion .result)) ((c .before .before .args .l)) ((c .before .before .args .r)) ∙ ap plainOf ((c .before .null-coercion .ensures) (typeIn ((c .before .before .args .l))) (typeIn ((c .before .before .args .r))) refl refl)
+    let a = c .before .before .args in
+    let s = c .before .null-coercion in
+    c .of-side .ensures ∙ side-back (s .result) (a .l) (a .r) ∙ ap plainOf (s .ensures (typeIn (a .l)) (typeIn (a .r)) refl refl)
 
 pub null-spec : {M : Type 1} → statement M
 null-spec = tie.close (tie.spec null-coercion-requires of-side-requires returns)

@@ -1,5 +1,4 @@
-use mathlib.Core.Path.{ap, ap₂, _∙_}
-use Rattle.plain_pairs.specs.Plain.{ofFigures, figuresOf}
+use Rattle.plain_pairs.specs.Plain.{figuresOf}
 use Rattle.plain_pairs.specs.Typed.{typeIn}
 use Rattle.plain_pairs.proofs.Bytes.{figures-back}
 use Rattle.coercion.specs.Numbers.{binaryNumericCoercion}
@@ -32,7 +31,8 @@ of-common-requires c κs = search needs
 returns : tie.Need-returns
 unfolding typeIn
 returns c =
-    (c .of-common .ensures) ∙ ap ofFigures ((c .before .binary-numeric-coercion .ensures) ∙ ap₂ binaryNumericCoercion ((c .before .before .before .figures .ensures)) ((c .before .before .figures2 .ensures))) ∙ figures-back (binaryNumericCoercion (figuresOf ((c .before .before .before .before .args .l))) (figuresOf ((c .before .before .before .before .args .r))))
+    let a = c .before .before .before .before .args in
+    cc (figures-back (binaryNumericCoercion (figuresOf (a .l)) (figuresOf (a .r))))
 
 pub numeric-spec : {M : Type 1} → statement M
 numeric-spec =

@@ -21,7 +21,9 @@ of-moment-requires c κs = search needs
 returns : tie.Need-returns
 unfolding typeIn
 returns c =
-    (c .of-moment .ensures) ∙ moment-back ((c .before .string-temporal-coercion .result)) ((c .before .before .args .l)) ((c .before .before .args .r)) ((c .before .string-temporal-coercion .ensures) (typeIn ((c .before .before .args .l))) (typeIn ((c .before .before .args .r))) refl refl refl refl)
+    let a = c .before .before .args in
+    let m = c .before .string-temporal-coercion in
+    c .of-moment .ensures ∙ moment-back (m .result) (a .l) (a .r) (m .ensures (typeIn (a .l)) (typeIn (a .r)) refl refl refl refl)
 
 pub string-temporal-spec : {M : Type 1} → statement M
 string-temporal-spec =

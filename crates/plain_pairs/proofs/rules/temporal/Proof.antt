@@ -1,5 +1,4 @@
-use mathlib.Core.Path.{ap, ap₂, sym, _∙_}
-use Rattle.plain_pairs.specs.Plain.{timestampIn, ofFigures}
+use mathlib.Core.Path.{sym, _∙_}
 use Rattle.plain_pairs.proofs.Bytes.{stamps, no-stamps}
 use borrow.Author.Needs.{needs}
 use Rattle.plain_pairs.proofs.rules.temporal.Statement.{statement}
@@ -32,7 +31,8 @@ timestamp-requires c κs = search needs
 -- src/rules.rt:56:9
 returns : tie.Need-returns
 returns c =
-    (c .timestamp .ensures) ∙ ap₂ timestampIn ((c .before .before .timeunit-coercion .ensures)) ((c .before .either-zone .ensures)) ∙ stamps ((c .before .before .before .before .before .before .before .args .l)) ((c .before .before .before .before .before .before .before .args .r)) (sym ((c .before .before .before .before .both .ensures)) ∙ (c .before .before .before .if1 .taken))
+    let a = c .before .before .before .before .before .before .before .args in
+    cc (stamps (a .l) (a .r) (sym (c .before .before .before .before .both .ensures) ∙ c .before .before .before .if1 .taken))
 
 -- src/rules.rt:61:15
 temporal-coercion-requires : tie.Need-temporal-coercion-requires
@@ -45,7 +45,8 @@ of-common-requires c κs = search needs
 -- src/rules.rt:52:1
 returns-2 : tie.Need-returns-2
 returns-2 c =
-    (c .of-common .ensures) ∙ ap ofFigures ((c .before .temporal-coercion .ensures)) ∙ no-stamps ((c .before .before .before .before .before .before .args .l)) ((c .before .before .before .before .before .before .args .r)) (sym ((c .before .before .before .both .ensures)) ∙ (c .before .before .if1 .left))
+    let a = c .before .before .before .before .before .before .args in
+    cc (no-stamps (a .l) (a .r) (sym (c .before .before .before .both .ensures) ∙ c .before .before .if1 .left))
 
 pub temporal-spec : {M : Type 1} → statement M
 temporal-spec =
