@@ -17,7 +17,7 @@ least : (lo hi k : ℕ) → between lo hi k ≡ true → lo ≤ k
 unfolding between
 least lo hi k h = leb-true lo k (and-fst (leb lo k) (leb k hi) h)
 
-above : (lo hi k : ℕ) → hi < k → between lo hi k ≡ false
+pub above : (lo hi k : ℕ) → hi < k → between lo hi k ≡ false
 unfolding between
 above lo hi k h = rw (lt-leb k hi h) (go (leb lo k))
   where

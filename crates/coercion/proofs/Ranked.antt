@@ -126,7 +126,7 @@ pub timestamps-lawful : Lawful timestampAt max 4 dateTime
 timestamps-lawful = tabled .timestamps
 
 -- a kind from lo to hi is one of the numbers from lo on
-kind-from : (lo hi k : ℕ) → between lo hi k ≡ true → (lo ≤ k) × (k ≤ hi)
+pub kind-from : (lo hi k : ℕ) → between lo hi k ≡ true → (lo ≤ k) × (k ≤ hi)
 unfolding between
 kind-from lo hi k h = (leb-true lo k (and-fst (leb lo k) (leb k hi) h), leb-true k hi (and-snd (leb lo k) (leb k hi) h))
 

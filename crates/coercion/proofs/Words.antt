@@ -279,7 +279,7 @@ map-kept coerce l r t h a =
     let k = entry-kept (l .parts) (e .both) a in
     (ap (λ (s : Shape). s .sorted) (e .shape), ap namesOf (e .parts) ∙ k .0, ap nullsOf (e .parts) ∙ k .1)
 
-or-none : (o : Option DataType) → orElse o none ≡ o
+pub or-none : (o : Option DataType) → orElse o none ≡ o
 or-none none = refl
 or-none (some t) = refl
 

@@ -7,9 +7,11 @@ use Prim.Native.Nat.{ℕ, zero, suc, _+_, _*_, _-_, _<_, _≤_}
 use native.Mathlib.Omega.{arith}
 use lib.ListN.{length, length-append}
 use Rattle.sheet.specs.Types.{Shape, Fields, end, field, count, ownLabels, labels}
+use Rattle.sheet.specs.Names.{namesDiffer}
 use Rattle.sheet.specs.Head.{headAt}
 use Rattle.sheet.specs.Holds.{Stands, Holds}
 use Rattle.sheet.specs.declared.Head.{Head}
+use Rattle.sheet.proofs.Tests.{all-at}
 use Rattle.merge.specs.Source.{Source}
 use Rattle.merge.specs.Writes.{side}
 use Rattle.merge.specs.Region.{Room, region, Kept, Held, Inside, Grows, Short, Wrote, CopiedRecord, ChainMeans, CopiedChain}
@@ -40,10 +42,22 @@ labels-sum name nullable shape parts rest =
 module _ {space : Space} {s : List ℕ} {floor link r o up : ℕ} {name : List ℕ} {nullable : Bool} {shape : Shape} {parts rest : Fields}
     (a : Held space s floor link r o up (field name nullable shape parts rest)) (h : Head) (e : h ≡ headAt s link) where
   pub held-first : Held space s link (h .first) (r + 1) (o + length (ownLabels name shape)) (shape .kind) parts
-  held-first = record { source = source-first (a .source) h e; low = omega (arith, a .low, labels-sum name nullable shape parts rest) }
+  unfolding namesDiffer
+  held-first =
+      record {
+        source = source-first (a .source) h e;
+        low = omega (arith, a .low, labels-sum name nullable shape parts rest);
+        differ = all-at _ 1 (a .differ);
+      }
 
   pub held-next : Held space s link (h .next) (r + 1 + count parts) (o + length (ownLabels name shape) + length (labels parts)) up rest
-  held-next = record { source = source-next (a .source) h e; low = omega (arith, a .low, labels-sum name nullable shape parts rest) }
+  unfolding namesDiffer
+  held-next =
+      record {
+        source = source-next (a .source) h e;
+        low = omega (arith, a .low, labels-sum name nullable shape parts rest);
+        differ = all-at _ 2 (a .differ);
+      }
 
 module _ (space : Space) (s : List ℕ) (swap : Bool) (link : ℕ) (to : Spot) where
   pub chain-none : (w : List ℕ) → Inside space to → link ≡ 0 → CopiedChain space (side swap s w) w w link to (Done to)

@@ -100,6 +100,7 @@ held-frame space w v at label floor link r o up t half k a =
             short = a .source .short;
           };
       low = a .low;
+      differ = a .differ;
     }
 
 -- what was written in the second half stays where later writes begin after it

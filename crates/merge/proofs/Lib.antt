@@ -6,3 +6,16 @@ pub mod Copying
 pub mod Chained
 pub mod Laying
 pub mod Tying
+pub mod Merging
+pub mod Joining
+pub mod Fielding
+pub mod Stamping
+pub mod Naming
+pub mod Rows
+pub mod Orders
+pub mod Steps
+pub mod Asking
+pub mod Turning
+pub mod Structs
+pub mod Parents
+pub mod Rewrapping

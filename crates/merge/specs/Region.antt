@@ -8,6 +8,7 @@ use lib.ListN.{length, getD, take, drop}
 use lib.Dec.{ltb, eqb}
 use Rattle.sheet.specs.Types.{Fields, end, field, count, labels}
 use Rattle.sheet.specs.Types.{Shape, zoneBytes, ownLabels}
+use Rattle.sheet.specs.Names.{namesDiffer}
 use Rattle.sheet.specs.Encode.{linkTo, bit}
 use Rattle.sheet.specs.Holds.{Span, Stands, Holds}
 use Rattle.merge.specs.Source.{Source}
@@ -42,6 +43,7 @@ pub record Kept (space : Space) (w v : List ℕ) (at label : ℕ) : Type 0 where
 pub record Held (space : Space) (s : List ℕ) (floor link r o up : ℕ) (t : Fields) : Type 0 where
   pub source : Source s (space .n) floor link r o up t
   pub low : o + length (labels t) ≤ space .m
+  pub differ : namesDiffer t ≡ true
 
 -- a place in the destination that is within its room
 pub record Inside (space : Space) (to : Spot) : Type 0 where

@@ -12,6 +12,7 @@ ghost use Rattle.sheet.specs.Read.{labelAt, zoneOf, shapeOf};
 ghost use Rattle.sheet.specs.Names.{sameBytes};
 ghost use Rattle.sheet.specs.Bounds.{Bounded};
 ghost use Rattle.coercion.specs.Same.{sameZone, sameShape, sameFields};
+ghost use Rattle.merge.specs.Writes.{side};
 ghost use Rattle.merge.specs.Source.{Source, SameTypes};
 use sheet::Head;
 use sheet::figure::size_in;
@@ -48,7 +49,7 @@ fn implied(a: bool, b: bool) -> bool
     if a { b } else { true }
 }
 
-fn is_zoned(h: Head) -> bool
+pub(crate) fn is_zoned(h: Head) -> bool
     ensures { λ r. ⌜ r ≡ zonedIn h ⌝ }
 {
     h.flags / 4 % 2 == 1
@@ -141,15 +142,7 @@ pub(crate) fn same_fields(
 }
 
 // Whether the type of record i of a is that of record j of b.
-pub(crate) fn same_type(
-    a: &[u8],
-    n: usize,
-    i: usize,
-    b: &[u8],
-    m: usize,
-    j: usize,
-    named: bool,
-) -> bool
+pub fn same_type(a: &[u8], n: usize, i: usize, b: &[u8], m: usize, j: usize, named: bool) -> bool
     requires { ⌜ (n < 65536) × (m < 65536) ⌝ }
     ensures { λ e. ⌜ SameTypes (now (a .entry)) n i (now (b .entry)) m j named e ⌝ }
 {
@@ -159,5 +152,25 @@ pub(crate) fn same_type(
         same_fields(a, n, i, g.first, b, m, h.first, named)
     } else {
         false
+    }
+}
+
+// Whether the type of record l of a side is that of record r of the other.
+pub(crate) fn same_sides(
+    sheet: &[u8],
+    work: &[u8],
+    n: usize,
+    swap: bool,
+    l: usize,
+    r: usize,
+    named: bool,
+) -> bool
+    requires { ⌜ n < 65536 ⌝ }
+    ensures { λ e. ⌜ SameTypes (side swap (now (sheet .entry)) (now (work .entry))) n l (side (not swap) (now (sheet .entry)) (now (work .entry))) n r named e ⌝ }
+{
+    if swap {
+        same_type(work, n, l, sheet, n, r, named)
+    } else {
+        same_type(sheet, n, l, work, n, r, named)
     }
 }

@@ -135,7 +135,7 @@ pub(crate) fn copy_head(
     })
 }
 
-fn is_nullable(h: Head) -> bool
+pub(crate) fn is_nullable(h: Head) -> bool
     ensures { λ r. ⌜ r ≡ nullableIn h ⌝ }
 {
     h.flags % 2 == 1

@@ -21,6 +21,21 @@ pub(crate) fn look(sheet: &[u8], work: &[u8], swap: bool, r: usize) -> Head
     }
 }
 
+// The kind of record r of a side.
+pub(crate) fn kind_at(sheet: &[u8], work: &[u8], swap: bool, r: usize) -> u8
+    ensures { λ k. ⌜ k ≡ headAt (side swap (now (sheet .entry)) (now (work .entry))) r .kind ⌝ }
+{
+    look(sheet, work, swap, r).kind
+}
+
+// The record of the second part of record r of a side.
+pub(crate) fn value_at(sheet: &[u8], work: &[u8], swap: bool, r: usize) -> usize
+    ensures { λ v. ⌜ v ≡ headAt (side swap (now (sheet .entry)) (now (work .entry))) (headAt (side swap (now (sheet .entry)) (now (work .entry))) r .first) .next ⌝ }
+{
+    let first = look(sheet, work, swap, r).first;
+    look(sheet, work, swap, first).next
+}
+
 // Puts bytes into a buffer, from at on.
 pub(crate) fn put(work: &mut [u8], at: usize, bytes: &[u8])
     requires { ⌜ at + length (now bytes) ≤ length (now work) ⌝ }

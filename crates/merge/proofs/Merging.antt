@@ -1,0 +1,158 @@
+-- Two types that were merged, by one rule and by another. Assumes nothing.
+use mathlib.Core.Path.{_≡_, refl, ap, sym, subst, subst₂, _∙_}
+use mathlib.Core.Bool.{Bool, true, false, not}
+use mathlib.Core.List.{List, [], _++_}
+use mathlib.Core.Logic.{_⊎_, inl, inr, ⊎-elim}
+use mathlib.Core.Option.{Option, none, some}
+use Prim.Native.Nat.{ℕ, _+_, _*_, _<_, _≤_}
+use native.Mathlib.Omega.{arith}
+use lib.ListN.{length, length-append}
+use Rattle.sheet.specs.Types.{Shape, Fields, end, field, count, zoneBytes, labels}
+use Rattle.sheet.specs.Names.{namesDiffer}
+use Rattle.sheet.specs.Encode.{linkTo, headOf}
+use Rattle.sheet.specs.Head.{headAt}
+use Rattle.sheet.specs.declared.Head.{Head}
+use Rattle.sheet.proofs.Repeating.{head-is}
+use Rattle.coercion.specs.Data.{DataType, Rules, size, single}
+use Rattle.coercion.specs.Answers.{coercion}
+use Rattle.coercion.proofs.Shorter.{coercion-smaller, coercion-shorter}
+use Rattle.sheet.proofs.Tests.{all-at, all-cons, all-nil}
+use Rattle.coercion.specs.Same.{sameType}
+use Rattle.merge.specs.Source.{Source, SameTypes}
+use Rattle.merge.specs.Writes.{side}
+use Rattle.merge.specs.Region.{Room, Kept, Held, Inside, Ready, Wrote}
+use Rattle.merge.specs.Goal.{letters, NoRoom, Means, Writes, CopiedType}
+use Rattle.merge.specs.Merge.{Chain, Typed, Merges}
+use Rattle.merge.specs.declared.Space.{Space}
+use Rattle.merge.specs.declared.Goal.{Goal}
+use Rattle.merge.specs.declared.Out.{Out}
+use Rattle.merge.specs.declared.Out.the-variants.{Done, No, Full}
+use Rattle.merge.proofs.Sources.{source-lower, read-nullable}
+use Rattle.merge.proofs.Frames.{kept-self}
+use Rattle.merge.proofs.Copying.{held-side}
+use Rattle.merge.proofs.Chained.{held-first}
+use Rattle.merge.proofs.Laying.{no-record}
+
+-- what a source holds stays while the second half is written
+pub chain-side : (swap : Bool) (space : Space) (s w v : List ℕ) (at label : ℕ) {link : ℕ} {t : Fields} → Room w space → Kept space w v at label → Chain space (side swap s w) link t
+    → Chain space (side swap s v) link t
+chain-side swap space s w v at label room k a =
+    record { floor = a .floor; at = a .at; label = a .label; up = a .up; held = held-side swap space s w v at label (room .half) k (a .held) }
+
+pub typed-side : (swap : Bool) (space : Space) (s w v : List ℕ) (at label : ℕ) {link : ℕ} {t : DataType} → Room w space → Kept space w v at label → Typed space (side swap s w) link t
+    → Typed space (side swap s v) link t
+typed-side swap space s w v at label room k a =
+    record { name = a .name; nullable = a .nullable; rest = a .rest; chain = chain-side swap space s w v at label room k (a .chain) }
+
+module _ {space : Space} {s : List ℕ} {link : ℕ} {name : List ℕ} {nullable : Bool} {shape : Shape} {parts rest : Fields} (h : Head) (e : h ≡ headAt s link)
+    (a : Chain space s link (field name nullable shape parts rest)) where
+  pub chain-first : Chain space s (h .first) parts
+  chain-first = record { floor = link; at = _; label = _; up = _; held = held-first (a .held) h e }
+
+-- the kind of a type
+pub typed-kind : {space : Space} {s : List ℕ} {link : ℕ} {t : DataType} (h : Head) → h ≡ headAt s link → Typed space s link t → h .kind ≡ t .shape .kind
+typed-kind {space} {s} {link} {t} h e a =
+    let c = a .chain in
+    ap (λ (x : Head). x .kind) (head-is s (space .n) (c .floor) link (c .at) (c .label) (a .name) (a .nullable) (t .shape) (t .parts) (a .rest) (c .held .source .leads) h e)
+
+-- two types that were compared
+pub typed-same : {space : Space} {s t : List ℕ} {i j : ℕ} (named : Bool) {e : Bool} {x y : DataType} → SameTypes s (space .n) i t (space .n) j named e → Typed space s i x → Typed space t j y
+    → e ≡ sameType named x y
+typed-same named f a b =
+    f _ _ _ _ _ _ _ _ _ _ _ _ _ _ _ _ (source-lower 0 (omega arith) (a .chain .held .source)) (source-lower 0 (omega arith) (b .chain .held .source))
+
+-- the sides of a pair, the other way round
+pub side-twice : (swap : Bool) (s w : List ℕ) → side (not (not swap)) s w ≡ side swap s w
+side-twice true s w = refl
+side-twice false s w = refl
+
+-- the same meaning, for more room
+pub means-for : (space : Space) (w v : List ℕ) (g : Goal) {z y : ℕ} (z′ y′ : ℕ) (o : Out) {m m′ : Option DataType} → z ≤ z′ → y ≤ y′ → m ≡ m′ → Means space w v g z y o m
+    → Means space w v g z′ y′ o m′
+means-for space w v g z′ y′ (Done d) {m = none} p q e a = absurd a
+means-for space w v g z′ y′ (Done d) {m = some t} p q e a = subst (Means space w v g z′ y′ (Done d)) e a
+means-for space w v g z′ y′ No {m = none} p q e a = subst (Means space w v g z′ y′ No) e tt
+means-for space w v g z′ y′ No {m = some t} p q e a = absurd a
+means-for space w v g z′ y′ Full p q e a = ⊎-elim (λ h. inl (omega arith)) (λ h. inr (omega arith)) a
+
+module _ {A : DataType → DataType → Option DataType} (B : DataType → DataType → Option DataType) (space : Space) (swap : Bool) (s w v : List ℕ) (l r : ℕ) (g : Goal) (o : Out) where
+  -- a rule that says the same of the types at hand
+  pub merges-as : {left : ℕ} (left′ : ℕ) → left′ ≤ left
+      → ((x y : DataType) → Typed space (side swap s w) l x → Typed space (side (not swap) s w) r y → A x y ≡ B x y)
+      → Merges A space left swap s w v l r g o → Merges B space left′ swap s w v l r g o
+  merges-as left′ h f m =
+      record {
+        writes = m .writes;
+        means = λ x y a b q. means-for space w v g (size x + size y) (letters x + letters y) o (omega arith) (omega arith) (f x y a b) (m .means x y a b (omega arith));
+      }
+
+  -- the sides exchanged
+  pub merges-swapped : (left : ℕ) → ((x y : DataType) → Typed space (side swap s w) l x → Typed space (side (not swap) s w) r y → A y x ≡ B x y)
+      → Merges A space left (not swap) s w v r l g o → Merges B space left swap s w v l r g o
+  merges-swapped left f m =
+      record {
+        writes = m .writes;
+        means =
+            λ x y a b q.
+            means-for space w v g (size x + size y) (letters x + letters y) o (omega arith) (omega arith) (f x y a b)
+            (m .means y x b (subst (λ (u : List ℕ). Typed space u l x) (sym (side-twice swap s w)) a) (omega arith));
+      }
+
+module _ (B : DataType → DataType → Option DataType) (space : Space) (left : ℕ) (swap : Bool) (s w : List ℕ) (l r : ℕ) (g : Goal) where
+  -- the left type as it is
+  pub merges-left : (v : List ℕ) (o : Out) → ((x y : DataType) → Typed space (side swap s w) l x → Typed space (side (not swap) s w) r y → some x ≡ B x y)
+      → CopiedType space (side swap s w) w v l g o → Merges B space left swap s w v l r g o
+  merges-left v o f c =
+      record {
+        writes = c .writes;
+        means =
+            λ x y a b q.
+            means-for space w v g (size x + size y) (letters x + letters y) o (omega arith) (omega arith) (f x y a b)
+            (c .means (a .chain .floor) (a .chain .at) (a .chain .label) (a .chain .up) (a .name) (a .nullable) (x .shape) (x .parts) (a .rest) (a .chain .held));
+      }
+
+  -- the right type as it is
+  pub merges-right : (v : List ℕ) (o : Out) → ((x y : DataType) → Typed space (side swap s w) l x → Typed space (side (not swap) s w) r y → some y ≡ B x y)
+      → CopiedType space (side (not swap) s w) w v r g o → Merges B space left swap s w v l r g o
+  merges-right v o f c =
+      record {
+        writes = c .writes;
+        means =
+            λ x y a b q.
+            means-for space w v g (size x + size y) (letters x + letters y) o (omega arith) (omega arith) (f x y a b)
+            (c .means (b .chain .floor) (b .chain .at) (b .chain .label) (b .chain .up) (b .name) (b .nullable) (y .shape) (y .parts) (b .rest) (b .chain .held));
+      }
+
+  -- no common type
+  pub merges-none : ((x y : DataType) → Typed space (side swap s w) l x → Typed space (side (not swap) s w) r y → size x + size y ≤ left → none ≡ B x y)
+      → Merges B space left swap s w w l r g No
+  merges-none f =
+      record {
+        writes = record { kept = kept-self w (g .at) (g .label + g .nlen); passes = tt };
+        means = λ x y a b q. subst (Means space w w g (size x + size y) (letters x + letters y) No) (f x y a b q) tt;
+      }
+
+  -- no room for a record
+  pub merges-full : space .n ≤ g .at → Merges B space left swap s w w l r g Full
+  merges-full h = record { writes = no-record space w g h; means = λ x y a b q. inl (omega arith) }
+
+-- a link to a field is not 0
+pub chain-some : {space : Space} {s : List ℕ} {link : ℕ} {name : List ℕ} {nullable : Bool} {shape : Shape} {parts rest : Fields} → Chain space s link (field name nullable shape parts rest) → 0 < link
+chain-some a = omega (arith, a .held .source .leads .is, a .held .source .leads .above)
+
+-- names within a type differ
+type-differ : {space : Space} {s : List ℕ} {link : ℕ} (t : DataType) → Typed space s link t → namesDiffer (single t) ≡ true
+unfolding namesDiffer
+type-differ t a = let d = a .chain .held .differ in all-cons _ (all-at _ 0 d) (all-cons _ (all-at _ 1 d) (all-cons _ refl all-nil))
+
+single-letters : (t : DataType) → length (labels (single t)) ≡ letters t
+unfolding labels
+single-letters t = length-append (zoneBytes (t .shape .zone)) (labels (t .parts) ++ []) ∙ ap (λ (k : ℕ). length (zoneBytes (t .shape .zone)) + k) (length-append (labels (t .parts)) [] ∙ omega arith)
+
+-- the common type takes no more than both
+pub common-fits : {space : Space} {s u : List ℕ} {i j : ℕ} (rules : Rules) {x y : DataType} (t : DataType) → Typed space s i x → Typed space u j y → coercion rules x y ≡ some t
+    → (size t ≤ size x + size y) × (letters t ≤ letters x + letters y)
+common-fits rules {x} {y} t a b e =
+    let p = coercion-smaller rules x y t (type-differ x a) (type-differ y b) e in
+    let q = coercion-shorter rules x y t (type-differ x a) (type-differ y b) e in
+    (omega arith, omega (arith, single-letters t, single-letters x, single-letters y))

@@ -1,0 +1,150 @@
+-- Two structs that were merged, by name or by place. Assumes nothing.
+use mathlib.Core.Path.{_≡_, refl, ap, ap₂, sym, _∙_}
+use mathlib.Core.Bool.{Bool, true, false, not, _&&_}
+use mathlib.Core.List.{List}
+use mathlib.Core.Option.{Option, none, some}
+use Prim.Native.Nat.{ℕ, _+_, _<_}
+use native.Mathlib.Omega.{arith}
+use lib.Dec.{eqb}
+use borrow.Author.Tests.{eq-eqb, eqb-true, not-true}
+use Rattle.sheet.specs.Types.{Fields, end, arity, count, labels}
+use Rattle.sheet.specs.Head.{headAt}
+use Rattle.sheet.specs.Names.{repeats, namesDiffer}
+use Rattle.sheet.specs.declared.Head.{Head}
+use Rattle.sheet.proofs.Tests.{all-at, and-fst, and-snd}
+use Rattle.coercion.specs.Data.{DataType, size}
+use Rattle.coercion.specs.Wrappers.{isOf}
+use Rattle.coercion.specs.Nested.{joinFields, byName, fieldsHaveSameNames, partners, listOf, structOf, structCoercion}
+use Rattle.coercion.specs.Answers.{listStruct}
+use Rattle.merge.specs.Writes.{side}
+use Rattle.merge.specs.Goal.{letters, shapeFor}
+use Rattle.merge.specs.Merge.{Chain, Typed, Merges, Under}
+use Rattle.merge.specs.declared.Space.{Space}
+use Rattle.merge.specs.declared.Goal.{Goal}
+use Rattle.merge.specs.declared.Out.{Out}
+use Rattle.merge.specs.declared.Out.the-variants.{No}
+use Rattle.merge.specs.declared.Feed.the-variants as Feed
+use Rattle.merge.proofs.Chained.{held-first}
+use Rattle.merge.proofs.Merging.{chain-first, means-for, merges-none}
+use Rattle.merge.proofs.Naming.{Asks, sameArity, names-found, names-missing, by-name-fits}
+use Rattle.merge.proofs.Fielding.{typed-reads}
+
+-- a chain of nothing, at link 0
+pub chain-nothing : (space : Space) (s : List ℕ) → 0 < space .n → Chain space s 0 end
+unfolding count labels namesDiffer
+chain-nothing space s h =
+    record {
+      floor = 0;
+      at = 1;
+      label = 0;
+      up = 0;
+      held =
+          record {
+            source = record { leads = record { holds = tt; is = refl; above = omega arith; inside = omega arith }; right = tt; short = omega arith };
+            low = omega arith;
+            differ = refl;
+          };
+    }
+
+-- the names of a Struct's fields differ
+pub struct-differ : {space : Space} {s : List ℕ} {link : ℕ} {t : DataType} → t .shape .kind ≡ 35 → Typed space s link t → repeats (t .parts) ≡ false
+unfolding namesDiffer
+struct-differ {t = t} e a =
+    not-true (repeats (t .parts)) (rw (eq-eqb (t .shape .kind) 35 e) at (all-at _ 0 (a .chain .held .differ)))
+
+struct-list : (o : Option Fields) → listOf (shapeFor 35 0 0 0 false) o ≡ structOf o
+struct-list none = refl
+struct-list (some fields) = refl
+
+-- two Structs of one arity whose fields have the same names
+struct-by-name : (c : DataType → DataType → Option DataType) (X Y : DataType) (tf : Fields) → (isOf 35 X && (isOf 35 Y && eqb (arity (X .parts)) (arity (Y .parts)))) ≡ true
+    → fieldsHaveSameNames (X .parts) (Y .parts) ≡ true → byName (X .parts) (Y .parts) ≡ some tf
+    → listOf (shapeFor 35 0 0 0 false) (joinFields c (X .parts) tf tf) ≡ structCoercion c X Y
+unfolding structCoercion partners
+struct-by-name c X Y tf k n f = struct-list (joinFields c (X .parts) tf tf) ∙ rw k (rw n (rw f refl))
+
+-- the parts of two types, and what was asked of them
+module _ (c : DataType → DataType → Option DataType) (space : Space) (left : ℕ) (swap : Bool) (s w : List ℕ) (l r : ℕ) (g : Goal) (x y : Head)
+    (ex : x ≡ headAt (side swap s w) l) (ey : y ≡ headAt (side (not swap) s w) r) {alike : Bool}
+    (fa : Asks sameArity space (side swap s w) (side (not swap) s w) l (x .first) (y .first) alike) where
+  module _ {X Y : DataType} (a : Typed space (side swap s w) l X) (b : Typed space (side (not swap) s w) r Y) where
+    arities : alike ≡ eqb (arity (X .parts)) (arity (Y .parts))
+    arities = fa _ _ _ (X .parts) (Y .parts) (held-first (a .chain .held) x ex) (chain-first y ey (b .chain))
+
+    kinds : (isOf 35 X && (isOf 35 Y && eqb (arity (X .parts)) (arity (Y .parts)))) ≡ ((eqb (x .kind) 35 && eqb (y .kind) 35) && alike)
+    kinds =
+        ap₂ (λ (i j : ℕ). eqb i 35 && (eqb j 35 && eqb (arity (X .parts)) (arity (Y .parts)))) (typed-reads a ex .kind) (typed-reads b ey .kind)
+        ∙ ap (λ (t : Bool). eqb (x .kind) 35 && (eqb (y .kind) 35 && t)) (sym arities) ∙ and-assoc (eqb (x .kind) 35) (eqb (y .kind) 35) alike
+      where
+        and-assoc : (i j k : Bool) → (i && (j && k)) ≡ ((i && j) && k)
+        and-assoc true j k = refl
+        and-assoc false j k = refl
+
+    left-kind : ((eqb (x .kind) 35 && eqb (y .kind) 35) && alike) ≡ true → X .shape .kind ≡ 35
+    left-kind h = typed-reads a ex .kind ∙ eqb-true (x .kind) 35 (and-fst _ (eqb (y .kind) 35) (and-fst _ alike h))
+
+  -- no common type
+  pub struct-none : ((eqb (x .kind) 35 && eqb (y .kind) 35) && alike) ≡ false → Merges (structCoercion c) space (left + 1) swap s w w l r g No
+  unfolding structCoercion
+  struct-none h = merges-none (structCoercion c) space (left + 1) swap s w l r g (λ X Y a b q. rw (kinds a b ∙ h) refl)
+
+  module _ {named : Bool} (fn : Asks fieldsHaveSameNames space (side swap s w) (side (not swap) s w) l (x .first) (y .first) named) where
+    names : {X Y : DataType} → Typed space (side swap s w) l X → Typed space (side (not swap) s w) r Y → named ≡ fieldsHaveSameNames (X .parts) (Y .parts)
+    names {X} {Y} a b = fn _ _ _ (X .parts) (Y .parts) (held-first (a .chain .held) x ex) (chain-first y ey (b .chain))
+
+    module _ (h : ((eqb (x .kind) 35 && eqb (y .kind) 35) && alike) ≡ true) (v : List ℕ) (o : Out) where
+      pub struct-named : named ≡ true → 0 < space .n → Under c space left swap s w v Feed.Name (shapeFor 35 0 0 0 false) (x .first) (y .first) 0 g o
+          → Merges (structCoercion c) space (left + 1) swap s w v l r g o
+      struct-named e full u =
+          record {
+            writes = u .writes;
+            means =
+                λ X Y a b q.
+                let n = sym (names a b) ∙ e in
+                let f = names-found (X .parts) (Y .parts) n in
+                let right = chain-first y ey (b .chain) in
+                let fits = by-name-fits (X .parts) (Y .parts) (f .fields) (struct-differ (left-kind a b h) a) (right .held .differ) (f .is) in
+                means-for space w v g (size X + size Y) (letters X + letters Y) o (omega (arith, fits .0)) (omega (arith, fits .1))
+                (struct-by-name c X Y (f .fields) (kinds a b ∙ h) n (f .is))
+                (u .means (X .parts) (Y .parts) end (f .fields) (f .fields) (chain-first x ex (a .chain)) right (chain-nothing space (side (not swap) s w) full) (f .is, (refl, refl))
+                (omega (arith, fits .0)));
+          }
+
+      pub struct-placed : named ≡ false → Under c space left swap s w v Feed.Place (shapeFor 35 0 0 0 false) (x .first) (y .first) (y .first) g o
+          → Merges (structCoercion c) space (left + 1) swap s w v l r g o
+      unfolding structCoercion partners
+      struct-placed e u =
+          record {
+            writes = u .writes;
+            means =
+                λ X Y a b q.
+                let n = sym (names a b) ∙ e in
+                let right = chain-first y ey (b .chain) in
+                means-for space w v g (size X + size Y) (letters X + letters Y) o (omega arith) (omega arith)
+                (struct-list (joinFields c (X .parts) (Y .parts) (Y .parts)) ∙ rw (kinds a b ∙ h) (rw n refl))
+                (u .means (X .parts) (Y .parts) (Y .parts) (Y .parts) (Y .parts) (chain-first x ex (a .chain)) right right (refl, refl) (omega arith));
+          }
+
+    -- two structs of a list
+    pub listed-none : (alike && named) ≡ false → Merges (listStruct c) space (left + 1) swap s w w l r g No
+    listed-none h = merges-none (listStruct c) space (left + 1) swap s w l r g (λ X Y a b q. go alike refl X Y a b)
+      where
+        go : (t : Bool) → alike ≡ t → (X Y : DataType) → Typed space (side swap s w) l X → Typed space (side (not swap) s w) r Y → none ≡ listStruct c X Y
+        go true e X Y a b = rw (sym (arities a b) ∙ e) (rw (names-missing (X .parts) (Y .parts) (sym (names a b) ∙ rw e at h)) refl)
+        go false e X Y a b = rw (sym (arities a b) ∙ e) refl
+
+    pub listed-merged : (alike && named) ≡ true → headAt (side swap s w) l .kind ≡ 35 → (v : List ℕ) (o : Out)
+        → Under c space left swap s w v Feed.NameThenPlace (shapeFor 35 0 0 0 false) (x .first) (y .first) (y .first) g o → Merges (listStruct c) space (left + 1) swap s w v l r g o
+    listed-merged h k v o u =
+        record {
+          writes = u .writes;
+          means =
+              λ X Y a b q.
+              let n = sym (names a b) ∙ and-snd alike named h in
+              let f = names-found (X .parts) (Y .parts) n in
+              let right = chain-first y ey (b .chain) in
+              let fits = by-name-fits (X .parts) (Y .parts) (f .fields) (struct-differ (typed-reads a refl .kind ∙ k) a) (right .held .differ) (f .is) in
+              means-for space w v g (size X + size Y) (letters X + letters Y) o (omega (arith, fits .0)) (omega (arith, fits .1))
+              (struct-list (joinFields c (X .parts) (f .fields) (Y .parts)) ∙ rw (sym (arities a b) ∙ and-fst alike named h) (rw (f .is) refl))
+              (u .means (X .parts) (Y .parts) (Y .parts) (f .fields) (Y .parts) (chain-first x ex (a .chain)) right right (f .is, refl) (omega (arith, fits .0)));
+        }

@@ -1,0 +1,426 @@
+-- The rules of two types in the order in which the merge tries them. Assumes nothing.
+use mathlib.Core.Path.{_≡_, refl, ap, ap₂, sym, subst, _∙_}
+use mathlib.Core.Bool.{Bool, true, false, cond, not, _&&_, _||_}
+use mathlib.Core.List.{List}
+use mathlib.Core.Logic.{inl, inr}
+use mathlib.Core.Option.{Option, none, some}
+use Prim.Native.Nat.{ℕ, _+_, _<_, _≤_}
+use native.Mathlib.Omega.{arith}
+use lib.ListN.{length, length-append}
+use lib.Dec.{eqb}
+use borrow.Author.Tests.{eq-eqb, ne-eqb, eqb-true}
+use Rattle.sheet.specs.Kind as Kind
+use Rattle.sheet.specs.Kind.{partsRight}
+use Rattle.sheet.specs.Tests.{between}
+use Rattle.sheet.specs.Types.{Shape, Fields, end, field, arity, count, zoneBytes, labels}
+use Rattle.sheet.specs.Head.{headAt}
+use Rattle.sheet.specs.declared.Head.{Head}
+use Rattle.sheet.proofs.Tests.{never, and-fst}
+use Rattle.coercion.specs.Data.{DataType, Rules, size, orElse, andThen}
+use Rattle.coercion.specs.Data as Data
+use Rattle.coercion.specs.Kinds.{isList}
+use Rattle.coercion.specs.Same.{sameType}
+use Rattle.coercion.specs.Wrappers.{valueIn, isOf, wrapperCoercion}
+use Rattle.coercion.specs.Nested.{before, joinFields, listShape, listOf, listCoercion, structCoercion, mapCoercion}
+use Rattle.coercion.specs.Answers.{bothParts, listStruct}
+use Rattle.merge.specs.Source.{SameTypes}
+use Rattle.merge.specs.Writes.{side}
+use Rattle.merge.specs.Region.{Room, Kept}
+use Rattle.merge.specs.Goal.{letters, Means, CopiedType, typeOf, shapeFor}
+use Rattle.merge.specs.Steps.{Reads, listKind, listSize}
+use Rattle.merge.specs.Turns.{isListQuestion, plainRules, structRule, nestedOf, listRule, mapRule, IsWrapper, bothWrapped, rewrapped, eitherWrapped, resolved, unwrapped}
+use Rattle.merge.specs.Merge.{Chain, Typed, Merges, Under}
+use Rattle.merge.specs.declared.Space.{Space}
+use Rattle.merge.specs.declared.Spot.{Spot}
+use Rattle.merge.specs.declared.Goal.{Goal}
+use Rattle.merge.specs.declared.Out.{Out}
+use Rattle.merge.specs.declared.Out.the-variants.{Done, No, Full}
+use Rattle.merge.specs.declared.Feed.the-variants as Feed
+use Rattle.merge.proofs.Frames.{kept-trans}
+use Rattle.merge.proofs.Chained.{room-kept, labels-sum}
+use Rattle.merge.proofs.Laying.{named-kept}
+use Rattle.merge.proofs.Merging.{typed-side, chain-first, typed-same, side-twice, means-for, merges-as, merges-swapped, merges-left, merges-right, merges-none}
+use Rattle.merge.proofs.Rows.{chain-typed, chain-next}
+use Rattle.merge.proofs.Fielding.{typed-reads}
+
+-- the test of two tests, by what each is
+pub and-are : {a b p q r : Bool} → p ≡ a → q ≡ b → r ≡ (p && q) → (a && b) ≡ r
+and-are e f h = sym (h ∙ ap₂ _&&_ e f)
+
+-- the kind of a type, by its head
+module _ {space : Space} {s : List ℕ} {link k : ℕ} (e : k ≡ headAt s link .kind) where
+  pub kind-of : {t : DataType} → Typed space s link t → t .shape .kind ≡ k
+  kind-of a = typed-reads a refl .kind ∙ sym e
+
+  pub kind-is : {t : DataType} (x : ℕ) → Typed space s link t → isOf x t ≡ eqb k x
+  kind-is x a = ap (λ (i : ℕ). eqb i x) (kind-of a)
+
+-- what was merged after something else was written at the same goal
+means-after : (space : Space) (w v u : List ℕ) (g : Goal) (z y : ℕ) (o : Out) (m : Option DataType) → Kept space w v (g .at) (g .label + g .nlen) → Means space v u g z y o m → Means space w u g z y o m
+means-after space w v u g z y (Done d) none k a = absurd a
+means-after space w v u g z y (Done d) (some t) k a = λ name nm. a name (named-kept space w v (g .at) (g .label + g .nlen) g (omega arith) k nm)
+means-after space w v u g z y No none k a = tt
+means-after space w v u g z y No (some t) k a = absurd a
+means-after space w v u g z y Full m k a = a
+
+pub merges-after : {A : DataType → DataType → Option DataType} {space : Space} {left : ℕ} (swap : Bool) {s w v u : List ℕ} {l r : ℕ} {g : Goal} {o : Out} → Room w space
+    → Kept space w v (g .at) (g .label + g .nlen) → Merges A space left swap s v u l r g o → Merges A space left swap s w u l r g o
+merges-after {A} {space} {left} swap {s} {w} {v} {u} {l} {r} {g} {o} room k m =
+    record {
+      writes = record { kept = kept-trans k (m .writes .kept); passes = m .writes .passes };
+      means =
+          λ x y a b q.
+          means-after space w v u g (size x + size y) (letters x + letters y) o (A x y) k
+          (m .means x y (typed-side swap space s w v (g .at) (g .label + g .nlen) room k a) (typed-side (not swap) space s w v (g .at) (g .label + g .nlen) room k b) q);
+    }
+
+-- the first of two rules that says something
+or-done : (space : Space) (w v : List ℕ) (g : Goal) (z y : ℕ) (d : Spot) (a b : Option DataType) → Means space w v g z y (Done d) a → Means space w v g z y (Done d) (orElse a b)
+or-done space w v g z y d none b k = absurd k
+or-done space w v g z y d (some t) b k = k
+
+or-none : (space : Space) (w v u : List ℕ) (g : Goal) (z y : ℕ) (o : Out) (a b : Option DataType) → Means space w v g z y No a → Means space w u g z y o b → Means space w u g z y o (orElse a b)
+or-none space w v u g z y o none b k m = m
+or-none space w v u g z y o (some t) b k m = absurd k
+
+module _ {A : DataType → DataType → Option DataType} (B : DataType → DataType → Option DataType) {space : Space} {left : ℕ} (swap : Bool) {s w v : List ℕ} {l r : ℕ} {g : Goal} where
+  pub either-done : {d : Spot} → Merges A space left swap s w v l r g (Done d) → Merges (λ x y. orElse (A x y) (B x y)) space left swap s w v l r g (Done d)
+  either-done {d} m =
+      record { writes = m .writes; means = λ x y a b q. or-done space w v g (size x + size y) (letters x + letters y) d (A x y) (B x y) (m .means x y a b q) }
+
+  pub either-full : Merges A space left swap s w v l r g Full → Merges (λ x y. orElse (A x y) (B x y)) space left swap s w v l r g Full
+  either-full m = record { writes = m .writes; means = λ x y a b q. m .means x y a b q }
+
+  pub either-next : {u : List ℕ} {o : Out} → Room w space → Merges A space left swap s w v l r g No → Merges B space left swap s v u l r g o
+      → Merges (λ x y. orElse (A x y) (B x y)) space left swap s w u l r g o
+  either-next {u} {o} room m n =
+      let k = merges-after swap room (m .writes .kept) n in
+      record {
+        writes = k .writes;
+        means = λ x y a b q. or-none space w v u g (size x + size y) (letters x + letters y) o (A x y) (B x y) (m .means x y a b q) (k .means x y a b q);
+      }
+
+-- two parts
+pub record Two (t : Fields) : Type 0 where
+  pub n : List ℕ
+  pub b : Bool
+  pub s : Shape
+  pub p : Fields
+  pub n₂ : List ℕ
+  pub b₂ : Bool
+  pub s₂ : Shape
+  pub p₂ : Fields
+  pub is : t ≡ field n b s p (field n₂ b₂ s₂ p₂ end)
+
+two-of : (t : Fields) → arity t ≡ 2 → Two t
+unfolding arity
+two-of end e = absurd (omega arith)
+two-of (field n b s p end) e = absurd (omega arith)
+two-of (field n b s p (field n₂ b₂ s₂ p₂ end)) e = record { n = n; b = b; s = s; p = p; n₂ = n₂; b₂ = b₂; s₂ = s₂; p₂ = p₂; is = refl }
+two-of (field n b s p (field n₂ b₂ s₂ p₂ (field n₃ b₃ s₃ p₃ q))) e = absurd (omega arith)
+
+filled-two : (k n : ℕ) → IsWrapper k → partsRight k n ≡ true → n ≡ 2
+unfolding partsRight between
+filled-two k n (inl e) h = eqb-true n 2 (rw e at h)
+filled-two k n (inr e) h = eqb-true n 2 (rw e at h)
+
+-- a wrapper has two parts
+pub typed-two : {space : Space} {s : List ℕ} {link k : ℕ} {t : DataType} → IsWrapper k → t .shape .kind ≡ k → Typed space s link t → Two (t .parts)
+typed-two {t = t} w e a = two-of (t .parts) (filled-two _ _ w (subst (λ (i : ℕ). partsRight i (arity (t .parts)) ≡ true) e (a .chain .held .source .right .0 .filled)))
+
+or-self : (b : Bool) → b ≡ (b || b)
+or-self true = refl
+or-self false = refl
+
+-- two wrappers, part by part
+pub both-two : (c : DataType → DataType → Option DataType) (l : DataType) (lf rf : Fields) → Two lf → Two rf → listOf (l .shape) (joinFields c lf rf lf) ≡ bothParts c l lf rf
+unfolding joinFields
+both-two c l lf rf x y =
+    rw (x .is) (rw (y .is) (go (c (record { shape = x .s; parts = x .p }) (record { shape = y .s; parts = y .p })) (c (record { shape = x .s₂; parts = x .p₂ }) (record { shape = y .s₂; parts = y .p₂ }))))
+  where
+    go : (o o₂ : Option DataType)
+        → listOf (l .shape)
+        (andThen o (λ t. andThen (andThen o₂ (λ t₂. some (before (x .n₂) (x .b₂ || x .b₂) t₂ end))) (λ fields. some (before (x .n) (x .b || x .b) t fields))))
+        ≡ andThen o (λ t. andThen o₂ (λ t₂. some (record { shape = l .shape; parts = before (x .n) (x .b) t (before (x .n₂) (x .b₂) t₂ end) })))
+    go none o₂ = refl
+    go (some t) none = refl
+    go (some t) (some t₂) = rw (sym (or-self (x .b))) (rw (sym (or-self (x .b₂))) refl)
+
+module _ (rules : Rules) (c : DataType → DataType → Option DataType) (space : Space) (left : ℕ) (swap : Bool) (s w : List ℕ) (l r : ℕ) (g : Goal) where
+  abbrev S : List ℕ
+  S = side swap s w
+
+  abbrev T : List ℕ
+  T = side (not swap) s w
+
+  -- the rules of a list, by the kinds of both
+  module _ {k j : ℕ} (ek : k ≡ headAt S l .kind) (ej : j ≡ headAt T r .kind) where
+    one-of : {x y : DataType} (i : ℕ) → Typed space S l x → Typed space T r y → (isOf i x || isOf i y) ≡ (eqb k i || eqb j i)
+    one-of i a b = ap₂ _||_ (kind-is ek i a) (kind-is ej i b)
+
+    pub resolve-dictionary : (v : List ℕ) (o : Out) → (eqb k 37 || eqb j 37) ≡ true → Merges (eitherWrapped 37 c) space (left + 1) swap s w v l r g o → Merges (resolved rules c) space (left + 1) swap s w v l r g o
+    unfolding resolved
+    resolve-dictionary v o h = merges-as (resolved rules c) space swap s w v l r g o (left + 1) (omega arith) (λ x y a b. rw (one-of 37 a b ∙ h) refl)
+
+    pub resolve-runs : (v : List ℕ) (o : Out) → (eqb k 37 || eqb j 37) ≡ false → (eqb k 38 || eqb j 38) ≡ true → Merges (eitherWrapped 38 c) space (left + 1) swap s w v l r g o
+        → Merges (resolved rules c) space (left + 1) swap s w v l r g o
+    unfolding resolved
+    resolve-runs v o n h = merges-as (resolved rules c) space swap s w v l r g o (left + 1) (omega arith) (λ x y a b. rw (one-of 37 a b ∙ n) (rw (one-of 38 a b ∙ h) refl))
+
+    pub resolve-nested : (v : List ℕ) (o : Out) → (eqb k 37 || eqb j 37) ≡ false → (eqb k 38 || eqb j 38) ≡ false → Merges (nestedOf rules c) space (left + 1) swap s w v l r g o
+        → Merges (resolved rules c) space (left + 1) swap s w v l r g o
+    unfolding resolved
+    resolve-nested v o n h = merges-as (resolved rules c) space swap s w v l r g o (left + 1) (omega arith) (λ x y a b. rw (one-of 37 a b ∙ n) (rw (one-of 38 a b ∙ h) refl))
+
+  -- the rules of union and compare, one after the other
+  module _ (v : List ℕ) where
+    pub unwrap-first : (d : Spot) → Merges (wrapperCoercion 37 c) space (left + 1) swap s w v l r g (Done d) → Merges (unwrapped rules c) space (left + 1) swap s w v l r g (Done d)
+    unfolding unwrapped
+    unwrap-first d m = either-done (λ x y. orElse (wrapperCoercion 38 c x y) (nestedOf rules c x y)) swap m
+
+    pub unwrap-full : Merges (wrapperCoercion 37 c) space (left + 1) swap s w v l r g Full → Merges (unwrapped rules c) space (left + 1) swap s w v l r g Full
+    unfolding unwrapped
+    unwrap-full m = either-full (λ x y. orElse (wrapperCoercion 38 c x y) (nestedOf rules c x y)) swap m
+
+    module _ (room : Room w space) (m : Merges (wrapperCoercion 37 c) space (left + 1) swap s w v l r g No) (u : List ℕ) where
+      pub unwrap-second : (d : Spot) → Merges (wrapperCoercion 38 c) space (left + 1) swap s v u l r g (Done d) → Merges (unwrapped rules c) space (left + 1) swap s w u l r g (Done d)
+      unfolding unwrapped
+      unwrap-second d n = either-next (λ x y. orElse (wrapperCoercion 38 c x y) (nestedOf rules c x y)) swap room m (either-done (nestedOf rules c) swap n)
+
+      pub unwrap-second-full : Merges (wrapperCoercion 38 c) space (left + 1) swap s v u l r g Full → Merges (unwrapped rules c) space (left + 1) swap s w u l r g Full
+      unfolding unwrapped
+      unwrap-second-full n = either-next (λ x y. orElse (wrapperCoercion 38 c x y) (nestedOf rules c x y)) swap room m (either-full (nestedOf rules c) swap n)
+
+      pub unwrap-nested : (t : List ℕ) (o : Out) → Merges (wrapperCoercion 38 c) space (left + 1) swap s v u l r g No → Merges (nestedOf rules c) space (left + 1) swap s u t l r g o
+          → Merges (unwrapped rules c) space (left + 1) swap s w t l r g o
+      unfolding unwrapped
+      unwrap-nested t o n k =
+          either-next (λ x y. orElse (wrapperCoercion 38 c x y) (nestedOf rules c x y)) swap room m (either-next (nestedOf rules c) swap (room-kept (m .writes .kept) room) n k)
+
+-- wrappers of a kind, in a list
+module _ (c : DataType → DataType → Option DataType) (space : Space) (left : ℕ) (swap : Bool) (s w : List ℕ) (l r : ℕ) (g : Goal)
+    {k j i : ℕ} (ek : k ≡ headAt (side swap s w) l .kind) (ej : j ≡ headAt (side (not swap) s w) r .kind) (is : IsWrapper i) where
+  pub wrap-both : (v : List ℕ) (o : Out) → k ≡ i → j ≡ i → Merges (bothWrapped c) space (left + 1) swap s w v l r g o → Merges (eitherWrapped i c) space (left + 1) swap s w v l r g o
+  unfolding eitherWrapped
+  wrap-both v o p q =
+      merges-as (eitherWrapped i c) space swap s w v l r g o (left + 1) (omega arith)
+      (λ x y a b.
+      rw (kind-is ek i a ∙ eq-eqb k i p)
+      (rw (kind-is ej i b ∙ eq-eqb j i q) (both-two c x (x .parts) (y .parts) (typed-two is (kind-of ek a ∙ p) a) (typed-two is (kind-of ej b ∙ q) b))))
+
+  pub wrap-left : (v : List ℕ) (o : Out) → k ≡ i → ¬ (j ≡ i) → Merges (rewrapped i c) space (left + 1) swap s w v l r g o → Merges (eitherWrapped i c) space (left + 1) swap s w v l r g o
+  unfolding eitherWrapped
+  wrap-left v o p q =
+      merges-as (eitherWrapped i c) space swap s w v l r g o (left + 1) (omega arith)
+      (λ x y a b. rw (kind-is ek i a ∙ eq-eqb k i p) (rw (kind-is ej i b ∙ ne-eqb j i q) refl))
+
+  pub wrap-right : (v : List ℕ) (o : Out) → ¬ (k ≡ i) → j ≡ i → Merges (rewrapped i c) space (left + 1) (not swap) s w v r l g o → Merges (eitherWrapped i c) space (left + 1) swap s w v l r g o
+  unfolding eitherWrapped
+  wrap-right v o p q =
+      merges-swapped (eitherWrapped i c) space swap s w v l r g o (left + 1)
+      (λ x y a b. rw (kind-is ek i a ∙ ne-eqb k i p) (rw (kind-is ej i b ∙ eq-eqb j i q) refl))
+
+  pub wrap-none : ¬ (k ≡ i) → ¬ (j ≡ i) → Merges (eitherWrapped i c) space (left + 1) swap s w w l r g No
+  unfolding eitherWrapped
+  wrap-none p q =
+      merges-none (eitherWrapped i c) space (left + 1) swap s w l r g
+      (λ x y a b m. rw (kind-is ek i a ∙ ne-eqb k i p) (rw (kind-is ej i b ∙ ne-eqb j i q) refl))
+
+-- the value of a wrapper
+pub record Value (space : Space) (s : List ℕ) (link : ℕ) (t : DataType) : Type 0 where
+  pub type : DataType
+  pub typed : Typed space s link type
+  pub is : valueIn (t .parts) ≡ some type
+  pub smaller : size type < size t
+  pub shorter : letters type ≤ letters t
+
+pub value-of : {space : Space} {s : List ℕ} {link k v : ℕ} {t : DataType} → IsWrapper k → t .shape .kind ≡ k → v ≡ headAt s (headAt s link .first) .next → Typed space s link t → Value space s v t
+unfolding count labels
+value-of {space} {s} {link} {k} {v} {t} w e ev a =
+    let x = typed-two w e a in
+    let q : Chain space s (headAt s link .first) (field (x .n) (x .b) (x .s) (x .p) (field (x .n₂) (x .b₂) (x .s₂) (x .p₂) end))
+    = subst (λ (f : Fields). Chain space s (headAt s link .first) f) (x .is) (chain-first (headAt s link) refl (a .chain)) in
+    let cs = ap (λ (f : Fields). count f) (x .is) in
+    let ls = ap (λ (f : Fields). length (labels f)) (x .is) in
+    let l₁ = labels-sum (x .n) (x .b) (x .s) (x .p) (field (x .n₂) (x .b₂) (x .s₂) (x .p₂) end) in
+    let l₂ = labels-sum (x .n₂) (x .b₂) (x .s₂) (x .p₂) end in
+    record {
+      type = typeOf (x .s₂) (x .p₂);
+      typed = subst (λ (i : ℕ). Typed space s i (typeOf (x .s₂) (x .p₂))) (sym ev) (chain-typed (chain-next q (headAt s (headAt s link .first)) refl));
+      is = ap valueIn (x .is);
+      smaller = omega (arith, cs);
+      shorter = omega (arith, ls, l₁, l₂, length-append (x .n₂) (zoneBytes (x .s₂ .zone)));
+    }
+
+-- a wrapper of a kind on either side, in union and compare
+module _ (c : DataType → DataType → Option DataType) (space : Space) (left : ℕ) (swap : Bool) (s w : List ℕ) (l r : ℕ) (g : Goal)
+    {k j i : ℕ} (ek : k ≡ headAt (side swap s w) l .kind) (ej : j ≡ headAt (side (not swap) s w) r .kind) (is : IsWrapper i) where
+  pub wrapper-none : ¬ (k ≡ i) → ¬ (j ≡ i) → Merges (wrapperCoercion i c) space (left + 1) swap s w w l r g No
+  unfolding wrapperCoercion
+  wrapper-none p q =
+      merges-none (wrapperCoercion i c) space (left + 1) swap s w l r g
+      (λ x y a b m. rw (kind-is ek i a ∙ ne-eqb k i p) (rw (kind-is ej i b ∙ ne-eqb j i q) refl))
+
+  module _ (v : List ℕ) (o : Out) where
+    pub wrapper-both : {a b : ℕ} → a ≡ headAt (side swap s w) (headAt (side swap s w) l .first) .next → b ≡ headAt (side (not swap) s w) (headAt (side (not swap) s w) r .first) .next → k ≡ i → j ≡ i
+        → Merges c space left swap s w v a b g o → Merges (wrapperCoercion i c) space (left + 1) swap s w v l r g o
+    unfolding wrapperCoercion
+    wrapper-both ea eb p q m =
+        record {
+          writes = m .writes;
+          means =
+              λ x y a b h.
+              let vx = value-of is (kind-of ek a ∙ p) ea a in
+              let vy = value-of is (kind-of ej b ∙ q) eb b in
+              means-for space w v g (size x + size y) (letters x + letters y) o (omega (arith, vx .smaller, vy .smaller)) (omega (arith, vx .shorter, vy .shorter))
+              (rw (kind-is ek i a ∙ eq-eqb k i p) (rw (kind-is ej i b ∙ eq-eqb j i q) (rw (vx .is) (rw (vy .is) refl))))
+              (m .means (vx .type) (vy .type) (vx .typed) (vy .typed) (omega (arith, vx .smaller, vy .smaller)));
+        }
+
+    module _ (p : k ≡ i) (q : ¬ (j ≡ i)) {a : ℕ} (ea : a ≡ headAt (side swap s w) (headAt (side swap s w) l .first) .next) {e : Bool}
+        (f : SameTypes (side swap s w) (space .n) a (side (not swap) s w) (space .n) r true e) where
+      pub wrapper-left-same : e ≡ true → CopiedType space (side swap s w) w v l g o → Merges (wrapperCoercion i c) space (left + 1) swap s w v l r g o
+      unfolding wrapperCoercion
+      wrapper-left-same h =
+          merges-left (wrapperCoercion i c) space (left + 1) swap s w l r g v o
+          (λ x y a b.
+          let vx = value-of is (kind-of ek a ∙ p) ea a in
+          rw (kind-is ek i a ∙ eq-eqb k i p) (rw (kind-is ej i b ∙ ne-eqb j i q) (rw (vx .is) (rw (sym (typed-same true f (vx .typed) b) ∙ h) refl))))
+
+      pub wrapper-left : e ≡ false → Merges c space left swap s w v a r g o → Merges (wrapperCoercion i c) space (left + 1) swap s w v l r g o
+      unfolding wrapperCoercion
+      wrapper-left z m =
+          record {
+            writes = m .writes;
+            means =
+                λ x y a b h.
+                let vx = value-of is (kind-of ek a ∙ p) ea a in
+                means-for space w v g (size x + size y) (letters x + letters y) o (omega (arith, vx .smaller)) (omega (arith, vx .shorter))
+                (rw (kind-is ek i a ∙ eq-eqb k i p) (rw (kind-is ej i b ∙ ne-eqb j i q) (rw (vx .is) (rw (sym (typed-same true f (vx .typed) b) ∙ z) refl))))
+                (m .means (vx .type) y (vx .typed) b (omega (arith, vx .smaller)));
+          }
+
+    module _ (p : ¬ (k ≡ i)) (q : j ≡ i) {a : ℕ} (ea : a ≡ headAt (side (not swap) s w) (headAt (side (not swap) s w) r .first) .next) {e : Bool}
+        (f : SameTypes (side (not swap) s w) (space .n) a (side (not (not swap)) s w) (space .n) l true e) where
+      same : {t x : DataType} → Typed space (side (not swap) s w) a t → Typed space (side swap s w) l x → e ≡ sameType true t x
+      same {t} {x} vy b = typed-same true f vy (subst (λ (u : List ℕ). Typed space u l x) (sym (side-twice swap s w)) b)
+
+      pub wrapper-right-same : e ≡ true → CopiedType space (side (not swap) s w) w v r g o → Merges (wrapperCoercion i c) space (left + 1) swap s w v l r g o
+      unfolding wrapperCoercion
+      wrapper-right-same h =
+          merges-right (wrapperCoercion i c) space (left + 1) swap s w l r g v o
+          (λ x y a b.
+          let vy = value-of is (kind-of ej b ∙ q) ea b in
+          rw (kind-is ek i a ∙ ne-eqb k i p) (rw (kind-is ej i b ∙ eq-eqb j i q) (rw (vy .is) (rw (sym (same (vy .typed) a) ∙ h) refl))))
+
+      pub wrapper-right : e ≡ false → Merges c space left swap s w v l a g o → Merges (wrapperCoercion i c) space (left + 1) swap s w v l r g o
+      unfolding wrapperCoercion
+      wrapper-right z m =
+          record {
+            writes = m .writes;
+            means =
+                λ x y a b h.
+                let vy = value-of is (kind-of ej b ∙ q) ea b in
+                means-for space w v g (size x + size y) (letters x + letters y) o (omega (arith, vy .smaller)) (omega (arith, vy .shorter))
+                (rw (kind-is ek i a ∙ ne-eqb k i p) (rw (kind-is ej i b ∙ eq-eqb j i q) (rw (vy .is) (rw (sym (same (vy .typed) a) ∙ z) refl))))
+                (m .means x (vy .type) a (vy .typed) (omega (arith, vy .smaller)));
+          }
+
+-- two types that are no wrappers, by the kinds of both
+module _ (rules : Rules) (c : DataType → DataType → Option DataType) (space : Space) (left : ℕ) (swap : Bool) (s w : List ℕ) (l r : ℕ) (g : Goal) (x y : Head)
+    (ex : x ≡ headAt (side swap s w) l) (ey : y ≡ headAt (side (not swap) s w) r) (v : List ℕ) (o : Out) where
+  module _ {X Y : DataType} (a : Typed space (side swap s w) l X) (b : Typed space (side (not swap) s w) r Y) where
+    lists : (isList (X .shape .kind) && isList (Y .shape .kind)) ≡ (isList (x .kind) && isList (y .kind))
+    lists = ap₂ (λ (i j : ℕ). isList i && isList j) (typed-reads a ex .kind) (typed-reads b ey .kind)
+
+    are : (i : ℕ) → (isOf i X && isOf i Y) ≡ (eqb (x .kind) i && eqb (y .kind) i)
+    are i = ap₂ (λ (m n : ℕ). eqb m i && eqb n i) (typed-reads a ex .kind) (typed-reads b ey .kind)
+
+  pub nested-list : (isList (x .kind) && isList (y .kind)) ≡ true → Merges (listRule c) space (left + 1) swap s w v l r g o → Merges (nestedOf rules c) space (left + 1) swap s w v l r g o
+  unfolding nestedOf listCoercion
+  nested-list h = merges-as (nestedOf rules c) space swap s w v l r g o (left + 1) (omega arith) (λ X Y a b. rw (lists a b ∙ h) refl)
+
+  module _ (n : (isList (x .kind) && isList (y .kind)) ≡ false) where
+    module _ (h : (eqb (x .kind) 35 && eqb (y .kind) 35) ≡ true) where
+      by-names : (q : Data.Question) (X Y : DataType) → isListQuestion q ≡ true → listStruct c X Y ≡ structRule q c X Y
+      by-names Data.list X Y e = refl
+      by-names Data.union X Y e = never e
+      by-names Data.compare X Y e = never e
+
+      by-rule : (q : Data.Question) (X Y : DataType) → isListQuestion q ≡ false → structCoercion c X Y ≡ structRule q c X Y
+      by-rule Data.list X Y e = never (sym e)
+      by-rule Data.union X Y e = refl
+      by-rule Data.compare X Y e = refl
+
+      pub nested-listed : isListQuestion (rules .question) ≡ true → Merges (listStruct c) space (left + 1) swap s w v l r g o → Merges (nestedOf rules c) space (left + 1) swap s w v l r g o
+      unfolding nestedOf
+      nested-listed e =
+          merges-as (nestedOf rules c) space swap s w v l r g o (left + 1) (omega arith)
+          (λ X Y a b. rw (lists a b ∙ n) (rw (are a b 35 ∙ h) (by-names (rules .question) X Y e)))
+
+      pub nested-struct : isListQuestion (rules .question) ≡ false → Merges (structCoercion c) space (left + 1) swap s w v l r g o
+          → Merges (nestedOf rules c) space (left + 1) swap s w v l r g o
+      unfolding nestedOf
+      nested-struct e =
+          merges-as (nestedOf rules c) space swap s w v l r g o (left + 1) (omega arith)
+          (λ X Y a b. rw (lists a b ∙ n) (rw (are a b 35 ∙ h) (by-rule (rules .question) X Y e)))
+
+    module _ (h : (eqb (x .kind) 35 && eqb (y .kind) 35) ≡ false) where
+      pub nested-map : (eqb (x .kind) 36 && eqb (y .kind) 36) ≡ true → Merges (mapRule c) space (left + 1) swap s w v l r g o → Merges (nestedOf rules c) space (left + 1) swap s w v l r g o
+      unfolding nestedOf mapCoercion
+      nested-map e =
+          merges-as (nestedOf rules c) space swap s w v l r g o (left + 1) (omega arith)
+          (λ X Y a b. rw (lists a b ∙ n) (rw (are a b 35 ∙ h) (rw (are a b 36 ∙ e) refl)))
+
+      pub nested-plain : (eqb (x .kind) 36 && eqb (y .kind) 36) ≡ false → (A : DataType → DataType → Option DataType)
+          → ((X Y : DataType) → Reads x X → Reads y Y → A X Y ≡ plainRules rules X Y) → ((i : ℕ) → Merges A space i swap s w v l r g o)
+          → Merges (nestedOf rules c) space (left + 1) swap s w v l r g o
+      unfolding nestedOf
+      nested-plain e A f m =
+          merges-as (nestedOf rules c) space swap s w v l r g o (left + 1) (omega arith)
+          (λ X Y a b. rw (lists a b ∙ n) (rw (are a b 35 ∙ h) (rw (are a b 36 ∙ e) (f X Y (typed-reads a ex) (typed-reads b ey))))) (m (left + 1))
+
+-- the kind of the left, by a test of both
+pub left-is : (s : List ℕ) (link : ℕ) (h f : Head) → h ≡ headAt s link → (eqb (h .kind) 35 && eqb (f .kind) 35) ≡ true → headAt s link .kind ≡ 35
+left-is s link h f e q = sym (ap (λ (x : Head). x .kind) e) ∙ eqb-true (h .kind) 35 (and-fst (eqb (h .kind) 35) (eqb (f .kind) 35) q)
+
+-- the shape of two lists' common list, by their heads
+size-of : {h : Head} {t : DataType} → Reads h t → eqb (t .shape .kind) 34 ≡ true → t .shape .size ≡ h .quad
+size-of {h} {t} a e =
+    let k = eqb-true (t .shape .kind) 34 e in
+    a .size (a .bare (ne-eqb (t .shape .kind) Kind.timestamp (λ q. omega arith)))
+
+pub shape-listed : {x y : Head} {X Y : DataType} → Reads x X → Reads y Y → shapeFor (listKind x y) 0 0 (listSize x y) false ≡ listShape (X .shape) (Y .shape)
+shape-listed {x} {y} {X} {Y} a b = rw (sym (a .kind)) (rw (sym (b .kind)) (go (eqb (X .shape .kind) 34) refl (eqb (Y .shape .kind) 34) refl))
+  where
+    large : (p : Bool) → shapeFor (cond p 33 32) 0 0 0 false ≡ cond p (shapeFor 33 0 0 0 false) (shapeFor 32 0 0 0 false)
+    large true = refl
+    large false = refl
+
+    fixed : (p : Bool) (n : ℕ) → shapeFor (cond p 34 32) 0 0 (cond p n 0) false ≡ cond p (shapeFor 34 0 0 n false) (shapeFor 32 0 0 0 false)
+    fixed true n = refl
+    fixed false n = refl
+
+    go : (p : Bool) → eqb (X .shape .kind) 34 ≡ p → (q : Bool) → eqb (Y .shape .kind) 34 ≡ q
+        → shapeFor (cond (p && q) (cond (eqb (x .quad) (y .quad)) 34 32) (cond (eqb (X .shape .kind) 33 || eqb (Y .shape .kind) 33) 33 32)) 0 0
+        (cond (p && q) (cond (eqb (x .quad) (y .quad)) (y .quad) 0) 0) false
+        ≡ cond (p && q) (cond (eqb (X .shape .size) (Y .shape .size)) (shapeFor 34 0 0 (Y .shape .size) false) (shapeFor 32 0 0 0 false))
+        (cond (eqb (X .shape .kind) 33 || eqb (Y .shape .kind) 33) (shapeFor 33 0 0 0 false) (shapeFor 32 0 0 0 false))
+    go true e true f = rw (size-of a e) (rw (size-of b f) (fixed (eqb (x .quad) (y .quad)) (y .quad)))
+    go true e false f = large (eqb (X .shape .kind) 33 || eqb (Y .shape .kind) 33)
+    go false e q f = large (eqb (X .shape .kind) 33 || eqb (Y .shape .kind) 33)
+
+-- two lists
+pub list-merged : (c : DataType → DataType → Option DataType) (space : Space) (left : ℕ) (swap : Bool) (s w : List ℕ) (l r : ℕ) (g : Goal) (x y : Head)
+    → x ≡ headAt (side swap s w) l → y ≡ headAt (side (not swap) s w) r → {kind sz : ℕ} → kind ≡ listKind x y → sz ≡ listSize x y → (v : List ℕ) (o : Out)
+    → Under c space left swap s w v Feed.Place (shapeFor kind 0 0 sz false) (x .first) (y .first) (y .first) g o → Merges (listRule c) space (left + 1) swap s w v l r g o
+list-merged c space left swap s w l r g x y ex ey {kind} {sz} ek es v o u =
+    record {
+      writes = u .writes;
+      means =
+          λ X Y a b h.
+          let right = chain-first y ey (b .chain) in
+          let shape = ap₂ (λ (i j : ℕ). shapeFor i 0 0 j false) ek es ∙ shape-listed (typed-reads a ex) (typed-reads b ey) in
+          means-for space w v g (size X + size Y) (letters X + letters Y) o (omega arith) (omega arith) (ap (λ (i : Shape). listOf i (joinFields c (X .parts) (Y .parts) (Y .parts))) shape)
+          (u .means (X .parts) (Y .parts) (Y .parts) (Y .parts) (Y .parts) (chain-first x ex (a .chain)) right right (refl, refl) (omega arith));
+    }

@@ -1,0 +1,1965 @@
+use native.Mathlib.Omega.{arith}
+use borrow.Author.Needs.{needs}
+use Prim.Native.Nat.{_+_, _*_, _-_, _≤_}
+use mathlib.Core.Path.{_≡_, refl, sym, _∙_, ap}
+use borrow.Author.Tests.{not-true, not-false}
+use Rattle.merge.proofs.Chained.{room-kept}
+use Rattle.merge.proofs.Fielding.{field-ready}
+use Rattle.merge.proofs.Joining.{rows-end, rows-spent, rows-unfed, rows-crowded, rows-none, rows-full, rows-rest-none, rows-rest-full, rows-done}
+use Rattle.merge.proofs.Asking.{coerce-spent, coerce-same, coerce-list, coerce-pair}
+use Rattle.merge.proofs.Merging.{merges-full}
+use Rattle.merge.proofs.Tying.{tied-kept}
+use Rattle.merge.proofs.Rewrapping.{index-none, index-full, value-none, value-full, wrapper-on}
+use Rattle.merge.proofs.Parents.{under-full, under-on, head-crowded, both-on, field-crowded, field-merged, map-left-end, map-right-end, map-on, after-passes}
+use mathlib.Core.Logic.{inl, inr}
+use Rattle.merge.proofs.Turning.{and-are, left-is, resolve-dictionary, resolve-runs, resolve-nested, wrap-both, wrap-left, wrap-right, wrap-none, unwrap-first, unwrap-full, unwrap-second, unwrap-second-full, unwrap-nested, wrapper-none, wrapper-both, wrapper-left-same, wrapper-left, wrapper-right-same, wrapper-right, nested-list, nested-listed, nested-struct, nested-map, nested-plain, list-merged}
+use Rattle.merge.proofs.Structs.{struct-none, struct-named, struct-placed, listed-none, listed-merged}
+use Prim.Native.Nat.{ℕ, _<_}
+use borrow.Fn.Kinds.{In}
+use borrow.Fn.PlainCycle.{Measures, is, falls, and}
+use Rattle.merge.proofs.coerce.both_parts.Reads as both-parts
+use Rattle.merge.proofs.coerce.both_parts.Kinds as both-parts-kinds
+use Rattle.merge.proofs.coerce.+both_parts+coerce+coerce_field+entry+list_rule+list_struct+map_rule+nested+resolve+resolve_wrapper+rewrapped+rows+struct_rule+under+unwrap+wrapper.Lts-both_parts as both-parts-lts
+use Rattle.merge.proofs.coerce.coerce.Reads as coerce
+use Rattle.merge.proofs.coerce.coerce.Kinds as coerce-kinds
+use Rattle.merge.proofs.coerce.+both_parts+coerce+coerce_field+entry+list_rule+list_struct+map_rule+nested+resolve+resolve_wrapper+rewrapped+rows+struct_rule+under+unwrap+wrapper.Lts-coerce as coerce-lts
+use Rattle.merge.proofs.coerce.coerce_field.Reads as coerce-field
+use Rattle.merge.proofs.coerce.coerce_field.Kinds as coerce-field-kinds
+use Rattle.merge.proofs.coerce.+both_parts+coerce+coerce_field+entry+list_rule+list_struct+map_rule+nested+resolve+resolve_wrapper+rewrapped+rows+struct_rule+under+unwrap+wrapper.Lts-coerce_field as coerce-field-lts
+use Rattle.merge.proofs.coerce.entry.Reads as entry
+use Rattle.merge.proofs.coerce.entry.Kinds as entry-kinds
+use Rattle.merge.proofs.coerce.+both_parts+coerce+coerce_field+entry+list_rule+list_struct+map_rule+nested+resolve+resolve_wrapper+rewrapped+rows+struct_rule+under+unwrap+wrapper.Lts-entry as entry-lts
+use Rattle.merge.proofs.coerce.list_rule.Reads as list-rule
+use Rattle.merge.proofs.coerce.list_rule.Kinds as list-rule-kinds
+use Rattle.merge.proofs.coerce.+both_parts+coerce+coerce_field+entry+list_rule+list_struct+map_rule+nested+resolve+resolve_wrapper+rewrapped+rows+struct_rule+under+unwrap+wrapper.Lts-list_rule as list-rule-lts
+use Rattle.merge.proofs.coerce.list_struct.Reads as list-struct
+use Rattle.merge.proofs.coerce.list_struct.Kinds as list-struct-kinds
+use Rattle.merge.proofs.coerce.+both_parts+coerce+coerce_field+entry+list_rule+list_struct+map_rule+nested+resolve+resolve_wrapper+rewrapped+rows+struct_rule+under+unwrap+wrapper.Lts-list_struct as list-struct-lts
+use Rattle.merge.proofs.coerce.map_rule.Reads as map-rule
+use Rattle.merge.proofs.coerce.map_rule.Kinds as map-rule-kinds
+use Rattle.merge.proofs.coerce.+both_parts+coerce+coerce_field+entry+list_rule+list_struct+map_rule+nested+resolve+resolve_wrapper+rewrapped+rows+struct_rule+under+unwrap+wrapper.Lts-map_rule as map-rule-lts
+use Rattle.merge.proofs.coerce.nested.Reads as nested
+use Rattle.merge.proofs.coerce.nested.Kinds as nested-kinds
+use Rattle.merge.proofs.coerce.+both_parts+coerce+coerce_field+entry+list_rule+list_struct+map_rule+nested+resolve+resolve_wrapper+rewrapped+rows+struct_rule+under+unwrap+wrapper.Lts-nested as nested-lts
+use Rattle.merge.proofs.coerce.resolve.Reads as resolve
+use Rattle.merge.proofs.coerce.resolve.Kinds as resolve-kinds
+use Rattle.merge.proofs.coerce.+both_parts+coerce+coerce_field+entry+list_rule+list_struct+map_rule+nested+resolve+resolve_wrapper+rewrapped+rows+struct_rule+under+unwrap+wrapper.Lts-resolve as resolve-lts
+use Rattle.merge.proofs.coerce.resolve_wrapper.Reads as resolve-wrapper
+use Rattle.merge.proofs.coerce.resolve_wrapper.Kinds as resolve-wrapper-kinds
+use Rattle.merge.proofs.coerce.+both_parts+coerce+coerce_field+entry+list_rule+list_struct+map_rule+nested+resolve+resolve_wrapper+rewrapped+rows+struct_rule+under+unwrap+wrapper.Lts-resolve_wrapper as resolve-wrapper-lts
+use Rattle.merge.proofs.coerce.rewrapped.Reads as rewrapped
+use Rattle.merge.proofs.coerce.rewrapped.Kinds as rewrapped-kinds
+use Rattle.merge.proofs.coerce.+both_parts+coerce+coerce_field+entry+list_rule+list_struct+map_rule+nested+resolve+resolve_wrapper+rewrapped+rows+struct_rule+under+unwrap+wrapper.Lts-rewrapped as rewrapped-lts
+use Rattle.merge.proofs.coerce.rows.Reads as rows
+use Rattle.merge.proofs.coerce.rows.Kinds as rows-kinds
+use Rattle.merge.proofs.coerce.+both_parts+coerce+coerce_field+entry+list_rule+list_struct+map_rule+nested+resolve+resolve_wrapper+rewrapped+rows+struct_rule+under+unwrap+wrapper.Lts-rows as rows-lts
+use Rattle.merge.proofs.coerce.struct_rule.Reads as struct-rule
+use Rattle.merge.proofs.coerce.struct_rule.Kinds as struct-rule-kinds
+use Rattle.merge.proofs.coerce.+both_parts+coerce+coerce_field+entry+list_rule+list_struct+map_rule+nested+resolve+resolve_wrapper+rewrapped+rows+struct_rule+under+unwrap+wrapper.Lts-struct_rule as struct-rule-lts
+use Rattle.merge.proofs.coerce.under.Reads as under
+use Rattle.merge.proofs.coerce.under.Kinds as under-kinds
+use Rattle.merge.proofs.coerce.+both_parts+coerce+coerce_field+entry+list_rule+list_struct+map_rule+nested+resolve+resolve_wrapper+rewrapped+rows+struct_rule+under+unwrap+wrapper.Lts-under as under-lts
+use Rattle.merge.proofs.coerce.unwrap.Reads as unwrap
+use Rattle.merge.proofs.coerce.unwrap.Kinds as unwrap-kinds
+use Rattle.merge.proofs.coerce.+both_parts+coerce+coerce_field+entry+list_rule+list_struct+map_rule+nested+resolve+resolve_wrapper+rewrapped+rows+struct_rule+under+unwrap+wrapper.Lts-unwrap as unwrap-lts
+use Rattle.merge.proofs.coerce.wrapper.Reads as wrapper
+use Rattle.merge.proofs.coerce.wrapper.Kinds as wrapper-kinds
+use Rattle.merge.proofs.coerce.+both_parts+coerce+coerce_field+entry+list_rule+list_struct+map_rule+nested+resolve+resolve_wrapper+rewrapped+rows+struct_rule+under+unwrap+wrapper.Lts-wrapper as wrapper-lts
+use Rattle.coercion.proofs.tests.both.Reads as both-reads
+use Rattle.coercion.proofs.tests.either.Reads as either-reads
+use Rattle.coercion.proofs.tests.is_list.Reads as is-list-reads
+use Rattle.merge.proofs.alike.same_sides.Reads as same-sides-reads
+use Rattle.merge.proofs.copy.copy_head.Reads as copy-head-reads
+use Rattle.merge.proofs.copy.is_nullable.Reads as is-nullable-reads
+use Rattle.merge.proofs.field.copy_field.Reads as copy-field-reads
+use Rattle.merge.proofs.field.first_link.Reads as first-link-reads
+use Rattle.merge.proofs.field.keep_wrapper.Reads as keep-wrapper-reads
+use Rattle.merge.proofs.field.name_field.Reads as name-field-reads
+use Rattle.merge.proofs.field.next_link.Reads as next-link-reads
+use Rattle.merge.proofs.field.row_end.Reads as row-end-reads
+use Rattle.merge.proofs.lay.copy_type.Reads as copy-type-reads
+use Rattle.merge.proofs.lay.lay.Reads as lay-reads
+use Rattle.merge.proofs.lay.tie.Reads as tie-reads
+use Rattle.merge.proofs.names.have_same_names.Reads as have-same-names-reads
+use Rattle.merge.proofs.names.row.Reads as row-reads
+use Rattle.merge.proofs.names.same_arity.Reads as same-arity-reads
+use Rattle.merge.proofs.plain.is_list_question.Reads as is-list-question-reads
+use Rattle.merge.proofs.plain.list_kind.Reads as list-kind-reads
+use Rattle.merge.proofs.plain.list_size.Reads as list-size-reads
+use Rattle.merge.proofs.plain.plain.Reads as plain-reads
+use Rattle.merge.proofs.stamp.lay_step.Reads as lay-step-reads
+use Rattle.merge.proofs.write.kind_at.Reads as kind-at-reads
+use Rattle.merge.proofs.write.look.Reads as look-reads
+use Rattle.merge.proofs.write.value_at.Reads as value-at-reads
+use Rattle.merge.proofs.coerce.+both_parts+coerce+coerce_field+entry+list_rule+list_struct+map_rule+nested+resolve+resolve_wrapper+rewrapped+rows+struct_rule+under+unwrap+wrapper.{
+  statement,
+}
+use Rattle.merge.proofs.coerce.+both_parts+coerce+coerce_field+entry+list_rule+list_struct+map_rule+nested+resolve+resolve_wrapper+rewrapped+rows+struct_rule+under+unwrap+wrapper.Tie.{
+  close,
+}
+
+abbrev μ-both-parts : Measures 2 both-parts-kinds.ps ℕ
+μ-both-parts κs a =
+    16 * a .1 .1 .1 .1 .1 .0 + 11
+
+abbrev μ-coerce : Measures 2 coerce-kinds.ps ℕ
+μ-coerce κs a =
+    16 * a .1 .1 .1 .1 .1 .0 + 4
+
+abbrev μ-coerce-field : Measures 2 coerce-field-kinds.ps ℕ
+μ-coerce-field κs a =
+    16 * a .1 .1 .1 .1 .1 .0 + 5
+
+abbrev μ-entry : Measures 2 entry-kinds.ps ℕ
+μ-entry κs a =
+    16 * a .1 .1 .1 .1 .1 .0 + 10
+
+abbrev μ-list-rule : Measures 2 list-rule-kinds.ps ℕ
+μ-list-rule κs a =
+    16 * a .1 .1 .1 .1 .1 .0 + 11
+
+abbrev μ-list-struct : Measures 2 list-struct-kinds.ps ℕ
+μ-list-struct κs a =
+    16 * a .1 .1 .1 .1 .1 .0 + 9
+
+abbrev μ-map-rule : Measures 2 map-rule-kinds.ps ℕ
+μ-map-rule κs a =
+    16 * a .1 .1 .1 .1 .1 .0 + 11
+
+abbrev μ-nested : Measures 2 nested-kinds.ps ℕ
+μ-nested κs a =
+    16 * a .1 .1 .1 .1 .1 .0 + 12
+
+abbrev μ-resolve : Measures 2 resolve-kinds.ps ℕ
+μ-resolve κs a =
+    16 * a .1 .1 .1 .1 .1 .0 + 14
+
+abbrev μ-resolve-wrapper : Measures 2 resolve-wrapper-kinds.ps ℕ
+μ-resolve-wrapper κs a =
+    16 * a .1 .1 .1 .1 .1 .0 + 13
+
+abbrev μ-rewrapped : Measures 2 rewrapped-kinds.ps ℕ
+μ-rewrapped κs a =
+    16 * a .1 .1 .1 .1 .1 .0 + 11
+
+abbrev μ-rows : Measures 2 rows-kinds.ps ℕ
+μ-rows κs a =
+    16 * a .1 .1 .1 .1 .1 .0 + 5
+
+abbrev μ-struct-rule : Measures 2 struct-rule-kinds.ps ℕ
+μ-struct-rule κs a =
+    16 * a .1 .1 .1 .1 .1 .0 + 9
+
+abbrev μ-under : Measures 2 under-kinds.ps ℕ
+μ-under κs a =
+    16 * a .1 .1 .1 .1 .1 .0 + 8
+
+abbrev μ-unwrap : Measures 2 unwrap-kinds.ps ℕ
+μ-unwrap κs a =
+    16 * a .1 .1 .1 .1 .1 .0 + 14
+
+abbrev μ-wrapper : Measures 2 wrapper-kinds.ps ℕ
+μ-wrapper κs a =
+    16 * a .1 .1 .1 .1 .1 .0 + 13
+
+abbrev both-parts-at : ℕ → In 2 both-parts-kinds.ps
+both-parts-at t =
+    and 2 both-parts-kinds.ps (is 2 both-parts-kinds.ps μ-both-parts t) both-parts.Pre
+
+abbrev both-parts-below : ℕ → In 2 both-parts-kinds.ps
+both-parts-below t =
+    and 2 both-parts-kinds.ps (falls 2 both-parts-kinds.ps _<_ μ-both-parts t) both-parts.Pre
+
+abbrev coerce-at : ℕ → In 2 coerce-kinds.ps
+coerce-at t = and 2 coerce-kinds.ps (is 2 coerce-kinds.ps μ-coerce t) coerce.Pre
+
+abbrev coerce-below : ℕ → In 2 coerce-kinds.ps
+coerce-below t = and 2 coerce-kinds.ps (falls 2 coerce-kinds.ps _<_ μ-coerce t) coerce.Pre
+
+abbrev coerce-field-at : ℕ → In 2 coerce-field-kinds.ps
+coerce-field-at t =
+    and 2 coerce-field-kinds.ps (is 2 coerce-field-kinds.ps μ-coerce-field t) coerce-field.Pre
+
+abbrev coerce-field-below : ℕ → In 2 coerce-field-kinds.ps
+coerce-field-below t =
+    and
+    2
+    coerce-field-kinds.ps
+    (falls 2 coerce-field-kinds.ps _<_ μ-coerce-field t)
+    coerce-field.Pre
+
+abbrev entry-at : ℕ → In 2 entry-kinds.ps
+entry-at t = and 2 entry-kinds.ps (is 2 entry-kinds.ps μ-entry t) entry.Pre
+
+abbrev entry-below : ℕ → In 2 entry-kinds.ps
+entry-below t = and 2 entry-kinds.ps (falls 2 entry-kinds.ps _<_ μ-entry t) entry.Pre
+
+abbrev list-rule-at : ℕ → In 2 list-rule-kinds.ps
+list-rule-at t = and 2 list-rule-kinds.ps (is 2 list-rule-kinds.ps μ-list-rule t) list-rule.Pre
+
+abbrev list-rule-below : ℕ → In 2 list-rule-kinds.ps
+list-rule-below t =
+    and 2 list-rule-kinds.ps (falls 2 list-rule-kinds.ps _<_ μ-list-rule t) list-rule.Pre
+
+abbrev list-struct-at : ℕ → In 2 list-struct-kinds.ps
+list-struct-at t =
+    and 2 list-struct-kinds.ps (is 2 list-struct-kinds.ps μ-list-struct t) list-struct.Pre
+
+abbrev list-struct-below : ℕ → In 2 list-struct-kinds.ps
+list-struct-below t =
+    and 2 list-struct-kinds.ps (falls 2 list-struct-kinds.ps _<_ μ-list-struct t) list-struct.Pre
+
+abbrev map-rule-at : ℕ → In 2 map-rule-kinds.ps
+map-rule-at t = and 2 map-rule-kinds.ps (is 2 map-rule-kinds.ps μ-map-rule t) map-rule.Pre
+
+abbrev map-rule-below : ℕ → In 2 map-rule-kinds.ps
+map-rule-below t =
+    and 2 map-rule-kinds.ps (falls 2 map-rule-kinds.ps _<_ μ-map-rule t) map-rule.Pre
+
+abbrev nested-at : ℕ → In 2 nested-kinds.ps
+nested-at t = and 2 nested-kinds.ps (is 2 nested-kinds.ps μ-nested t) nested.Pre
+
+abbrev nested-below : ℕ → In 2 nested-kinds.ps
+nested-below t = and 2 nested-kinds.ps (falls 2 nested-kinds.ps _<_ μ-nested t) nested.Pre
+
+abbrev resolve-at : ℕ → In 2 resolve-kinds.ps
+resolve-at t = and 2 resolve-kinds.ps (is 2 resolve-kinds.ps μ-resolve t) resolve.Pre
+
+abbrev resolve-below : ℕ → In 2 resolve-kinds.ps
+resolve-below t = and 2 resolve-kinds.ps (falls 2 resolve-kinds.ps _<_ μ-resolve t) resolve.Pre
+
+abbrev resolve-wrapper-at : ℕ → In 2 resolve-wrapper-kinds.ps
+resolve-wrapper-at t =
+    and
+    2
+    resolve-wrapper-kinds.ps
+    (is 2 resolve-wrapper-kinds.ps μ-resolve-wrapper t)
+    resolve-wrapper.Pre
+
+abbrev resolve-wrapper-below : ℕ → In 2 resolve-wrapper-kinds.ps
+resolve-wrapper-below t =
+    and
+    2
+    resolve-wrapper-kinds.ps
+    (falls 2 resolve-wrapper-kinds.ps _<_ μ-resolve-wrapper t)
+    resolve-wrapper.Pre
+
+abbrev rewrapped-at : ℕ → In 2 rewrapped-kinds.ps
+rewrapped-at t = and 2 rewrapped-kinds.ps (is 2 rewrapped-kinds.ps μ-rewrapped t) rewrapped.Pre
+
+abbrev rewrapped-below : ℕ → In 2 rewrapped-kinds.ps
+rewrapped-below t =
+    and 2 rewrapped-kinds.ps (falls 2 rewrapped-kinds.ps _<_ μ-rewrapped t) rewrapped.Pre
+
+abbrev rows-at : ℕ → In 2 rows-kinds.ps
+rows-at t = and 2 rows-kinds.ps (is 2 rows-kinds.ps μ-rows t) rows.Pre
+
+abbrev rows-below : ℕ → In 2 rows-kinds.ps
+rows-below t = and 2 rows-kinds.ps (falls 2 rows-kinds.ps _<_ μ-rows t) rows.Pre
+
+abbrev struct-rule-at : ℕ → In 2 struct-rule-kinds.ps
+struct-rule-at t =
+    and 2 struct-rule-kinds.ps (is 2 struct-rule-kinds.ps μ-struct-rule t) struct-rule.Pre
+
+abbrev struct-rule-below : ℕ → In 2 struct-rule-kinds.ps
+struct-rule-below t =
+    and 2 struct-rule-kinds.ps (falls 2 struct-rule-kinds.ps _<_ μ-struct-rule t) struct-rule.Pre
+
+abbrev under-at : ℕ → In 2 under-kinds.ps
+under-at t = and 2 under-kinds.ps (is 2 under-kinds.ps μ-under t) under.Pre
+
+abbrev under-below : ℕ → In 2 under-kinds.ps
+under-below t = and 2 under-kinds.ps (falls 2 under-kinds.ps _<_ μ-under t) under.Pre
+
+abbrev unwrap-at : ℕ → In 2 unwrap-kinds.ps
+unwrap-at t = and 2 unwrap-kinds.ps (is 2 unwrap-kinds.ps μ-unwrap t) unwrap.Pre
+
+abbrev unwrap-below : ℕ → In 2 unwrap-kinds.ps
+unwrap-below t = and 2 unwrap-kinds.ps (falls 2 unwrap-kinds.ps _<_ μ-unwrap t) unwrap.Pre
+
+abbrev wrapper-at : ℕ → In 2 wrapper-kinds.ps
+wrapper-at t = and 2 wrapper-kinds.ps (is 2 wrapper-kinds.ps μ-wrapper t) wrapper.Pre
+
+abbrev wrapper-below : ℕ → In 2 wrapper-kinds.ps
+wrapper-below t = and 2 wrapper-kinds.ps (falls 2 wrapper-kinds.ps _<_ μ-wrapper t) wrapper.Pre
+
+abbrev both-parts-calls : ℕ → both-parts-lts.Claims
+both-parts-calls t =
+    (look-reads.Asked, look-reads.Learnt, copy-head-reads.Asked, copy-head-reads.Learnt, rows-below t, rows.Post)
+
+abbrev coerce-calls : ℕ → coerce-lts.Claims
+coerce-calls t =
+    (is-list-question-reads.Asked, is-list-question-reads.Learnt, same-sides-reads.Asked, same-sides-reads.Learnt, copy-type-reads.Asked, copy-type-reads.Learnt, resolve-below t, resolve.Post, unwrap-below t, unwrap.Post)
+
+abbrev coerce-field-calls : ℕ → coerce-field-lts.Claims
+coerce-field-calls t =
+    (look-reads.Asked, look-reads.Learnt, is-nullable-reads.Asked, is-nullable-reads.Learnt, name-field-reads.Asked, name-field-reads.Learnt, coerce-below t, coerce.Post)
+
+abbrev entry-calls : ℕ → entry-lts.Claims
+entry-calls t =
+    (look-reads.Asked, look-reads.Learnt, is-nullable-reads.Asked, is-nullable-reads.Learnt, name-field-reads.Asked, name-field-reads.Learnt, struct-rule-below t, struct-rule.Post)
+
+abbrev list-rule-calls : ℕ → list-rule-lts.Claims
+list-rule-calls t =
+    (look-reads.Asked, look-reads.Learnt, list-kind-reads.Asked, list-kind-reads.Learnt, list-size-reads.Asked, list-size-reads.Learnt, under-below t, under.Post)
+
+abbrev list-struct-calls : ℕ → list-struct-lts.Claims
+list-struct-calls t =
+    (look-reads.Asked, look-reads.Learnt, same-arity-reads.Asked, same-arity-reads.Learnt, have-same-names-reads.Asked, have-same-names-reads.Learnt, both-reads.Asked, both-reads.Learnt, under-below t, under.Post)
+
+abbrev map-rule-calls : ℕ → map-rule-lts.Claims
+map-rule-calls t =
+    (look-reads.Asked, look-reads.Learnt, both-reads.Asked, both-reads.Learnt, lay-reads.Asked, lay-reads.Learnt, entry-below t, entry.Post)
+
+abbrev nested-calls : ℕ → nested-lts.Claims
+nested-calls t =
+    (look-reads.Asked, look-reads.Learnt, is-list-reads.Asked, is-list-reads.Learnt, both-reads.Asked, both-reads.Learnt, list-rule-below t, list-rule.Post, is-list-question-reads.Asked, is-list-question-reads.Learnt, list-struct-below t, list-struct.Post, struct-rule-below t, struct-rule.Post, map-rule-below t, map-rule.Post, plain-reads.Asked, plain-reads.Learnt, lay-step-reads.Asked, lay-step-reads.Learnt)
+
+abbrev resolve-calls : ℕ → resolve-lts.Claims
+resolve-calls t =
+    (kind-at-reads.Asked, kind-at-reads.Learnt, either-reads.Asked, either-reads.Learnt, resolve-wrapper-below t, resolve-wrapper.Post, nested-below t, nested.Post)
+
+abbrev resolve-wrapper-calls : ℕ → resolve-wrapper-lts.Claims
+resolve-wrapper-calls t =
+    (kind-at-reads.Asked, kind-at-reads.Learnt, both-parts-below t, both-parts.Post, rewrapped-below t, rewrapped.Post)
+
+abbrev rewrapped-calls : ℕ → rewrapped-lts.Claims
+rewrapped-calls t =
+    (look-reads.Asked, look-reads.Learnt, copy-head-reads.Asked, copy-head-reads.Learnt, copy-field-reads.Asked, copy-field-reads.Learnt, coerce-field-below t, coerce-field.Post, tie-reads.Asked, tie-reads.Learnt, keep-wrapper-reads.Asked, keep-wrapper-reads.Learnt)
+
+abbrev rows-calls : ℕ → rows-lts.Claims
+rows-calls t =
+    (row-end-reads.Asked, row-end-reads.Learnt, look-reads.Asked, look-reads.Learnt, row-reads.Asked, row-reads.Learnt, name-field-reads.Asked, name-field-reads.Learnt, coerce-below t, coerce.Post, rows-below t, rows.Post, next-link-reads.Asked, next-link-reads.Learnt, tie-reads.Asked, tie-reads.Learnt)
+
+abbrev struct-rule-calls : ℕ → struct-rule-lts.Claims
+struct-rule-calls t =
+    (look-reads.Asked, look-reads.Learnt, both-reads.Asked, both-reads.Learnt, same-arity-reads.Asked, same-arity-reads.Learnt, have-same-names-reads.Asked, have-same-names-reads.Learnt, under-below t, under.Post)
+
+abbrev under-calls : ℕ → under-lts.Claims
+under-calls t =
+    (first-link-reads.Asked, first-link-reads.Learnt, lay-reads.Asked, lay-reads.Learnt, rows-below t, rows.Post)
+
+abbrev unwrap-calls : ℕ → unwrap-lts.Claims
+unwrap-calls t =
+    (wrapper-below t, wrapper.Post, nested-below t, nested.Post)
+
+abbrev wrapper-calls : ℕ → wrapper-lts.Claims
+wrapper-calls t =
+    (kind-at-reads.Asked, kind-at-reads.Learnt, value-at-reads.Asked, value-at-reads.Learnt, coerce-below t, coerce.Post, same-sides-reads.Asked, same-sides-reads.Learnt, copy-type-reads.Asked, copy-type-reads.Learnt)
+
+-- src/coerce.rt:152:9
+both-parts-returns : (t : ℕ) → both-parts-lts.Need-returns (both-parts-calls t) (both-parts-at t) both-parts.Post
+both-parts-returns t c =
+    merges-full _ _ _ _ _ _ _ _ _ (c .if1 .taken)
+
+-- src/coerce.rt:154:9
+both-parts-look-requires : (t : ℕ) → both-parts-lts.Need-look-requires (both-parts-calls t) (both-parts-at t) both-parts.Post
+both-parts-look-requires t c κs =
+    search needs
+
+-- src/coerce.rt:155:9
+both-parts-look-requires-2 : (t : ℕ) → both-parts-lts.Need-look-requires-2 (both-parts-calls t) (both-parts-at t) both-parts.Post
+both-parts-look-requires-2 t c κs =
+    search needs
+
+-- src/coerce.rt:158:11
+both-parts-copy-head-requires : (t : ℕ) → both-parts-lts.Need-copy-head-requires (both-parts-calls t) (both-parts-at t) both-parts.Post
+both-parts-copy-head-requires t c κs =
+    ((c .before .before .before .before .before .before .before .before .before .before .pre .1), ((c .before .before .before .before .before .if1 .left), (omega arith, (c .before .before .before .look .ensures .1))))
+
+-- src/coerce.rt:159:19
+both-parts-enum-known-d : (t : ℕ) → both-parts-lts.Need-enum-known-d (both-parts-calls t) (both-parts-at t) both-parts.Post
+both-parts-enum-known-d t c =
+    search needs
+
+-- src/coerce.rt:159:25
+both-parts-rows-requires : (t : ℕ) → both-parts-lts.Need-rows-requires (both-parts-calls t) (both-parts-at t) both-parts.Post
+both-parts-rows-requires t c κs =
+    let h = rw (c .before .before .d .given .1) at (c .before .before .before .before .before .before .copy-head .ensures) in
+    (omega (arith, (c .before .before .before .before .before .before .before .before .before .before .before .before .before .before .before .before .before .pre .0)), (room-kept (h .kept) (c .before .before .before .before .before .before .before .before .before .before .before .before .before .before .before .before .before .pre .1 .0), h .passes .0))
+
+-- src/coerce.rt:160:20
+both-parts-enum-told : (t : ℕ) → both-parts-lts.Need-enum-told (both-parts-calls t) (both-parts-at t) both-parts.Post
+both-parts-enum-told t c =
+    search needs
+
+-- src/coerce.rt:161:22
+both-parts-enum-told-2 : (t : ℕ) → both-parts-lts.Need-enum-told-2 (both-parts-calls t) (both-parts-at t) both-parts.Post
+both-parts-enum-told-2 t c =
+    search needs
+
+-- src/coerce.rt:136:1
+both-parts-same-length : (t : ℕ) → both-parts-lts.Need-same-length (both-parts-calls t) (both-parts-at t) both-parts.Post
+both-parts-same-length t c =
+    search needs
+
+-- src/coerce.rt:136:1
+both-parts-returns-2 : (t : ℕ) → both-parts-lts.Need-returns-2 (both-parts-calls t) (both-parts-at t) both-parts.Post
+both-parts-returns-2 t c =
+    let h = rw (c .before .before .before .before .before .d .given .1) at (c .before .before .before .before .before .before .before .before .before .copy-head .ensures) in
+    both-on _ _ _ _ _ _ _ _ _ (c .before .before .before .before .before .before .before .before .before .before .before .before .before .before .before .before .before .before .before .before .pre .1 .0) _ _ (c .before .before .before .before .before .before .before .before .before .before .before .before .before .look .ensures .0) (c .before .before .before .before .before .before .before .before .before .before .before .look2 .ensures .0) _ _ _ _ h (c .before .before .rows .ensures)
+
+-- src/coerce.rt:136:1
+both-parts-same-length-2 : (t : ℕ) → both-parts-lts.Need-same-length-2 (both-parts-calls t) (both-parts-at t) both-parts.Post
+both-parts-same-length-2 t c =
+    search needs
+
+-- src/coerce.rt:136:1
+both-parts-returns-3 : (t : ℕ) → both-parts-lts.Need-returns-3 (both-parts-calls t) (both-parts-at t) both-parts.Post
+both-parts-returns-3 t c =
+    absurd ((rw (c .enum-told .given .1) at (c .before .before .before .before .copy-head .ensures)) .means)
+
+-- src/coerce.rt:136:1
+both-parts-same-length-3 : (t : ℕ) → both-parts-lts.Need-same-length-3 (both-parts-calls t) (both-parts-at t) both-parts.Post
+both-parts-same-length-3 t c =
+    search needs
+
+-- src/coerce.rt:136:1
+both-parts-returns-4 : (t : ℕ) → both-parts-lts.Need-returns-4 (both-parts-calls t) (both-parts-at t) both-parts.Post
+both-parts-returns-4 t c =
+    head-crowded _ _ _ _ _ _ _ _ _ _ (c .before .before .before .before .before .before .before .before .look .ensures .0) _ (rw (c .enum-told2 .given .1) at (c .before .before .before .before .copy-head .ensures))
+
+-- src/coerce.rt:64:9
+coerce-returns : (t : ℕ) → coerce-lts.Need-returns (coerce-calls t) (coerce-at t) coerce.Post
+coerce-returns t c =
+    coerce-spent (c .before .before .before .args .question) (c .before .before .before .args .mask) (c .before .before .before .args .space) (c .before .before .before .args .left) (c .before .before .before .args .swap) _ _ _ _ _ (c .if1 .taken)
+
+-- src/coerce.rt:66:9
+coerce-is-list-question-requires : (t : ℕ) → coerce-lts.Need-is-list-question-requires (coerce-calls t) (coerce-at t) coerce.Post
+coerce-is-list-question-requires t c κs =
+    search needs
+
+-- src/coerce.rt:67:8
+coerce-same-sides-requires : (t : ℕ) → coerce-lts.Need-same-sides-requires (coerce-calls t) (coerce-at t) coerce.Post
+coerce-same-sides-requires t c κs =
+    search needs
+
+-- src/coerce.rt:68:9
+coerce-copy-type-requires : (t : ℕ) → coerce-lts.Need-copy-type-requires (coerce-calls t) (coerce-at t) coerce.Post
+coerce-copy-type-requires t c κs =
+    (c .before .before .before .before .before .before .before .before .pre .1)
+
+-- src/coerce.rt:68:9
+coerce-same-length : (t : ℕ) → coerce-lts.Need-same-length (coerce-calls t) (coerce-at t) coerce.Post
+coerce-same-length t c =
+    search needs
+
+-- src/coerce.rt:68:9
+coerce-returns-2 : (t : ℕ) → coerce-lts.Need-returns-2 (coerce-calls t) (coerce-at t) coerce.Post
+coerce-returns-2 t c =
+    coerce-same (c .before .before .before .before .before .before .before .before .before .before .before .args .question) (c .before .before .before .before .before .before .before .before .before .before .before .args .mask) (c .before .before .before .before .before .before .before .before .before .before .before .args .space) (c .before .before .before .before .before .before .before .before .before .before .before .args .left) (c .before .before .before .before .before .before .before .before .before .before .before .args .swap) _ _ _ _ _ (c .before .before .before .before .before .before .before .is-list-question .ensures) (c .before .before .before .before .before .same-sides .ensures) _ _ (c .before .before .before .before .if2 .taken) (c .before .before .copy-type .ensures)
+
+-- src/coerce.rt:71:60
+coerce-sub-resolve : (t : ℕ) → coerce-lts.Need-sub-resolve (coerce-calls t) (coerce-at t) coerce.Post
+coerce-sub-resolve t c =
+    search needs
+
+-- src/coerce.rt:71:9
+coerce-resolve-requires : (t : ℕ) → coerce-lts.Need-resolve-requires (coerce-calls t) (coerce-at t) coerce.Post
+coerce-resolve-requires t c κs =
+    (omega (arith, (c .before .before .before .before .before .before .before .before .before .pre .0), (c .before .before .before .before .before .before .if1 .left)), (c .before .before .before .before .before .before .before .before .before .pre .1))
+
+-- src/coerce.rt:71:9
+coerce-same-length-2 : (t : ℕ) → coerce-lts.Need-same-length-2 (coerce-calls t) (coerce-at t) coerce.Post
+coerce-same-length-2 t c =
+    search needs
+
+-- src/coerce.rt:71:9
+coerce-returns-3 : (t : ℕ) → coerce-lts.Need-returns-3 (coerce-calls t) (coerce-at t) coerce.Post
+coerce-returns-3 t c =
+    coerce-list (c .before .before .before .before .before .before .before .before .before .before .before .before .args .question) (c .before .before .before .before .before .before .before .before .before .before .before .before .args .mask) (c .before .before .before .before .before .before .before .before .before .before .before .before .args .space) (c .before .before .before .before .before .before .before .before .before .before .before .before .args .left) (c .before .before .before .before .before .before .before .before .before .before .before .before .args .swap) _ _ _ _ _ (c .before .before .before .before .before .before .before .before .is-list-question .ensures) (c .before .before .before .before .before .before .same-sides .ensures) _ _ (c .before .before .before .before .before .if2 .left) (c .before .before .before .before .if3 .taken) (c .before .before .before .before .before .before .before .before .before .if1 .left) (c .before .before .resolve .ensures)
+
+-- src/coerce.rt:73:48
+coerce-sub-unwrap : (t : ℕ) → coerce-lts.Need-sub-unwrap (coerce-calls t) (coerce-at t) coerce.Post
+coerce-sub-unwrap t c =
+    search needs
+
+-- src/coerce.rt:73:5
+coerce-unwrap-requires : (t : ℕ) → coerce-lts.Need-unwrap-requires (coerce-calls t) (coerce-at t) coerce.Post
+coerce-unwrap-requires t c κs =
+    (omega (arith, (c .before .before .before .before .before .before .before .before .before .pre .0), (c .before .before .before .before .before .before .if1 .left)), (c .before .before .before .before .before .before .before .before .before .pre .1))
+
+-- src/coerce.rt:48:1
+coerce-same-length-3 : (t : ℕ) → coerce-lts.Need-same-length-3 (coerce-calls t) (coerce-at t) coerce.Post
+coerce-same-length-3 t c =
+    search needs
+
+-- src/coerce.rt:48:1
+coerce-returns-4 : (t : ℕ) → coerce-lts.Need-returns-4 (coerce-calls t) (coerce-at t) coerce.Post
+coerce-returns-4 t c =
+    coerce-pair (c .before .before .before .before .before .before .before .before .before .before .before .before .args .question) (c .before .before .before .before .before .before .before .before .before .before .before .before .args .mask) (c .before .before .before .before .before .before .before .before .before .before .before .before .args .space) (c .before .before .before .before .before .before .before .before .before .before .before .before .args .left) (c .before .before .before .before .before .before .before .before .before .before .before .before .args .swap) _ _ _ _ _ (c .before .before .before .before .before .before .before .before .is-list-question .ensures) (c .before .before .before .before .before .before .same-sides .ensures) _ _ (c .before .before .before .before .before .if2 .left) (c .before .before .before .before .if3 .left) (c .before .before .before .before .before .before .before .before .before .if1 .left) (c .before .before .unwrap .ensures)
+
+-- src/coerce.rt:224:9
+coerce-field-look-requires : (t : ℕ) → coerce-field-lts.Need-look-requires (coerce-field-calls t) (coerce-field-at t) coerce-field.Post
+coerce-field-look-requires t c κs =
+    search needs
+
+-- src/coerce.rt:226:9
+coerce-field-is-nullable-requires : (t : ℕ) → coerce-field-lts.Need-is-nullable-requires (coerce-field-calls t) (coerce-field-at t) coerce-field.Post
+coerce-field-is-nullable-requires t c κs =
+    search needs
+
+-- src/coerce.rt:227:8
+coerce-field-name-field-requires : (t : ℕ) → coerce-field-lts.Need-name-field-requires (coerce-field-calls t) (coerce-field-at t) coerce-field.Post
+coerce-field-name-field-requires t c κs =
+    ((c .before .before .before .before .before .before .pre .1 .0), ((c .before .before .before .before .before .before .pre .1 .1), (c .before .before .look .ensures .1)))
+
+-- src/coerce.rt:229:9
+coerce-field-coerce-requires : (t : ℕ) → coerce-field-lts.Need-coerce-requires (coerce-field-calls t) (coerce-field-at t) coerce-field.Post
+coerce-field-coerce-requires t c κs =
+    (omega (arith, (c .before .before .before .before .before .before .before .before .before .before .before .pre .0)), (room-kept ((c .before .before .before .before .name-field .ensures .kept)) (c .before .before .before .before .before .before .before .before .before .before .before .pre .1 .0), field-ready _ (c .before .before .before .before .before .before .before .before .before .before .before .pre .1 .1) (c .before .before .before .before .before .before .before .look .ensures .1) (c .before .if1 .taken) (c .before .before .before .before .name-field .ensures)))
+
+-- src/coerce.rt:229:9
+coerce-field-same-length : (t : ℕ) → coerce-field-lts.Need-same-length (coerce-field-calls t) (coerce-field-at t) coerce-field.Post
+coerce-field-same-length t c =
+    search needs
+
+-- src/coerce.rt:229:9
+coerce-field-returns : (t : ℕ) → coerce-field-lts.Need-returns (coerce-field-calls t) (coerce-field-at t) coerce-field.Post
+coerce-field-returns t c =
+    field-merged _ _ _ _ _ _ _ _ _ _ (c .before .before .before .before .before .before .before .before .before .before .look .ensures .0) _ _ (c .before .before .before .before .before .before .before .name-field .ensures) _ _ _ (c .before .before .before .before .before .before .before .before .before .before .before .before .before .before .pre .1 .0) (c .before .before .before .before .if1 .taken) (c .before .before .before .before .before .before .before .before .before .is-nullable .ensures) (c .before .before .coerce .ensures)
+
+-- src/coerce.rt:209:1
+coerce-field-same-length-2 : (t : ℕ) → coerce-field-lts.Need-same-length-2 (coerce-field-calls t) (coerce-field-at t) coerce-field.Post
+coerce-field-same-length-2 t c =
+    search needs
+
+-- src/coerce.rt:209:1
+coerce-field-returns-2 : (t : ℕ) → coerce-field-lts.Need-returns-2 (coerce-field-calls t) (coerce-field-at t) coerce-field.Post
+coerce-field-returns-2 t c =
+    field-crowded _ _ _ _ _ _ _ _ _ _ (c .before .before .before .before .before .before .look .ensures .0) _ _ (c .before .before .before .name-field .ensures) (c .if1 .left)
+
+-- src/coerce.rt:496:9
+entry-look-requires : (t : ℕ) → entry-lts.Need-look-requires (entry-calls t) (entry-at t) entry.Post
+entry-look-requires t c κs =
+    search needs
+
+-- src/coerce.rt:498:9
+entry-is-nullable-requires : (t : ℕ) → entry-lts.Need-is-nullable-requires (entry-calls t) (entry-at t) entry.Post
+entry-is-nullable-requires t c κs =
+    search needs
+
+-- src/coerce.rt:499:8
+entry-name-field-requires : (t : ℕ) → entry-lts.Need-name-field-requires (entry-calls t) (entry-at t) entry.Post
+entry-name-field-requires t c κs =
+    ((c .before .before .before .before .before .before .pre .1 .0), ((c .before .before .before .before .before .before .pre .1 .1), (c .before .before .look .ensures .1)))
+
+-- src/coerce.rt:501:9
+entry-struct-rule-requires : (t : ℕ) → entry-lts.Need-struct-rule-requires (entry-calls t) (entry-at t) entry.Post
+entry-struct-rule-requires t c κs =
+    (omega (arith, (c .before .before .before .before .before .before .before .before .before .before .before .pre .0)), (room-kept ((c .before .before .before .before .name-field .ensures .kept)) (c .before .before .before .before .before .before .before .before .before .before .before .pre .1 .0), field-ready _ (c .before .before .before .before .before .before .before .before .before .before .before .pre .1 .1) (c .before .before .before .before .before .before .before .look .ensures .1) (c .before .if1 .taken) (c .before .before .before .before .name-field .ensures)))
+
+-- src/coerce.rt:501:9
+entry-same-length : (t : ℕ) → entry-lts.Need-same-length (entry-calls t) (entry-at t) entry.Post
+entry-same-length t c =
+    search needs
+
+-- src/coerce.rt:501:9
+entry-returns : (t : ℕ) → entry-lts.Need-returns (entry-calls t) (entry-at t) entry.Post
+entry-returns t c =
+    field-merged _ _ _ _ _ _ _ _ _ _ (c .before .before .before .before .before .before .before .before .before .before .look .ensures .0) _ _ (c .before .before .before .before .before .before .before .name-field .ensures) _ _ _ (c .before .before .before .before .before .before .before .before .before .before .before .before .before .before .pre .1 .0) (c .before .before .before .before .if1 .taken) (c .before .before .before .before .before .before .before .before .before .is-nullable .ensures) (c .before .before .struct-rule .ensures)
+
+-- src/coerce.rt:481:1
+entry-same-length-2 : (t : ℕ) → entry-lts.Need-same-length-2 (entry-calls t) (entry-at t) entry.Post
+entry-same-length-2 t c =
+    search needs
+
+-- src/coerce.rt:481:1
+entry-returns-2 : (t : ℕ) → entry-lts.Need-returns-2 (entry-calls t) (entry-at t) entry.Post
+entry-returns-2 t c =
+    field-crowded _ _ _ _ _ _ _ _ _ _ (c .before .before .before .before .before .before .look .ensures .0) _ _ (c .before .before .before .name-field .ensures) (c .if1 .left)
+
+-- src/coerce.rt:381:9
+list-rule-look-requires : (t : ℕ) → list-rule-lts.Need-look-requires (list-rule-calls t) (list-rule-at t) list-rule.Post
+list-rule-look-requires t c κs =
+    search needs
+
+-- src/coerce.rt:382:9
+list-rule-look-requires-2 : (t : ℕ) → list-rule-lts.Need-look-requires-2 (list-rule-calls t) (list-rule-at t) list-rule.Post
+list-rule-look-requires-2 t c κs =
+    search needs
+
+-- src/coerce.rt:383:9
+list-rule-list-kind-requires : (t : ℕ) → list-rule-lts.Need-list-kind-requires (list-rule-calls t) (list-rule-at t) list-rule.Post
+list-rule-list-kind-requires t c κs =
+    search needs
+
+-- src/coerce.rt:384:9
+list-rule-list-size-requires : (t : ℕ) → list-rule-lts.Need-list-size-requires (list-rule-calls t) (list-rule-at t) list-rule.Post
+list-rule-list-size-requires t c κs =
+    search needs
+
+-- src/coerce.rt:387:5
+list-rule-under-requires : (t : ℕ) → list-rule-lts.Need-under-requires (list-rule-calls t) (list-rule-at t) list-rule.Post
+list-rule-under-requires t c κs =
+    (omega (arith, (c .before .before .before .before .before .before .before .before .before .pre .0)), ((c .before .before .before .before .before .before .before .before .before .pre .1), (c .before .list-size .ensures .1)))
+
+-- src/coerce.rt:366:1
+list-rule-same-length : (t : ℕ) → list-rule-lts.Need-same-length (list-rule-calls t) (list-rule-at t) list-rule.Post
+list-rule-same-length t c =
+    search needs
+
+-- src/coerce.rt:366:1
+list-rule-returns : (t : ℕ) → list-rule-lts.Need-returns (list-rule-calls t) (list-rule-at t) list-rule.Post
+list-rule-returns t c =
+    list-merged _ _ _ (c .before .before .before .before .before .before .before .before .before .before .before .before .args .swap) _ _ _ _ _ _ _ (c .before .before .before .before .before .before .before .before .look .ensures .0) (c .before .before .before .before .before .before .look2 .ensures .0) (c .before .before .before .before .before .list-kind .ensures) (c .before .before .before .before .list-size .ensures .0) _ _ (c .before .before .under .ensures)
+
+-- src/coerce.rt:436:13
+list-struct-look-requires : (t : ℕ) → list-struct-lts.Need-look-requires (list-struct-calls t) (list-struct-at t) list-struct.Post
+list-struct-look-requires t c κs =
+    search needs
+
+-- src/coerce.rt:437:13
+list-struct-look-requires-2 : (t : ℕ) → list-struct-lts.Need-look-requires-2 (list-struct-calls t) (list-struct-at t) list-struct.Post
+list-struct-look-requires-2 t c κs =
+    search needs
+
+-- src/coerce.rt:438:13
+list-struct-same-arity-requires : (t : ℕ) → list-struct-lts.Need-same-arity-requires (list-struct-calls t) (list-struct-at t) list-struct.Post
+list-struct-same-arity-requires t c κs =
+    search needs
+
+-- src/coerce.rt:438:62
+list-struct-have-same-names-requires : (t : ℕ) → list-struct-lts.Need-have-same-names-requires (list-struct-calls t) (list-struct-at t) list-struct.Post
+list-struct-have-same-names-requires t c κs =
+    (c .before .before .before .before .before .before .before .before .before .pre .1 .0 .0 .few)
+
+-- src/coerce.rt:438:8
+list-struct-both-requires : (t : ℕ) → list-struct-lts.Need-both-requires (list-struct-calls t) (list-struct-at t) list-struct.Post
+list-struct-both-requires t c κs =
+    search needs
+
+-- src/coerce.rt:439:9
+list-struct-under-requires : (t : ℕ) → list-struct-lts.Need-under-requires (list-struct-calls t) (list-struct-at t) list-struct.Post
+list-struct-under-requires t c κs =
+    (omega (arith, (c .before .before .before .before .before .before .before .before .before .before .before .before .before .pre .0)), ((c .before .before .before .before .before .before .before .before .before .before .before .before .before .pre .1 .0), omega arith))
+
+-- src/coerce.rt:439:9
+list-struct-same-length : (t : ℕ) → list-struct-lts.Need-same-length (list-struct-calls t) (list-struct-at t) list-struct.Post
+list-struct-same-length t c =
+    search needs
+
+-- src/coerce.rt:439:9
+list-struct-returns : (t : ℕ) → list-struct-lts.Need-returns (list-struct-calls t) (list-struct-at t) list-struct.Post
+list-struct-returns t c =
+    listed-merged _ _ _ (c .before .before .before .before .before .before .before .before .before .before .before .before .before .before .before .before .args .swap) _ _ _ _ _ _ _ (c .before .before .before .before .before .before .before .before .before .before .before .before .look .ensures .0) (c .before .before .before .before .before .before .before .before .before .before .look2 .ensures .0) (c .before .before .before .before .before .before .before .before .same-arity .ensures) (c .before .before .before .before .before .before .have-same-names .ensures) (sym (c .before .before .before .before .before .both .ensures) ∙ (c .before .before .before .before .if1 .taken)) (c .before .before .before .before .before .before .before .before .before .before .before .before .before .before .before .before .pre .1 .1) _ _ (c .before .before .under .ensures)
+
+-- src/coerce.rt:420:1
+list-struct-same-length-2 : (t : ℕ) → list-struct-lts.Need-same-length-2 (list-struct-calls t) (list-struct-at t) list-struct.Post
+list-struct-same-length-2 t c =
+    search needs
+
+-- src/coerce.rt:420:1
+list-struct-returns-2 : (t : ℕ) → list-struct-lts.Need-returns-2 (list-struct-calls t) (list-struct-at t) list-struct.Post
+list-struct-returns-2 t c =
+    listed-none _ _ _ (c .before .before .before .before .before .before .before .before .before .before .before .before .args .swap) _ _ _ _ _ _ _ (c .before .before .before .before .before .before .before .before .look .ensures .0) (c .before .before .before .before .before .before .look2 .ensures .0) (c .before .before .before .before .same-arity .ensures) (c .before .before .have-same-names .ensures) (sym (c .before .both .ensures) ∙ (c .if1 .left))
+
+-- src/coerce.rt:461:17
+map-rule-add-label : (t : ℕ) → map-rule-lts.Need-add-label (map-rule-calls t) (map-rule-at t) map-rule.Post
+map-rule-add-label t c =
+    search needs
+
+-- src/coerce.rt:463:9
+map-rule-returns : (t : ℕ) → map-rule-lts.Need-returns (map-rule-calls t) (map-rule-at t) map-rule.Post
+map-rule-returns t c =
+    merges-full _ _ _ _ _ _ _ _ _ (c .if1 .taken)
+
+-- src/coerce.rt:465:9
+map-rule-look-requires : (t : ℕ) → map-rule-lts.Need-look-requires (map-rule-calls t) (map-rule-at t) map-rule.Post
+map-rule-look-requires t c κs =
+    search needs
+
+-- src/coerce.rt:466:9
+map-rule-look-requires-2 : (t : ℕ) → map-rule-lts.Need-look-requires-2 (map-rule-calls t) (map-rule-at t) map-rule.Post
+map-rule-look-requires-2 t c κs =
+    search needs
+
+-- src/coerce.rt:469:9
+map-rule-both-requires : (t : ℕ) → map-rule-lts.Need-both-requires (map-rule-calls t) (map-rule-at t) map-rule.Post
+map-rule-both-requires t c κs =
+    search needs
+
+-- src/coerce.rt:471:9
+map-rule-same-length : (t : ℕ) → map-rule-lts.Need-same-length (map-rule-calls t) (map-rule-at t) map-rule.Post
+map-rule-same-length t c =
+    search needs
+
+-- src/coerce.rt:471:9
+map-rule-returns-2 : (t : ℕ) → map-rule-lts.Need-returns-2 (map-rule-calls t) (map-rule-at t) map-rule.Post
+map-rule-returns-2 t c =
+    map-left-end _ _ _ _ _ _ _ _ _ _ _ (c .before .before .before .before .before .before .look .ensures .0) (c .before .before .before .before .look2 .ensures .0) (c .if2 .taken)
+
+-- src/coerce.rt:474:9
+map-rule-same-length-2 : (t : ℕ) → map-rule-lts.Need-same-length-2 (map-rule-calls t) (map-rule-at t) map-rule.Post
+map-rule-same-length-2 t c =
+    search needs
+
+-- src/coerce.rt:474:9
+map-rule-returns-3 : (t : ℕ) → map-rule-lts.Need-returns-3 (map-rule-calls t) (map-rule-at t) map-rule.Post
+map-rule-returns-3 t c =
+    map-right-end _ _ _ _ _ _ _ _ _ _ _ (c .before .before .before .before .before .before .before .look .ensures .0) (c .before .before .before .before .before .look2 .ensures .0) (c .if3 .taken)
+
+-- src/coerce.rt:476:46
+map-rule-add-lay : (t : ℕ) → map-rule-lts.Need-add-lay (map-rule-calls t) (map-rule-at t) map-rule.Post
+map-rule-add-lay t c =
+    search needs
+
+-- src/coerce.rt:476:5
+map-rule-lay-requires : (t : ℕ) → map-rule-lts.Need-lay-requires (map-rule-calls t) (map-rule-at t) map-rule.Post
+map-rule-lay-requires t c κs =
+    ((c .before .before .before .before .before .before .before .before .before .before .before .before .before .before .before .pre .1), ((c .before .before .before .before .before .before .before .before .before .before .if1 .left), (omega arith, omega (arith, (c .before .before .before .before .before .before .before .before .before .before .if1 .left), (c .before .before .before .before .before .before .before .before .before .before .before .before .before .before .before .pre .1 .0 .few)))))
+
+-- src/coerce.rt:477:76
+map-rule-add-t31 : (t : ℕ) → map-rule-lts.Need-add-t31 (map-rule-calls t) (map-rule-at t) map-rule.Post
+map-rule-add-t31 t c =
+    record { fits = omega (arith, (c .before .before .before .before .before .before .before .before .before .before .before .before .before .before .if1 .left), (c .before .before .before .before .before .before .before .before .before .before .before .before .before .before .before .before .before .before .before .pre .1 .0 .few)) }
+
+-- src/coerce.rt:477:5
+map-rule-entry-requires : (t : ℕ) → map-rule-lts.Need-entry-requires (map-rule-calls t) (map-rule-at t) map-rule.Post
+map-rule-entry-requires t c κs =
+    (omega (arith, (c .before .before .before .before .before .before .before .before .before .before .before .before .before .before .before .before .before .before .before .pre .0)), (room-kept ((c .before .before .before .lay .ensures .kept)) (c .before .before .before .before .before .before .before .before .before .before .before .before .before .before .before .before .before .before .before .pre .1 .0), after-passes _ (c .before .before .before .before .before .before .before .before .before .before .before .before .before .before .before .before .before .before .before .pre .1 .1) (c .before .before .before .before .before .before .before .before .before .before .before .before .before .before .if1 .left) .0))
+
+-- src/coerce.rt:445:1
+map-rule-same-length-3 : (t : ℕ) → map-rule-lts.Need-same-length-3 (map-rule-calls t) (map-rule-at t) map-rule.Post
+map-rule-same-length-3 t c =
+    search needs
+
+-- src/coerce.rt:445:1
+map-rule-returns-4 : (t : ℕ) → map-rule-lts.Need-returns-4 (map-rule-calls t) (map-rule-at t) map-rule.Post
+map-rule-returns-4 t c =
+    map-on _ _ _ _ _ _ _ _ _ _ _ (c .before .before .before .before .before .before .before .before .before .before .before .before .before .before .before .look .ensures .0) (c .before .before .before .before .before .before .before .before .before .before .before .before .before .look2 .ensures .0) (c .before .before .before .before .before .before .before .before .before .before .before .before .before .before .before .before .before .before .before .before .before .before .pre .1 .0) (c .before .before .before .before .before .before .before .before .before .before .before .before .before .before .before .before .before .before .before .before .before .before .pre .1 .1) (c .before .before .before .before .before .before .before .before .before .before .before .before .before .before .before .before .before .if1 .left) _ _ _ _ (c .before .before .before .before .before .before .before .before .before .before .both .ensures) (c .before .before .before .before .before .before .before .before .before .if2 .left) (c .before .before .before .before .before .before .before .before .if3 .left) (c .before .before .before .before .before .before .lay .ensures) (c .before .before .entry .ensures)
+
+-- src/coerce.rt:317:9
+nested-look-requires : (t : ℕ) → nested-lts.Need-look-requires (nested-calls t) (nested-at t) nested.Post
+nested-look-requires t c κs =
+    search needs
+
+-- src/coerce.rt:318:9
+nested-look-requires-2 : (t : ℕ) → nested-lts.Need-look-requires-2 (nested-calls t) (nested-at t) nested.Post
+nested-look-requires-2 t c κs =
+    search needs
+
+-- src/coerce.rt:321:13
+nested-is-list-requires : (t : ℕ) → nested-lts.Need-is-list-requires (nested-calls t) (nested-at t) nested.Post
+nested-is-list-requires t c κs =
+    search needs
+
+-- src/coerce.rt:321:25
+nested-is-list-requires-2 : (t : ℕ) → nested-lts.Need-is-list-requires-2 (nested-calls t) (nested-at t) nested.Post
+nested-is-list-requires-2 t c κs =
+    search needs
+
+-- src/coerce.rt:321:8
+nested-both-requires : (t : ℕ) → nested-lts.Need-both-requires (nested-calls t) (nested-at t) nested.Post
+nested-both-requires t c κs =
+    search needs
+
+-- src/coerce.rt:322:9
+nested-list-rule-requires : (t : ℕ) → nested-lts.Need-list-rule-requires (nested-calls t) (nested-at t) nested.Post
+nested-list-rule-requires t c κs =
+    (omega (arith, (c .before .before .before .before .before .before .before .before .before .before .before .pre .0)), (c .before .before .before .before .before .before .before .before .before .before .before .pre .1))
+
+-- src/coerce.rt:322:9
+nested-same-length : (t : ℕ) → nested-lts.Need-same-length (nested-calls t) (nested-at t) nested.Post
+nested-same-length t c =
+    search needs
+
+-- src/coerce.rt:322:9
+nested-returns : (t : ℕ) → nested-lts.Need-returns (nested-calls t) (nested-at t) nested.Post
+nested-returns t c =
+    nested-list _ _ _ _ (c .before .before .before .before .before .before .before .before .before .before .before .before .before .before .args .swap) _ _ _ _ _ _ _ (c .before .before .before .before .before .before .before .before .before .before .look .ensures .0) (c .before .before .before .before .before .before .before .before .look2 .ensures .0) _ _ (and-are (c .before .before .before .before .before .before .before .is-list .ensures) (c .before .before .before .before .before .before .is-list2 .ensures) (c .before .before .before .before .before .both .ensures) ∙ (c .before .before .before .before .if1 .taken)) (c .before .before .list-rule .ensures)
+
+-- src/coerce.rt:324:8
+nested-both-requires-2 : (t : ℕ) → nested-lts.Need-both-requires-2 (nested-calls t) (nested-at t) nested.Post
+nested-both-requires-2 t c κs =
+    search needs
+
+-- src/coerce.rt:325:12
+nested-is-list-question-requires : (t : ℕ) → nested-lts.Need-is-list-question-requires (nested-calls t) (nested-at t) nested.Post
+nested-is-list-question-requires t c κs =
+    search needs
+
+-- src/coerce.rt:326:13
+nested-list-struct-requires : (t : ℕ) → nested-lts.Need-list-struct-requires (nested-calls t) (nested-at t) nested.Post
+nested-list-struct-requires t c κs =
+    (omega (arith, (c .before .before .before .before .before .before .before .before .before .before .before .before .before .before .before .pre .0)), ((c .before .before .before .before .before .before .before .before .before .before .before .before .before .before .before .pre .1), left-is _ _ _ (c .before .before .before .before .before .before .before .before .before .look2 .result) (c .before .before .before .before .before .before .before .before .before .before .before .look .ensures .0) (sym (c .before .before .before .before .both2 .ensures) ∙ (c .before .before .before .if2 .taken))))
+
+-- src/coerce.rt:326:13
+nested-same-length-2 : (t : ℕ) → nested-lts.Need-same-length-2 (nested-calls t) (nested-at t) nested.Post
+nested-same-length-2 t c =
+    search needs
+
+-- src/coerce.rt:326:13
+nested-returns-2 : (t : ℕ) → nested-lts.Need-returns-2 (nested-calls t) (nested-at t) nested.Post
+nested-returns-2 t c =
+    nested-listed _ _ _ _ (c .before .before .before .before .before .before .before .before .before .before .before .before .before .before .before .before .before .before .args .swap) _ _ _ _ _ _ _ (c .before .before .before .before .before .before .before .before .before .before .before .before .before .before .look .ensures .0) (c .before .before .before .before .before .before .before .before .before .before .before .before .look2 .ensures .0) _ _ (and-are (c .before .before .before .before .before .before .before .before .before .before .before .is-list .ensures) (c .before .before .before .before .before .before .before .before .before .before .is-list2 .ensures) (c .before .before .before .before .before .before .before .before .before .both .ensures) ∙ (c .before .before .before .before .before .before .before .before .if1 .left)) (sym (c .before .before .before .before .before .before .before .both2 .ensures) ∙ (c .before .before .before .before .before .before .if2 .taken)) (sym (c .before .before .before .before .before .is-list-question .ensures) ∙ (c .before .before .before .before .if3 .taken)) (c .before .before .list-struct .ensures)
+
+-- src/coerce.rt:328:9
+nested-struct-rule-requires : (t : ℕ) → nested-lts.Need-struct-rule-requires (nested-calls t) (nested-at t) nested.Post
+nested-struct-rule-requires t c κs =
+    (omega (arith, (c .before .before .before .before .before .before .before .before .before .before .before .before .before .before .before .pre .0)), (c .before .before .before .before .before .before .before .before .before .before .before .before .before .before .before .pre .1))
+
+-- src/coerce.rt:328:9
+nested-same-length-3 : (t : ℕ) → nested-lts.Need-same-length-3 (nested-calls t) (nested-at t) nested.Post
+nested-same-length-3 t c =
+    search needs
+
+-- src/coerce.rt:328:9
+nested-returns-3 : (t : ℕ) → nested-lts.Need-returns-3 (nested-calls t) (nested-at t) nested.Post
+nested-returns-3 t c =
+    nested-struct _ _ _ _ (c .before .before .before .before .before .before .before .before .before .before .before .before .before .before .before .before .before .before .args .swap) _ _ _ _ _ _ _ (c .before .before .before .before .before .before .before .before .before .before .before .before .before .before .look .ensures .0) (c .before .before .before .before .before .before .before .before .before .before .before .before .look2 .ensures .0) _ _ (and-are (c .before .before .before .before .before .before .before .before .before .before .before .is-list .ensures) (c .before .before .before .before .before .before .before .before .before .before .is-list2 .ensures) (c .before .before .before .before .before .before .before .before .before .both .ensures) ∙ (c .before .before .before .before .before .before .before .before .if1 .left)) (sym (c .before .before .before .before .before .before .before .both2 .ensures) ∙ (c .before .before .before .before .before .before .if2 .taken)) (sym (c .before .before .before .before .before .is-list-question .ensures) ∙ (c .before .before .before .before .if3 .left)) (c .before .before .struct-rule .ensures)
+
+-- src/coerce.rt:330:8
+nested-both-requires-3 : (t : ℕ) → nested-lts.Need-both-requires-3 (nested-calls t) (nested-at t) nested.Post
+nested-both-requires-3 t c κs =
+    search needs
+
+-- src/coerce.rt:331:9
+nested-map-rule-requires : (t : ℕ) → nested-lts.Need-map-rule-requires (nested-calls t) (nested-at t) nested.Post
+nested-map-rule-requires t c κs =
+    (omega (arith, (c .before .before .before .before .before .before .before .before .before .before .before .before .before .before .before .pre .0)), (c .before .before .before .before .before .before .before .before .before .before .before .before .before .before .before .pre .1))
+
+-- src/coerce.rt:331:9
+nested-same-length-4 : (t : ℕ) → nested-lts.Need-same-length-4 (nested-calls t) (nested-at t) nested.Post
+nested-same-length-4 t c =
+    search needs
+
+-- src/coerce.rt:331:9
+nested-returns-4 : (t : ℕ) → nested-lts.Need-returns-4 (nested-calls t) (nested-at t) nested.Post
+nested-returns-4 t c =
+    nested-map _ _ _ _ (c .before .before .before .before .before .before .before .before .before .before .before .before .before .before .before .before .before .before .args .swap) _ _ _ _ _ _ _ (c .before .before .before .before .before .before .before .before .before .before .before .before .before .before .look .ensures .0) (c .before .before .before .before .before .before .before .before .before .before .before .before .look2 .ensures .0) _ _ (and-are (c .before .before .before .before .before .before .before .before .before .before .before .is-list .ensures) (c .before .before .before .before .before .before .before .before .before .before .is-list2 .ensures) (c .before .before .before .before .before .before .before .before .before .both .ensures) ∙ (c .before .before .before .before .before .before .before .before .if1 .left)) (sym (c .before .before .before .before .before .before .before .both2 .ensures) ∙ (c .before .before .before .before .before .before .if2 .left)) (sym (c .before .before .before .before .before .both3 .ensures) ∙ (c .before .before .before .before .if4 .taken)) (c .before .before .map-rule .ensures)
+
+-- src/coerce.rt:333:40
+nested-plain-requires : (t : ℕ) → nested-lts.Need-plain-requires (nested-calls t) (nested-at t) nested.Post
+nested-plain-requires t c κs =
+    search needs
+
+-- src/coerce.rt:333:5
+nested-lay-step-requires : (t : ℕ) → nested-lts.Need-lay-step-requires (nested-calls t) (nested-at t) nested.Post
+nested-lay-step-requires t c κs =
+    (c .before .before .before .before .before .before .before .before .before .before .before .before .before .before .before .before .pre .1)
+
+-- src/coerce.rt:302:1
+nested-same-length-5 : (t : ℕ) → nested-lts.Need-same-length-5 (nested-calls t) (nested-at t) nested.Post
+nested-same-length-5 t c =
+    search needs
+
+-- src/coerce.rt:302:1
+nested-returns-5 : (t : ℕ) → nested-lts.Need-returns-5 (nested-calls t) (nested-at t) nested.Post
+nested-returns-5 t c =
+    nested-plain _ _ _ _ (c .before .before .before .before .before .before .before .before .before .before .before .before .before .before .before .before .before .before .before .args .swap) _ _ _ _ _ _ _ (c .before .before .before .before .before .before .before .before .before .before .before .before .before .before .before .look .ensures .0) (c .before .before .before .before .before .before .before .before .before .before .before .before .before .look2 .ensures .0) _ _ (and-are (c .before .before .before .before .before .before .before .before .before .before .before .before .is-list .ensures) (c .before .before .before .before .before .before .before .before .before .before .before .is-list2 .ensures) (c .before .before .before .before .before .before .before .before .before .before .both .ensures) ∙ (c .before .before .before .before .before .before .before .before .before .if1 .left)) (sym (c .before .before .before .before .before .before .before .before .both2 .ensures) ∙ (c .before .before .before .before .before .before .before .if2 .left)) (sym (c .before .before .before .before .before .before .both3 .ensures) ∙ (c .before .before .before .before .before .if4 .left)) _ (c .before .before .before .plain .ensures) (c .before .before .lay-step .ensures)
+
+-- src/coerce.rt:92:9
+resolve-kind-at-requires : (t : ℕ) → resolve-lts.Need-kind-at-requires (resolve-calls t) (resolve-at t) resolve.Post
+resolve-kind-at-requires t c κs =
+    search needs
+
+-- src/coerce.rt:93:9
+resolve-kind-at-requires-2 : (t : ℕ) → resolve-lts.Need-kind-at-requires-2 (resolve-calls t) (resolve-at t) resolve.Post
+resolve-kind-at-requires-2 t c κs =
+    search needs
+
+-- src/coerce.rt:94:8
+resolve-either-requires : (t : ℕ) → resolve-lts.Need-either-requires (resolve-calls t) (resolve-at t) resolve.Post
+resolve-either-requires t c κs =
+    search needs
+
+-- src/coerce.rt:95:9
+resolve-resolve-wrapper-requires : (t : ℕ) → resolve-lts.Need-resolve-wrapper-requires (resolve-calls t) (resolve-at t) resolve.Post
+resolve-resolve-wrapper-requires t c κs =
+    (omega (arith, (c .before .before .before .before .before .before .before .before .before .pre .0)), ((c .before .before .before .before .before .before .before .before .before .pre .1), inl refl))
+
+-- src/coerce.rt:95:9
+resolve-same-length : (t : ℕ) → resolve-lts.Need-same-length (resolve-calls t) (resolve-at t) resolve.Post
+resolve-same-length t c =
+    search needs
+
+-- src/coerce.rt:95:9
+resolve-returns : (t : ℕ) → resolve-lts.Need-returns (resolve-calls t) (resolve-at t) resolve.Post
+resolve-returns t c =
+    resolve-dictionary _ _ _ _ (c .before .before .before .before .before .before .before .before .before .before .before .before .args .swap) _ _ _ _ _ (c .before .before .before .before .before .before .before .before .kind-at .ensures) (c .before .before .before .before .before .before .kind-at2 .ensures) _ _ (sym (c .before .before .before .before .before .either .ensures) ∙ (c .before .before .before .before .if1 .taken)) (c .before .before .resolve-wrapper .ensures)
+
+-- src/coerce.rt:97:8
+resolve-either-requires-2 : (t : ℕ) → resolve-lts.Need-either-requires-2 (resolve-calls t) (resolve-at t) resolve.Post
+resolve-either-requires-2 t c κs =
+    search needs
+
+-- src/coerce.rt:98:9
+resolve-resolve-wrapper-requires-2 : (t : ℕ) → resolve-lts.Need-resolve-wrapper-requires-2 (resolve-calls t) (resolve-at t) resolve.Post
+resolve-resolve-wrapper-requires-2 t c κs =
+    (omega (arith, (c .before .before .before .before .before .before .before .before .before .before .before .pre .0)), ((c .before .before .before .before .before .before .before .before .before .before .before .pre .1), inr refl))
+
+-- src/coerce.rt:98:9
+resolve-same-length-2 : (t : ℕ) → resolve-lts.Need-same-length-2 (resolve-calls t) (resolve-at t) resolve.Post
+resolve-same-length-2 t c =
+    search needs
+
+-- src/coerce.rt:98:9
+resolve-returns-2 : (t : ℕ) → resolve-lts.Need-returns-2 (resolve-calls t) (resolve-at t) resolve.Post
+resolve-returns-2 t c =
+    resolve-runs _ _ _ _ (c .before .before .before .before .before .before .before .before .before .before .before .before .before .before .args .swap) _ _ _ _ _ (c .before .before .before .before .before .before .before .before .before .before .kind-at .ensures) (c .before .before .before .before .before .before .before .before .kind-at2 .ensures) _ _ (sym (c .before .before .before .before .before .before .before .either .ensures) ∙ (c .before .before .before .before .before .before .if1 .left)) (sym (c .before .before .before .before .before .either2 .ensures) ∙ (c .before .before .before .before .if2 .taken)) (c .before .before .resolve-wrapper2 .ensures)
+
+-- src/coerce.rt:100:5
+resolve-nested-requires : (t : ℕ) → resolve-lts.Need-nested-requires (resolve-calls t) (resolve-at t) resolve.Post
+resolve-nested-requires t c κs =
+    (omega (arith, (c .before .before .before .before .before .before .before .before .before .before .before .pre .0)), (c .before .before .before .before .before .before .before .before .before .before .before .pre .1))
+
+-- src/coerce.rt:77:1
+resolve-same-length-3 : (t : ℕ) → resolve-lts.Need-same-length-3 (resolve-calls t) (resolve-at t) resolve.Post
+resolve-same-length-3 t c =
+    search needs
+
+-- src/coerce.rt:77:1
+resolve-returns-3 : (t : ℕ) → resolve-lts.Need-returns-3 (resolve-calls t) (resolve-at t) resolve.Post
+resolve-returns-3 t c =
+    resolve-nested _ _ _ _ (c .before .before .before .before .before .before .before .before .before .before .before .before .before .before .args .swap) _ _ _ _ _ (c .before .before .before .before .before .before .before .before .before .before .kind-at .ensures) (c .before .before .before .before .before .before .before .before .kind-at2 .ensures) _ _ (sym (c .before .before .before .before .before .before .before .either .ensures) ∙ (c .before .before .before .before .before .before .if1 .left)) (sym (c .before .before .before .before .before .either2 .ensures) ∙ (c .before .before .before .before .if2 .left)) (c .before .before .nested .ensures)
+
+-- src/coerce.rt:121:9
+resolve-wrapper-kind-at-requires : (t : ℕ) → resolve-wrapper-lts.Need-kind-at-requires (resolve-wrapper-calls t) (resolve-wrapper-at t) resolve-wrapper.Post
+resolve-wrapper-kind-at-requires t c κs =
+    search needs
+
+-- src/coerce.rt:122:9
+resolve-wrapper-kind-at-requires-2 : (t : ℕ) → resolve-wrapper-lts.Need-kind-at-requires-2 (resolve-wrapper-calls t) (resolve-wrapper-at t) resolve-wrapper.Post
+resolve-wrapper-kind-at-requires-2 t c κs =
+    search needs
+
+-- src/coerce.rt:125:13
+resolve-wrapper-both-parts-requires : (t : ℕ) → resolve-wrapper-lts.Need-both-parts-requires (resolve-wrapper-calls t) (resolve-wrapper-at t) resolve-wrapper.Post
+resolve-wrapper-both-parts-requires t c κs =
+    (omega (arith, (c .before .before .before .before .before .before .before .before .before .pre .0)), (c .before .before .before .before .before .before .before .before .before .pre .1 .0))
+
+-- src/coerce.rt:125:13
+resolve-wrapper-same-length : (t : ℕ) → resolve-wrapper-lts.Need-same-length (resolve-wrapper-calls t) (resolve-wrapper-at t) resolve-wrapper.Post
+resolve-wrapper-same-length t c =
+    search needs
+
+-- src/coerce.rt:125:13
+resolve-wrapper-returns : (t : ℕ) → resolve-wrapper-lts.Need-returns (resolve-wrapper-calls t) (resolve-wrapper-at t) resolve-wrapper.Post
+resolve-wrapper-returns t c =
+    wrap-both _ _ _ (c .before .before .before .before .before .before .before .before .before .before .before .before .args .swap) _ _ _ _ _ (c .before .before .before .before .before .before .before .before .kind-at .ensures) (c .before .before .before .before .before .before .kind-at2 .ensures) (c .before .before .before .before .before .before .before .before .before .before .before .before .pre .1 .1) _ _ (c .before .before .before .before .before .if1 .taken) (c .before .before .before .before .if2 .taken) (c .before .before .both-parts .ensures)
+
+-- src/coerce.rt:127:9
+resolve-wrapper-rewrapped-requires : (t : ℕ) → resolve-wrapper-lts.Need-rewrapped-requires (resolve-wrapper-calls t) (resolve-wrapper-at t) resolve-wrapper.Post
+resolve-wrapper-rewrapped-requires t c κs =
+    (omega (arith, (c .before .before .before .before .before .before .before .before .before .pre .0)), ((c .before .before .before .before .before .before .before .before .before .pre .1 .0), ((c .before .before .before .before .before .before .before .before .before .pre .1 .1), sym (c .before .before .before .before .before .kind-at .ensures) ∙ (c .before .before .if1 .taken))))
+
+-- src/coerce.rt:127:9
+resolve-wrapper-same-length-2 : (t : ℕ) → resolve-wrapper-lts.Need-same-length-2 (resolve-wrapper-calls t) (resolve-wrapper-at t) resolve-wrapper.Post
+resolve-wrapper-same-length-2 t c =
+    search needs
+
+-- src/coerce.rt:127:9
+resolve-wrapper-returns-2 : (t : ℕ) → resolve-wrapper-lts.Need-returns-2 (resolve-wrapper-calls t) (resolve-wrapper-at t) resolve-wrapper.Post
+resolve-wrapper-returns-2 t c =
+    wrap-left _ _ _ (c .before .before .before .before .before .before .before .before .before .before .before .before .args .swap) _ _ _ _ _ (c .before .before .before .before .before .before .before .before .kind-at .ensures) (c .before .before .before .before .before .before .kind-at2 .ensures) (c .before .before .before .before .before .before .before .before .before .before .before .before .pre .1 .1) _ _ (c .before .before .before .before .before .if1 .taken) (c .before .before .before .before .if2 .left) (c .before .before .rewrapped .ensures)
+
+-- src/coerce.rt:130:9
+resolve-wrapper-rewrapped-requires-2 : (t : ℕ) → resolve-wrapper-lts.Need-rewrapped-requires-2 (resolve-wrapper-calls t) (resolve-wrapper-at t) resolve-wrapper.Post
+resolve-wrapper-rewrapped-requires-2 t c κs =
+    (omega (arith, (c .before .before .before .before .before .before .before .before .before .pre .0)), ((c .before .before .before .before .before .before .before .before .before .pre .1 .0), ((c .before .before .before .before .before .before .before .before .before .pre .1 .1), sym (c .before .before .before .kind-at2 .ensures) ∙ (c .before .if3 .taken))))
+
+-- src/coerce.rt:130:9
+resolve-wrapper-same-length-3 : (t : ℕ) → resolve-wrapper-lts.Need-same-length-3 (resolve-wrapper-calls t) (resolve-wrapper-at t) resolve-wrapper.Post
+resolve-wrapper-same-length-3 t c =
+    search needs
+
+-- src/coerce.rt:130:9
+resolve-wrapper-returns-3 : (t : ℕ) → resolve-wrapper-lts.Need-returns-3 (resolve-wrapper-calls t) (resolve-wrapper-at t) resolve-wrapper.Post
+resolve-wrapper-returns-3 t c =
+    wrap-right _ _ _ (c .before .before .before .before .before .before .before .before .before .before .before .before .args .swap) _ _ _ _ _ (c .before .before .before .before .before .before .before .before .kind-at .ensures) (c .before .before .before .before .before .before .kind-at2 .ensures) (c .before .before .before .before .before .before .before .before .before .before .before .before .pre .1 .1) _ _ (c .before .before .before .before .before .if1 .left) (c .before .before .before .before .if3 .taken) (c .before .before .rewrapped2 .ensures)
+
+-- src/coerce.rt:104:1
+resolve-wrapper-same-length-4 : (t : ℕ) → resolve-wrapper-lts.Need-same-length-4 (resolve-wrapper-calls t) (resolve-wrapper-at t) resolve-wrapper.Post
+resolve-wrapper-same-length-4 t c =
+    search needs
+
+-- src/coerce.rt:104:1
+resolve-wrapper-returns-4 : (t : ℕ) → resolve-wrapper-lts.Need-returns-4 (resolve-wrapper-calls t) (resolve-wrapper-at t) resolve-wrapper.Post
+resolve-wrapper-returns-4 t c =
+    wrap-none _ _ _ (c .before .before .before .before .before .before .before .before .args .swap) _ _ _ _ _ (c .before .before .before .before .kind-at .ensures) (c .before .before .kind-at2 .ensures) (c .before .before .before .before .before .before .before .before .pre .1 .1) (c .before .if1 .left) (c .if3 .left)
+
+-- src/coerce.rt:184:9
+rewrapped-returns : (t : ℕ) → rewrapped-lts.Need-returns (rewrapped-calls t) (rewrapped-at t) rewrapped.Post
+rewrapped-returns t c =
+    merges-full _ _ _ _ _ _ _ _ _ (c .if1 .taken)
+
+-- src/coerce.rt:186:9
+rewrapped-look-requires : (t : ℕ) → rewrapped-lts.Need-look-requires (rewrapped-calls t) (rewrapped-at t) rewrapped.Post
+rewrapped-look-requires t c κs =
+    search needs
+
+-- src/coerce.rt:188:18
+rewrapped-look-requires-2 : (t : ℕ) → rewrapped-lts.Need-look-requires-2 (rewrapped-calls t) (rewrapped-at t) rewrapped.Post
+rewrapped-look-requires-2 t c κs =
+    search needs
+
+-- src/coerce.rt:189:11
+rewrapped-copy-head-requires : (t : ℕ) → rewrapped-lts.Need-copy-head-requires (rewrapped-calls t) (rewrapped-at t) rewrapped.Post
+rewrapped-copy-head-requires t c κs =
+    ((c .before .before .before .before .before .before .before .before .before .before .pre .1 .0), ((c .before .before .before .before .before .if1 .left), (omega arith, (c .before .before .before .look .ensures .1))))
+
+-- src/coerce.rt:190:19
+rewrapped-enum-known-a : (t : ℕ) → rewrapped-lts.Need-enum-known-a (rewrapped-calls t) (rewrapped-at t) rewrapped.Post
+rewrapped-enum-known-a t c =
+    search needs
+
+-- src/coerce.rt:190:31
+rewrapped-copy-field-requires : (t : ℕ) → rewrapped-lts.Need-copy-field-requires (rewrapped-calls t) (rewrapped-at t) rewrapped.Post
+rewrapped-copy-field-requires t c κs =
+    let cp = rw (c .before .before .a .given .1) at (c .before .before .before .before .before .before .copy-head .ensures) in
+    (room-kept (cp .kept) (c .before .before .before .before .before .before .before .before .before .before .before .before .before .before .before .before .before .pre .1 .0 .0), cp .passes .0)
+
+-- src/coerce.rt:191:23
+rewrapped-enum-known-b : (t : ℕ) → rewrapped-lts.Need-enum-known-b (rewrapped-calls t) (rewrapped-at t) rewrapped.Post
+rewrapped-enum-known-b t c =
+    search needs
+
+-- src/coerce.rt:191:35
+rewrapped-coerce-field-requires : (t : ℕ) → rewrapped-lts.Need-coerce-field-requires (rewrapped-calls t) (rewrapped-at t) rewrapped.Post
+rewrapped-coerce-field-requires t c κs =
+    let cp = rw (c .before .before .before .before .before .before .before .before .before .a .given .1) at (c .before .before .before .before .before .before .before .before .before .before .before .before .before .copy-head .ensures) in
+    let cf = rw (c .before .before .b .given .1) at (c .before .before .before .before .before .before .copy-field .ensures) in
+    (omega (arith, (c .before .before .before .before .before .before .before .before .before .before .before .before .before .before .before .before .before .before .before .before .before .before .before .before .pre .0)), (room-kept (cf .kept) (room-kept (cp .kept) (c .before .before .before .before .before .before .before .before .before .before .before .before .before .before .before .before .before .before .before .before .before .before .before .before .pre .1 .0 .0)), cf .grows .0))
+
+-- src/coerce.rt:192:27
+rewrapped-enum-known-e : (t : ℕ) → rewrapped-lts.Need-enum-known-e (rewrapped-calls t) (rewrapped-at t) rewrapped.Post
+rewrapped-enum-known-e t c =
+    search needs
+
+-- src/coerce.rt:194:21
+rewrapped-tie-requires : (t : ℕ) → rewrapped-lts.Need-tie-requires (rewrapped-calls t) (rewrapped-at t) rewrapped.Post
+rewrapped-tie-requires t c κs =
+    let cp = rw (c .before .before .before .before .before .before .before .before .before .before .before .before .before .before .before .before .a .given .1) at (c .before .before .before .before .before .before .before .before .before .before .before .before .before .before .before .before .before .before .before .before .copy-head .ensures) in
+    let cf = rw (c .before .before .before .before .before .before .before .before .before .b .given .1) at (c .before .before .before .before .before .before .before .before .before .before .before .before .before .copy-field .ensures) in
+    let mf = rw (c .before .before .e .given .1) at (c .before .before .before .before .before .before .coerce-field .ensures) in
+    ((room-kept (mf .kept) (room-kept (cf .kept) (room-kept (cp .kept) (c .before .before .before .before .before .before .before .before .before .before .before .before .before .before .before .before .before .before .before .before .before .before .before .before .before .before .before .before .before .before .before .pre .1 .0 .0)))), (omega (arith, cf .further, cf .grows .0 .records), omega (arith, cf .grows .0 .records, (c .before .before .before .before .before .before .before .before .before .before .before .before .before .before .before .before .before .before .before .before .before .before .before .before .before .before .before .before .before .before .before .pre .1 .0 .0 .few))))
+
+-- src/coerce.rt:195:21
+rewrapped-keep-wrapper-requires : (t : ℕ) → rewrapped-lts.Need-keep-wrapper-requires (rewrapped-calls t) (rewrapped-at t) rewrapped.Post
+rewrapped-keep-wrapper-requires t c κs =
+    let cp = rw (c .before .before .before .before .before .before .before .before .before .before .before .before .before .before .before .before .before .before .before .before .a .given .1) at (c .before .before .before .before .before .before .before .before .before .before .before .before .before .before .before .before .before .before .before .before .before .before .before .before .copy-head .ensures) in
+    let cf = rw (c .before .before .before .before .before .before .before .before .before .before .before .before .before .b .given .1) at (c .before .before .before .before .before .before .before .before .before .before .before .before .before .before .before .before .before .copy-field .ensures) in
+    let mf = rw (c .before .before .before .before .before .before .e .given .1) at (c .before .before .before .before .before .before .before .before .before .before .coerce-field .ensures) in
+    (room-kept (tied-kept _ _ _ _ _ (c .before .before .before .tie .ensures) 0 (omega (arith, cf .further, cf .grows .0 .records))) (room-kept (mf .kept) (room-kept (cf .kept) (room-kept (cp .kept) (c .before .before .before .before .before .before .before .before .before .before .before .before .before .before .before .before .before .before .before .before .before .before .before .before .before .before .before .before .before .before .before .before .before .before .before .pre .1 .0 .0)))), (c .before .before .before .before .before .before .before .before .before .before .before .before .before .before .before .before .before .before .before .before .before .before .before .before .before .before .before .before .before .before .before .before .before .before .before .pre .1 .0 .1))
+
+-- src/coerce.rt:197:28
+rewrapped-enum-told : (t : ℕ) → rewrapped-lts.Need-enum-told (rewrapped-calls t) (rewrapped-at t) rewrapped.Post
+rewrapped-enum-told t c =
+    search needs
+
+-- src/coerce.rt:198:30
+rewrapped-enum-told-2 : (t : ℕ) → rewrapped-lts.Need-enum-told-2 (rewrapped-calls t) (rewrapped-at t) rewrapped.Post
+rewrapped-enum-told-2 t c =
+    search needs
+
+-- src/coerce.rt:200:24
+rewrapped-enum-told-3 : (t : ℕ) → rewrapped-lts.Need-enum-told-3 (rewrapped-calls t) (rewrapped-at t) rewrapped.Post
+rewrapped-enum-told-3 t c =
+    search needs
+
+-- src/coerce.rt:201:26
+rewrapped-enum-told-4 : (t : ℕ) → rewrapped-lts.Need-enum-told-4 (rewrapped-calls t) (rewrapped-at t) rewrapped.Post
+rewrapped-enum-told-4 t c =
+    search needs
+
+-- src/coerce.rt:203:20
+rewrapped-enum-told-5 : (t : ℕ) → rewrapped-lts.Need-enum-told-5 (rewrapped-calls t) (rewrapped-at t) rewrapped.Post
+rewrapped-enum-told-5 t c =
+    search needs
+
+-- src/coerce.rt:204:22
+rewrapped-enum-told-6 : (t : ℕ) → rewrapped-lts.Need-enum-told-6 (rewrapped-calls t) (rewrapped-at t) rewrapped.Post
+rewrapped-enum-told-6 t c =
+    search needs
+
+-- src/coerce.rt:166:1
+rewrapped-same-length : (t : ℕ) → rewrapped-lts.Need-same-length (rewrapped-calls t) (rewrapped-at t) rewrapped.Post
+rewrapped-same-length t c =
+    let cp = rw (c .before .before .before .before .before .before .before .before .before .before .before .before .before .before .before .before .before .before .before .before .before .before .before .a .given .1) at (c .before .before .before .before .before .before .before .before .before .before .before .before .before .before .before .before .before .before .before .before .before .before .before .before .before .before .before .copy-head .ensures) in
+    let cf = rw (c .before .before .before .before .before .before .before .before .before .before .before .before .before .before .before .before .b .given .1) at (c .before .before .before .before .before .before .before .before .before .before .before .before .before .before .before .before .before .before .before .before .copy-field .ensures) in
+    let mf = rw (c .before .before .before .before .before .before .before .before .before .e .given .1) at (c .before .before .before .before .before .before .before .before .before .before .before .before .before .coerce-field .ensures) in
+    wrapper-on _ _ _ _ _ _ _ _ _ _ (c .before .before .before .before .before .before .before .before .before .before .before .before .before .before .before .before .before .before .before .before .before .before .before .before .before .before .before .before .before .before .before .before .before .before .before .before .before .before .pre .1 .0 .0) (c .before .before .before .before .before .before .before .before .before .before .before .before .before .before .before .before .before .before .before .before .before .before .before .before .before .before .before .before .before .before .before .before .before .before .before .before .before .before .pre .1 .1 .0) _ (c .before .before .before .before .before .before .before .before .before .before .before .before .before .before .before .before .before .before .before .before .before .before .before .before .before .before .before .before .before .before .before .look .ensures .0) (c .before .before .before .before .before .before .before .before .before .before .before .before .before .before .before .before .before .before .before .before .before .before .before .before .before .before .before .before .before .before .before .before .before .before .before .before .before .before .pre .1 .1 .1) _ (c .before .before .before .before .before .before .before .before .before .before .before .before .before .before .before .before .before .before .before .before .before .before .before .before .before .before .before .before .before .look2 .ensures .0) _ _ cp _ _ cf _ _ mf _ (c .before .before .before .before .before .before .tie .ensures) _ _ (c .before .before .keep-wrapper .ensures) .writes .kept .long
+
+-- src/coerce.rt:166:1
+rewrapped-returns-2 : (t : ℕ) → rewrapped-lts.Need-returns-2 (rewrapped-calls t) (rewrapped-at t) rewrapped.Post
+rewrapped-returns-2 t c =
+    let cp = rw (c .before .before .before .before .before .before .before .before .before .before .before .before .before .before .before .before .before .before .before .before .before .before .before .a .given .1) at (c .before .before .before .before .before .before .before .before .before .before .before .before .before .before .before .before .before .before .before .before .before .before .before .before .before .before .before .copy-head .ensures) in
+    let cf = rw (c .before .before .before .before .before .before .before .before .before .before .before .before .before .before .before .before .b .given .1) at (c .before .before .before .before .before .before .before .before .before .before .before .before .before .before .before .before .before .before .before .before .copy-field .ensures) in
+    let mf = rw (c .before .before .before .before .before .before .before .before .before .e .given .1) at (c .before .before .before .before .before .before .before .before .before .before .before .before .before .coerce-field .ensures) in
+    wrapper-on _ _ _ _ _ _ _ _ _ _ (c .before .before .before .before .before .before .before .before .before .before .before .before .before .before .before .before .before .before .before .before .before .before .before .before .before .before .before .before .before .before .before .before .before .before .before .before .before .before .pre .1 .0 .0) (c .before .before .before .before .before .before .before .before .before .before .before .before .before .before .before .before .before .before .before .before .before .before .before .before .before .before .before .before .before .before .before .before .before .before .before .before .before .before .pre .1 .1 .0) _ (c .before .before .before .before .before .before .before .before .before .before .before .before .before .before .before .before .before .before .before .before .before .before .before .before .before .before .before .before .before .before .before .look .ensures .0) (c .before .before .before .before .before .before .before .before .before .before .before .before .before .before .before .before .before .before .before .before .before .before .before .before .before .before .before .before .before .before .before .before .before .before .before .before .before .before .pre .1 .1 .1) _ (c .before .before .before .before .before .before .before .before .before .before .before .before .before .before .before .before .before .before .before .before .before .before .before .before .before .before .before .before .before .look2 .ensures .0) _ _ cp _ _ cf _ _ mf _ (c .before .before .before .before .before .before .tie .ensures) _ _ (c .before .before .keep-wrapper .ensures)
+
+-- src/coerce.rt:166:1
+rewrapped-same-length-2 : (t : ℕ) → rewrapped-lts.Need-same-length-2 (rewrapped-calls t) (rewrapped-at t) rewrapped.Post
+rewrapped-same-length-2 t c =
+    search needs
+
+-- src/coerce.rt:166:1
+rewrapped-returns-3 : (t : ℕ) → rewrapped-lts.Need-returns-3 (rewrapped-calls t) (rewrapped-at t) rewrapped.Post
+rewrapped-returns-3 t c =
+    let cp = rw (c .before .before .before .before .before .before .before .before .before .before .before .before .before .before .a .given .1) at (c .before .before .before .before .before .before .before .before .before .before .before .before .before .before .before .before .before .before .copy-head .ensures) in
+    let cf = rw (c .before .before .before .before .before .before .before .b .given .1) at (c .before .before .before .before .before .before .before .before .before .before .before .copy-field .ensures) in
+    value-none _ _ _ _ _ _ _ _ _ _ (c .before .before .before .before .before .before .before .before .before .before .before .before .before .before .before .before .before .before .before .before .before .before .before .before .before .before .before .before .before .pre .1 .0 .0) (c .before .before .before .before .before .before .before .before .before .before .before .before .before .before .before .before .before .before .before .before .before .before .before .before .before .before .before .before .before .pre .1 .1 .0) _ (c .before .before .before .before .before .before .before .before .before .before .before .before .before .before .before .before .before .before .before .before .before .before .look .ensures .0) (c .before .before .before .before .before .before .before .before .before .before .before .before .before .before .before .before .before .before .before .before .before .before .before .before .before .before .before .before .before .pre .1 .1 .1) _ (c .before .before .before .before .before .before .before .before .before .before .before .before .before .before .before .before .before .before .before .before .look2 .ensures .0) _ _ cp _ _ cf _ (rw (c .enum-told .given .1) at (c .before .before .before .before .coerce-field .ensures))
+
+-- src/coerce.rt:166:1
+rewrapped-same-length-3 : (t : ℕ) → rewrapped-lts.Need-same-length-3 (rewrapped-calls t) (rewrapped-at t) rewrapped.Post
+rewrapped-same-length-3 t c =
+    search needs
+
+-- src/coerce.rt:166:1
+rewrapped-returns-4 : (t : ℕ) → rewrapped-lts.Need-returns-4 (rewrapped-calls t) (rewrapped-at t) rewrapped.Post
+rewrapped-returns-4 t c =
+    let cp = rw (c .before .before .before .before .before .before .before .before .before .before .before .before .before .before .a .given .1) at (c .before .before .before .before .before .before .before .before .before .before .before .before .before .before .before .before .before .before .copy-head .ensures) in
+    let cf = rw (c .before .before .before .before .before .before .before .b .given .1) at (c .before .before .before .before .before .before .before .before .before .before .before .copy-field .ensures) in
+    value-full _ _ _ _ _ _ _ _ _ _ (c .before .before .before .before .before .before .before .before .before .before .before .before .before .before .before .before .before .before .before .before .before .before .before .before .before .before .before .before .before .pre .1 .0 .0) (c .before .before .before .before .before .before .before .before .before .before .before .before .before .before .before .before .before .before .before .before .before .before .before .before .before .before .before .before .before .pre .1 .1 .0) _ (c .before .before .before .before .before .before .before .before .before .before .before .before .before .before .before .before .before .before .before .before .before .before .look .ensures .0) (c .before .before .before .before .before .before .before .before .before .before .before .before .before .before .before .before .before .before .before .before .before .before .before .before .before .before .before .before .before .pre .1 .1 .1) _ (c .before .before .before .before .before .before .before .before .before .before .before .before .before .before .before .before .before .before .before .before .look2 .ensures .0) _ _ cp _ _ cf _ (rw (c .enum-told2 .given .1) at (c .before .before .before .before .coerce-field .ensures))
+
+-- src/coerce.rt:166:1
+rewrapped-same-length-4 : (t : ℕ) → rewrapped-lts.Need-same-length-4 (rewrapped-calls t) (rewrapped-at t) rewrapped.Post
+rewrapped-same-length-4 t c =
+    search needs
+
+-- src/coerce.rt:166:1
+rewrapped-returns-5 : (t : ℕ) → rewrapped-lts.Need-returns-5 (rewrapped-calls t) (rewrapped-at t) rewrapped.Post
+rewrapped-returns-5 t c =
+    let cp = rw (c .before .before .before .before .before .before .before .a .given .1) at (c .before .before .before .before .before .before .before .before .before .before .before .copy-head .ensures) in
+    index-none _ _ _ _ _ _ _ _ _ _ (c .before .before .before .before .before .before .before .before .before .before .before .before .before .before .before .before .before .before .before .before .before .before .pre .1 .0 .0) (c .before .before .before .before .before .before .before .before .before .before .before .before .before .before .before .before .before .before .before .before .before .before .pre .1 .1 .0) _ (c .before .before .before .before .before .before .before .before .before .before .before .before .before .before .before .look .ensures .0) (c .before .before .before .before .before .before .before .before .before .before .before .before .before .before .before .before .before .before .before .before .before .before .pre .1 .1 .1) _ (c .before .before .before .before .before .before .before .before .before .before .before .before .before .look2 .ensures .0) _ _ cp _ (rw (c .enum-told3 .given .1) at (c .before .before .before .before .copy-field .ensures))
+
+-- src/coerce.rt:166:1
+rewrapped-same-length-5 : (t : ℕ) → rewrapped-lts.Need-same-length-5 (rewrapped-calls t) (rewrapped-at t) rewrapped.Post
+rewrapped-same-length-5 t c =
+    search needs
+
+-- src/coerce.rt:166:1
+rewrapped-returns-6 : (t : ℕ) → rewrapped-lts.Need-returns-6 (rewrapped-calls t) (rewrapped-at t) rewrapped.Post
+rewrapped-returns-6 t c =
+    let cp = rw (c .before .before .before .before .before .before .before .a .given .1) at (c .before .before .before .before .before .before .before .before .before .before .before .copy-head .ensures) in
+    index-full _ _ _ _ _ _ _ _ _ _ (c .before .before .before .before .before .before .before .before .before .before .before .before .before .before .before .before .before .before .before .before .before .before .pre .1 .0 .0) (c .before .before .before .before .before .before .before .before .before .before .before .before .before .before .before .before .before .before .before .before .before .before .pre .1 .1 .0) _ (c .before .before .before .before .before .before .before .before .before .before .before .before .before .before .before .look .ensures .0) (c .before .before .before .before .before .before .before .before .before .before .before .before .before .before .before .before .before .before .before .before .before .before .pre .1 .1 .1) _ (c .before .before .before .before .before .before .before .before .before .before .before .before .before .look2 .ensures .0) _ _ cp _ (rw (c .enum-told4 .given .1) at (c .before .before .before .before .copy-field .ensures))
+
+-- src/coerce.rt:166:1
+rewrapped-same-length-6 : (t : ℕ) → rewrapped-lts.Need-same-length-6 (rewrapped-calls t) (rewrapped-at t) rewrapped.Post
+rewrapped-same-length-6 t c =
+    search needs
+
+-- src/coerce.rt:166:1
+rewrapped-returns-7 : (t : ℕ) → rewrapped-lts.Need-returns-7 (rewrapped-calls t) (rewrapped-at t) rewrapped.Post
+rewrapped-returns-7 t c =
+    absurd ((rw (c .enum-told5 .given .1) at (c .before .before .before .before .copy-head .ensures)) .means)
+
+-- src/coerce.rt:166:1
+rewrapped-same-length-7 : (t : ℕ) → rewrapped-lts.Need-same-length-7 (rewrapped-calls t) (rewrapped-at t) rewrapped.Post
+rewrapped-same-length-7 t c =
+    search needs
+
+-- src/coerce.rt:166:1
+rewrapped-returns-8 : (t : ℕ) → rewrapped-lts.Need-returns-8 (rewrapped-calls t) (rewrapped-at t) rewrapped.Post
+rewrapped-returns-8 t c =
+    head-crowded _ _ _ _ _ _ _ _ _ _ (c .before .before .before .before .before .before .before .before .look .ensures .0) _ (rw (c .enum-told6 .given .1) at (c .before .before .before .before .copy-head .ensures))
+
+-- src/coerce.rt:525:9
+rows-row-end-requires : (t : ℕ) → rows-lts.Need-row-end-requires (rows-calls t) (rows-at t) rows.Post
+rows-row-end-requires t c κs =
+    search needs
+
+-- src/coerce.rt:525:9
+rows-returns : (t : ℕ) → rows-lts.Need-returns (rows-calls t) (rows-at t) rows.Post
+rows-returns t c =
+    rows-end _ (c .before .before .before .before .args .space) (c .before .before .before .before .args .left) (c .before .before .before .before .args .swap) _ _ (c .before .before .before .before .args .feed) _ _ _ _ _ (c .before .before .before .before .pre .1 .1) (c .before .if1 .taken) (c .row-end .ensures)
+
+-- src/coerce.rt:528:9
+rows-returns-2 : (t : ℕ) → rows-lts.Need-returns-2 (rows-calls t) (rows-at t) rows.Post
+rows-returns-2 t c =
+    rows-spent _ (c .before .before .before .before .args .space) (c .before .before .before .before .args .left) (c .before .before .before .before .args .swap) _ _ (c .before .before .before .before .args .feed) _ _ _ _ (c .before .if1 .left) (c .if2 .taken)
+
+-- src/coerce.rt:530:9
+rows-look-requires : (t : ℕ) → rows-lts.Need-look-requires (rows-calls t) (rows-at t) rows.Post
+rows-look-requires t c κs =
+    search needs
+
+-- src/coerce.rt:531:9
+rows-row-requires : (t : ℕ) → rows-lts.Need-row-requires (rows-calls t) (rows-at t) rows.Post
+rows-row-requires t c κs =
+    (c .before .before .before .before .before .before .before .pre .1 .0 .few)
+
+-- src/coerce.rt:538:9
+rows-same-length : (t : ℕ) → rows-lts.Need-same-length (rows-calls t) (rows-at t) rows.Post
+rows-same-length t c =
+    search needs
+
+-- src/coerce.rt:538:9
+rows-returns-3 : (t : ℕ) → rows-lts.Need-returns-3 (rows-calls t) (rows-at t) rows.Post
+rows-returns-3 t c =
+    rows-unfed _ (c .before .before .before .before .before .before .before .before .before .args .space) (c .before .before .before .before .before .before .before .before .before .args .left) (c .before .before .before .before .before .before .before .before .before .args .swap) _ _ (c .before .before .before .before .before .before .before .before .before .args .feed) _ _ _ _ _ (c .before .before .before .before .before .before .if1 .left) (c .before .row .ensures) (c .if3 .taken)
+
+-- src/coerce.rt:540:9
+rows-name-field-requires : (t : ℕ) → rows-lts.Need-name-field-requires (rows-calls t) (rows-at t) rows.Post
+rows-name-field-requires t c κs =
+    ((c .before .before .before .before .before .before .before .before .before .before .pre .1 .0), ((c .before .before .before .before .before .before .before .before .before .before .pre .1 .1), (c .before .before .before .before .look .ensures .1)))
+
+-- src/coerce.rt:541:9
+rows-same-length-2 : (t : ℕ) → rows-lts.Need-same-length-2 (rows-calls t) (rows-at t) rows.Post
+rows-same-length-2 t c =
+    search needs
+
+-- src/coerce.rt:541:9
+rows-returns-4 : (t : ℕ) → rows-lts.Need-returns-4 (rows-calls t) (rows-at t) rows.Post
+rows-returns-4 t c =
+    rows-crowded _ (c .before .before .before .before .before .before .before .before .before .before .before .before .before .before .args .space) (c .before .before .before .before .before .before .before .before .before .before .before .before .before .before .args .left) (c .before .before .before .before .before .before .before .before .before .before .before .before .before .before .args .swap) _ _ (c .before .before .before .before .before .before .before .before .before .before .before .before .before .before .args .feed) _ _ _ _ (c .before .before .before .before .before .before .before .before .before .before .before .before .before .before .pre .1 .0) (c .before .before .before .before .before .before .before .before .before .before .before .before .before .before .pre .1 .1) _ (c .before .before .before .before .before .before .before .before .look .ensures .0) (c .before .before .before .before .before .before .before .before .before .before .before .if1 .left) _ (c .before .before .before .before .before .before .row .ensures) (c .before .before .before .before .before .if3 .left) _ _ (c .before .before .before .name-field .ensures) (not-true _ (c .if4 .taken))
+
+-- src/coerce.rt:544:11
+rows-coerce-requires : (t : ℕ) → rows-lts.Need-coerce-requires (rows-calls t) (rows-at t) rows.Post
+rows-coerce-requires t c κs =
+    (omega (arith, (c .before .before .before .before .before .before .before .before .before .before .before .before .before .before .before .pre .0)), (room-kept (c .before .before .before .before .name-field .ensures .kept) (c .before .before .before .before .before .before .before .before .before .before .before .before .before .before .before .pre .1 .0), field-ready _ (c .before .before .before .before .before .before .before .before .before .before .before .before .before .before .before .pre .1 .1) (c .before .before .before .before .before .before .before .before .before .look .ensures .1) (not-false _ (c .before .if4 .left)) (c .before .before .before .before .name-field .ensures)))
+
+-- src/coerce.rt:545:19
+rows-enum-known-d : (t : ℕ) → rows-lts.Need-enum-known-d (rows-calls t) (rows-at t) rows.Post
+rows-enum-known-d t c =
+    search needs
+
+-- src/coerce.rt:545:72
+rows-sub-rows : (t : ℕ) → rows-lts.Need-sub-rows (rows-calls t) (rows-at t) rows.Post
+rows-sub-rows t c =
+    search needs
+
+-- src/coerce.rt:545:31
+rows-rows-requires : (t : ℕ) → rows-lts.Need-rows-requires (rows-calls t) (rows-at t) rows.Post
+rows-rows-requires t c κs =
+    let done = rw (c .before .before .d .given .1) at (c .before .before .before .before .before .before .coerce .ensures) in
+    (omega (arith, (c .before .before .before .before .before .before .before .before .before .before .before .before .before .before .before .before .before .before .before .before .before .before .pre .0), (c .before .before .before .before .before .before .before .before .before .before .before .before .before .before .before .before .before .before .if2 .left)), (room-kept (done .writes .kept) (room-kept (c .before .before .before .before .before .before .before .before .before .before .before .name-field .ensures .kept) (c .before .before .before .before .before .before .before .before .before .before .before .before .before .before .before .before .before .before .before .before .before .before .pre .1 .0)), done .writes .passes .0))
+
+-- src/coerce.rt:546:23
+rows-enum-known-e : (t : ℕ) → rows-lts.Need-enum-known-e (rows-calls t) (rows-at t) rows.Post
+rows-enum-known-e t c =
+    search needs
+
+-- src/coerce.rt:547:38
+rows-next-link-requires : (t : ℕ) → rows-lts.Need-next-link-requires (rows-calls t) (rows-at t) rows.Post
+rows-next-link-requires t c κs =
+    search needs
+
+-- src/coerce.rt:547:17
+rows-tie-requires : (t : ℕ) → rows-lts.Need-tie-requires (rows-calls t) (rows-at t) rows.Post
+rows-tie-requires t c κs =
+    let done = rw (c .before .before .before .before .before .before .before .before .before .before .d .given .1) at (c .before .before .before .before .before .before .before .before .before .before .before .before .before .before .coerce .ensures) in
+    let more = rw (c .before .before .before .e .given .1) at (c .before .before .before .before .before .before .before .rows .ensures) in
+    let room = room-kept (more .kept) (room-kept (done .writes .kept) (room-kept (c .before .before .before .before .before .before .before .before .before .before .before .before .before .before .before .before .before .before .before .name-field .ensures .kept) (c .before .before .before .before .before .before .before .before .before .before .before .before .before .before .before .before .before .before .before .before .before .before .before .before .before .before .before .before .before .before .pre .1 .0))) in
+    (room, (omega (arith, done .writes .passes .1 .0, done .writes .passes .0 .records), omega (arith, (c .next-link .ensures .1), done .writes .passes .0 .records, room .few)))
+
+-- src/coerce.rt:550:24
+rows-enum-told : (t : ℕ) → rows-lts.Need-enum-told (rows-calls t) (rows-at t) rows.Post
+rows-enum-told t c =
+    search needs
+
+-- src/coerce.rt:551:26
+rows-enum-told-2 : (t : ℕ) → rows-lts.Need-enum-told-2 (rows-calls t) (rows-at t) rows.Post
+rows-enum-told-2 t c =
+    search needs
+
+-- src/coerce.rt:553:20
+rows-enum-told-3 : (t : ℕ) → rows-lts.Need-enum-told-3 (rows-calls t) (rows-at t) rows.Post
+rows-enum-told-3 t c =
+    search needs
+
+-- src/coerce.rt:554:22
+rows-enum-told-4 : (t : ℕ) → rows-lts.Need-enum-told-4 (rows-calls t) (rows-at t) rows.Post
+rows-enum-told-4 t c =
+    search needs
+
+-- src/coerce.rt:507:1
+rows-same-length-3 : (t : ℕ) → rows-lts.Need-same-length-3 (rows-calls t) (rows-at t) rows.Post
+rows-same-length-3 t c =
+    search needs
+
+-- src/coerce.rt:507:1
+rows-returns-5 : (t : ℕ) → rows-lts.Need-returns-5 (rows-calls t) (rows-at t) rows.Post
+rows-returns-5 t c =
+    let done = rw (c .before .before .before .before .before .before .before .before .before .before .before .before .before .d .given .1) at (c .before .before .before .before .before .before .before .before .before .before .before .before .before .before .before .before .before .coerce .ensures) in
+    let more = rw (c .before .before .before .before .before .before .e .given .1) at (c .before .before .before .before .before .before .before .before .before .before .rows .ensures) in
+    rows-done _ (c .before .before .before .before .before .before .before .before .before .before .before .before .before .before .before .before .before .before .before .before .before .before .before .before .before .before .before .before .before .before .before .before .before .args .space) (c .before .before .before .before .before .before .before .before .before .before .before .before .before .before .before .before .before .before .before .before .before .before .before .before .before .before .before .before .before .before .before .before .before .args .left) (c .before .before .before .before .before .before .before .before .before .before .before .before .before .before .before .before .before .before .before .before .before .before .before .before .before .before .before .before .before .before .before .before .before .args .swap) _ _ (c .before .before .before .before .before .before .before .before .before .before .before .before .before .before .before .before .before .before .before .before .before .before .before .before .before .before .before .before .before .before .before .before .before .args .feed) _ _ _ _ (c .before .before .before .before .before .before .before .before .before .before .before .before .before .before .before .before .before .before .before .before .before .before .before .before .before .before .before .before .before .before .before .before .before .pre .1 .0) (c .before .before .before .before .before .before .before .before .before .before .before .before .before .before .before .before .before .before .before .before .before .before .before .before .before .before .before .before .before .before .before .before .before .pre .1 .1) _ (c .before .before .before .before .before .before .before .before .before .before .before .before .before .before .before .before .before .before .before .before .before .before .before .before .before .before .before .look .ensures .0) (c .before .before .before .before .before .before .before .before .before .before .before .before .before .before .before .before .before .before .before .before .before .before .before .before .before .before .before .before .before .before .if1 .left) _ (c .before .before .before .before .before .before .before .before .before .before .before .before .before .before .before .before .before .before .before .before .before .before .before .before .before .row .ensures) (c .before .before .before .before .before .before .before .before .before .before .before .before .before .before .before .before .before .before .before .before .before .before .before .before .if3 .left) _ _ (c .before .before .before .before .before .before .before .before .before .before .before .before .before .before .before .before .before .before .before .before .before .before .name-field .ensures) (not-false _ (c .before .before .before .before .before .before .before .before .before .before .before .before .before .before .before .before .before .before .before .if4 .left)) _ _ done _ _ _ _ more (c .before .before .before .next-link .ensures .0) (c .before .before .tie .ensures)
+
+-- src/coerce.rt:507:1
+rows-same-length-4 : (t : ℕ) → rows-lts.Need-same-length-4 (rows-calls t) (rows-at t) rows.Post
+rows-same-length-4 t c =
+    search needs
+
+-- src/coerce.rt:507:1
+rows-returns-6 : (t : ℕ) → rows-lts.Need-returns-6 (rows-calls t) (rows-at t) rows.Post
+rows-returns-6 t c =
+    let done = rw (c .before .before .before .before .before .before .before .d .given .1) at (c .before .before .before .before .before .before .before .before .before .before .before .coerce .ensures) in
+    let more = rw (c .enum-told .given .1) at (c .before .before .before .before .rows .ensures) in
+    rows-rest-none _ (c .before .before .before .before .before .before .before .before .before .before .before .before .before .before .before .before .before .before .before .before .before .before .before .before .before .before .before .args .space) (c .before .before .before .before .before .before .before .before .before .before .before .before .before .before .before .before .before .before .before .before .before .before .before .before .before .before .before .args .left) (c .before .before .before .before .before .before .before .before .before .before .before .before .before .before .before .before .before .before .before .before .before .before .before .before .before .before .before .args .swap) _ _ (c .before .before .before .before .before .before .before .before .before .before .before .before .before .before .before .before .before .before .before .before .before .before .before .before .before .before .before .args .feed) _ _ _ _ (c .before .before .before .before .before .before .before .before .before .before .before .before .before .before .before .before .before .before .before .before .before .before .before .before .before .before .before .pre .1 .0) (c .before .before .before .before .before .before .before .before .before .before .before .before .before .before .before .before .before .before .before .before .before .before .before .before .before .before .before .pre .1 .1) _ (c .before .before .before .before .before .before .before .before .before .before .before .before .before .before .before .before .before .before .before .before .before .look .ensures .0) (c .before .before .before .before .before .before .before .before .before .before .before .before .before .before .before .before .before .before .before .before .before .before .before .before .if1 .left) _ (c .before .before .before .before .before .before .before .before .before .before .before .before .before .before .before .before .before .before .before .row .ensures) (c .before .before .before .before .before .before .before .before .before .before .before .before .before .before .before .before .before .before .if3 .left) _ _ (c .before .before .before .before .before .before .before .before .before .before .before .before .before .before .before .before .name-field .ensures) (not-false _ (c .before .before .before .before .before .before .before .before .before .before .before .before .before .if4 .left)) _ _ done _ more
+
+-- src/coerce.rt:507:1
+rows-same-length-5 : (t : ℕ) → rows-lts.Need-same-length-5 (rows-calls t) (rows-at t) rows.Post
+rows-same-length-5 t c =
+    search needs
+
+-- src/coerce.rt:507:1
+rows-returns-7 : (t : ℕ) → rows-lts.Need-returns-7 (rows-calls t) (rows-at t) rows.Post
+rows-returns-7 t c =
+    let done = rw (c .before .before .before .before .before .before .before .d .given .1) at (c .before .before .before .before .before .before .before .before .before .before .before .coerce .ensures) in
+    let more = rw (c .enum-told2 .given .1) at (c .before .before .before .before .rows .ensures) in
+    rows-rest-full _ (c .before .before .before .before .before .before .before .before .before .before .before .before .before .before .before .before .before .before .before .before .before .before .before .before .before .before .before .args .space) (c .before .before .before .before .before .before .before .before .before .before .before .before .before .before .before .before .before .before .before .before .before .before .before .before .before .before .before .args .left) (c .before .before .before .before .before .before .before .before .before .before .before .before .before .before .before .before .before .before .before .before .before .before .before .before .before .before .before .args .swap) _ _ (c .before .before .before .before .before .before .before .before .before .before .before .before .before .before .before .before .before .before .before .before .before .before .before .before .before .before .before .args .feed) _ _ _ _ (c .before .before .before .before .before .before .before .before .before .before .before .before .before .before .before .before .before .before .before .before .before .before .before .before .before .before .before .pre .1 .0) (c .before .before .before .before .before .before .before .before .before .before .before .before .before .before .before .before .before .before .before .before .before .before .before .before .before .before .before .pre .1 .1) _ (c .before .before .before .before .before .before .before .before .before .before .before .before .before .before .before .before .before .before .before .before .before .look .ensures .0) (c .before .before .before .before .before .before .before .before .before .before .before .before .before .before .before .before .before .before .before .before .before .before .before .before .if1 .left) _ (c .before .before .before .before .before .before .before .before .before .before .before .before .before .before .before .before .before .before .before .row .ensures) (c .before .before .before .before .before .before .before .before .before .before .before .before .before .before .before .before .before .before .if3 .left) _ _ (c .before .before .before .before .before .before .before .before .before .before .before .before .before .before .before .before .name-field .ensures) (not-false _ (c .before .before .before .before .before .before .before .before .before .before .before .before .before .if4 .left)) _ _ done _ more
+
+-- src/coerce.rt:507:1
+rows-same-length-6 : (t : ℕ) → rows-lts.Need-same-length-6 (rows-calls t) (rows-at t) rows.Post
+rows-same-length-6 t c =
+    search needs
+
+-- src/coerce.rt:507:1
+rows-returns-8 : (t : ℕ) → rows-lts.Need-returns-8 (rows-calls t) (rows-at t) rows.Post
+rows-returns-8 t c =
+    let one = rw (c .enum-told3 .given .1) at (c .before .before .before .before .coerce .ensures) in
+    rows-none _ (c .before .before .before .before .before .before .before .before .before .before .before .before .before .before .before .before .before .before .before .before .args .space) (c .before .before .before .before .before .before .before .before .before .before .before .before .before .before .before .before .before .before .before .before .args .left) (c .before .before .before .before .before .before .before .before .before .before .before .before .before .before .before .before .before .before .before .before .args .swap) _ _ (c .before .before .before .before .before .before .before .before .before .before .before .before .before .before .before .before .before .before .before .before .args .feed) _ _ _ _ (c .before .before .before .before .before .before .before .before .before .before .before .before .before .before .before .before .before .before .before .before .pre .1 .0) (c .before .before .before .before .before .before .before .before .before .before .before .before .before .before .before .before .before .before .before .before .pre .1 .1) _ (c .before .before .before .before .before .before .before .before .before .before .before .before .before .before .look .ensures .0) (c .before .before .before .before .before .before .before .before .before .before .before .before .before .before .before .before .before .if1 .left) _ (c .before .before .before .before .before .before .before .before .before .before .before .before .row .ensures) (c .before .before .before .before .before .before .before .before .before .before .before .if3 .left) _ _ (c .before .before .before .before .before .before .before .before .before .name-field .ensures) (not-false _ (c .before .before .before .before .before .before .if4 .left)) _ one
+
+-- src/coerce.rt:507:1
+rows-same-length-7 : (t : ℕ) → rows-lts.Need-same-length-7 (rows-calls t) (rows-at t) rows.Post
+rows-same-length-7 t c =
+    search needs
+
+-- src/coerce.rt:507:1
+rows-returns-9 : (t : ℕ) → rows-lts.Need-returns-9 (rows-calls t) (rows-at t) rows.Post
+rows-returns-9 t c =
+    let one = rw (c .enum-told4 .given .1) at (c .before .before .before .before .coerce .ensures) in
+    rows-full _ (c .before .before .before .before .before .before .before .before .before .before .before .before .before .before .before .before .before .before .before .before .args .space) (c .before .before .before .before .before .before .before .before .before .before .before .before .before .before .before .before .before .before .before .before .args .left) (c .before .before .before .before .before .before .before .before .before .before .before .before .before .before .before .before .before .before .before .before .args .swap) _ _ (c .before .before .before .before .before .before .before .before .before .before .before .before .before .before .before .before .before .before .before .before .args .feed) _ _ _ _ (c .before .before .before .before .before .before .before .before .before .before .before .before .before .before .before .before .before .before .before .before .pre .1 .0) (c .before .before .before .before .before .before .before .before .before .before .before .before .before .before .before .before .before .before .before .before .pre .1 .1) _ (c .before .before .before .before .before .before .before .before .before .before .before .before .before .before .look .ensures .0) (c .before .before .before .before .before .before .before .before .before .before .before .before .before .before .before .before .before .if1 .left) _ (c .before .before .before .before .before .before .before .before .before .before .before .before .row .ensures) (c .before .before .before .before .before .before .before .before .before .before .before .if3 .left) _ _ (c .before .before .before .before .before .before .before .before .before .name-field .ensures) (not-false _ (c .before .before .before .before .before .before .if4 .left)) _ one
+
+-- src/coerce.rt:406:9
+struct-rule-look-requires : (t : ℕ) → struct-rule-lts.Need-look-requires (struct-rule-calls t) (struct-rule-at t) struct-rule.Post
+struct-rule-look-requires t c κs =
+    search needs
+
+-- src/coerce.rt:407:9
+struct-rule-look-requires-2 : (t : ℕ) → struct-rule-lts.Need-look-requires-2 (struct-rule-calls t) (struct-rule-at t) struct-rule.Post
+struct-rule-look-requires-2 t c κs =
+    search needs
+
+-- src/coerce.rt:410:13
+struct-rule-both-requires : (t : ℕ) → struct-rule-lts.Need-both-requires (struct-rule-calls t) (struct-rule-at t) struct-rule.Post
+struct-rule-both-requires t c κs =
+    search needs
+
+-- src/coerce.rt:410:47
+struct-rule-same-arity-requires : (t : ℕ) → struct-rule-lts.Need-same-arity-requires (struct-rule-calls t) (struct-rule-at t) struct-rule.Post
+struct-rule-same-arity-requires t c κs =
+    search needs
+
+-- src/coerce.rt:410:8
+struct-rule-both-requires-2 : (t : ℕ) → struct-rule-lts.Need-both-requires-2 (struct-rule-calls t) (struct-rule-at t) struct-rule.Post
+struct-rule-both-requires-2 t c κs =
+    search needs
+
+-- src/coerce.rt:411:12
+struct-rule-have-same-names-requires : (t : ℕ) → struct-rule-lts.Need-have-same-names-requires (struct-rule-calls t) (struct-rule-at t) struct-rule.Post
+struct-rule-have-same-names-requires t c κs =
+    (c .before .before .before .before .before .before .before .before .before .before .before .before .before .before .pre .1 .0 .few)
+
+-- src/coerce.rt:412:13
+struct-rule-under-requires : (t : ℕ) → struct-rule-lts.Need-under-requires (struct-rule-calls t) (struct-rule-at t) struct-rule.Post
+struct-rule-under-requires t c κs =
+    (omega (arith, (c .before .before .before .before .before .before .before .before .before .before .before .before .before .before .before .before .before .pre .0)), ((c .before .before .before .before .before .before .before .before .before .before .before .before .before .before .before .before .before .pre .1), omega arith))
+
+-- src/coerce.rt:412:13
+struct-rule-same-length : (t : ℕ) → struct-rule-lts.Need-same-length (struct-rule-calls t) (struct-rule-at t) struct-rule.Post
+struct-rule-same-length t c =
+    search needs
+
+-- src/coerce.rt:412:13
+struct-rule-returns : (t : ℕ) → struct-rule-lts.Need-returns (struct-rule-calls t) (struct-rule-at t) struct-rule.Post
+struct-rule-returns t c =
+    struct-named _ _ _ (c .before .before .before .before .before .before .before .before .before .before .before .before .before .before .before .before .before .before .before .before .args .swap) _ _ _ _ _ _ _ (c .before .before .before .before .before .before .before .before .before .before .before .before .before .before .before .before .look .ensures .0) (c .before .before .before .before .before .before .before .before .before .before .before .before .before .before .look2 .ensures .0) (c .before .before .before .before .before .before .before .before .before .same-arity .ensures) (c .before .before .before .before .before .have-same-names .ensures) (and-are (c .before .before .before .before .before .before .before .before .before .before .before .both .ensures) refl (c .before .before .before .before .before .before .before .before .both2 .ensures) ∙ (c .before .before .before .before .before .before .before .if1 .taken)) _ _ (c .before .before .before .before .if2 .taken) (omega (arith, (c .before .before .before .before .before .before .before .before .before .before .before .before .before .before .before .before .before .before .before .before .pre .1 .1 .some), (c .before .before .before .before .before .before .before .before .before .before .before .before .before .before .before .before .before .before .before .before .pre .1 .1 .records))) (c .before .before .under .ensures)
+
+-- src/coerce.rt:414:9
+struct-rule-under-requires-2 : (t : ℕ) → struct-rule-lts.Need-under-requires-2 (struct-rule-calls t) (struct-rule-at t) struct-rule.Post
+struct-rule-under-requires-2 t c κs =
+    (omega (arith, (c .before .before .before .before .before .before .before .before .before .before .before .before .before .before .before .before .before .pre .0)), ((c .before .before .before .before .before .before .before .before .before .before .before .before .before .before .before .before .before .pre .1), omega arith))
+
+-- src/coerce.rt:414:9
+struct-rule-same-length-2 : (t : ℕ) → struct-rule-lts.Need-same-length-2 (struct-rule-calls t) (struct-rule-at t) struct-rule.Post
+struct-rule-same-length-2 t c =
+    search needs
+
+-- src/coerce.rt:414:9
+struct-rule-returns-2 : (t : ℕ) → struct-rule-lts.Need-returns-2 (struct-rule-calls t) (struct-rule-at t) struct-rule.Post
+struct-rule-returns-2 t c =
+    struct-placed _ _ _ (c .before .before .before .before .before .before .before .before .before .before .before .before .before .before .before .before .before .before .before .before .args .swap) _ _ _ _ _ _ _ (c .before .before .before .before .before .before .before .before .before .before .before .before .before .before .before .before .look .ensures .0) (c .before .before .before .before .before .before .before .before .before .before .before .before .before .before .look2 .ensures .0) (c .before .before .before .before .before .before .before .before .before .same-arity .ensures) (c .before .before .before .before .before .have-same-names .ensures) (and-are (c .before .before .before .before .before .before .before .before .before .before .before .both .ensures) refl (c .before .before .before .before .before .before .before .before .both2 .ensures) ∙ (c .before .before .before .before .before .before .before .if1 .taken)) _ _ (c .before .before .before .before .if2 .left) (c .before .before .under2 .ensures)
+
+-- src/coerce.rt:391:1
+struct-rule-same-length-3 : (t : ℕ) → struct-rule-lts.Need-same-length-3 (struct-rule-calls t) (struct-rule-at t) struct-rule.Post
+struct-rule-same-length-3 t c =
+    search needs
+
+-- src/coerce.rt:391:1
+struct-rule-returns-3 : (t : ℕ) → struct-rule-lts.Need-returns-3 (struct-rule-calls t) (struct-rule-at t) struct-rule.Post
+struct-rule-returns-3 t c =
+    struct-none _ _ _ (c .before .before .before .before .before .before .before .before .before .before .before .before .before .args .swap) _ _ _ _ _ _ _ (c .before .before .before .before .before .before .before .before .before .look .ensures .0) (c .before .before .before .before .before .before .before .look2 .ensures .0) (c .before .before .same-arity .ensures) (and-are (c .before .before .before .before .both .ensures) refl (c .before .both2 .ensures) ∙ (c .if1 .left))
+
+-- src/coerce.rt:357:17
+under-add-label : (t : ℕ) → under-lts.Need-add-label (under-calls t) (under-at t) under.Post
+under-add-label t c =
+    search needs
+
+-- src/coerce.rt:359:9
+under-returns : (t : ℕ) → under-lts.Need-returns (under-calls t) (under-at t) under.Post
+under-returns t c =
+    under-full _ _ _ _ _ _ _ _ _ _ _ _ (c .if1 .taken)
+
+-- src/coerce.rt:361:50
+under-first-link-requires : (t : ℕ) → under-lts.Need-first-link-requires (under-calls t) (under-at t) under.Post
+under-first-link-requires t c κs =
+    search needs
+
+-- src/coerce.rt:361:5
+under-lay-requires : (t : ℕ) → under-lts.Need-lay-requires (under-calls t) (under-at t) under.Post
+under-lay-requires t c κs =
+    ((c .before .before .before .before .before .before .before .pre .1 .0), ((c .before .before .if1 .left), ((c .before .before .before .before .before .before .before .pre .1 .1), (c .first-link .ensures .1))))
+
+-- src/coerce.rt:362:84
+under-add-t21 : (t : ℕ) → under-lts.Need-add-t21 (under-calls t) (under-at t) under.Post
+under-add-t21 t c =
+    search needs
+
+-- src/coerce.rt:362:5
+under-rows-requires : (t : ℕ) → under-lts.Need-rows-requires (under-calls t) (under-at t) under.Post
+under-rows-requires t c κs =
+    (omega (arith, (c .before .before .before .before .before .before .before .before .before .before .before .pre .0)), (room-kept ((c .before .before .before .lay .ensures .kept)) (c .before .before .before .before .before .before .before .before .before .before .before .pre .1 .0 .0), after-passes _ (c .before .before .before .before .before .before .before .before .before .before .before .pre .1 .0 .1) (c .before .before .before .before .before .before .if1 .left) .0))
+
+-- src/coerce.rt:337:1
+under-same-length : (t : ℕ) → under-lts.Need-same-length (under-calls t) (under-at t) under.Post
+under-same-length t c =
+    search needs
+
+-- src/coerce.rt:337:1
+under-returns-2 : (t : ℕ) → under-lts.Need-returns-2 (under-calls t) (under-at t) under.Post
+under-returns-2 t c =
+    under-on _ _ _ _ _ _ _ _ _ _ _ _ _ _ (c .before .before .before .before .before .before .before .before .before .before .before .before .before .before .pre .1 .0 .0) (c .before .before .before .before .before .before .before .before .before .before .before .before .before .before .pre .1 .0 .1) (c .before .before .before .before .before .before .before .before .before .if1 .left) (c .before .before .before .before .before .before .before .first-link .ensures .0) (c .before .before .before .before .before .before .lay .ensures) (c .before .before .rows .ensures)
+
+-- src/coerce.rt:250:11
+unwrap-wrapper-requires : (t : ℕ) → unwrap-lts.Need-wrapper-requires (unwrap-calls t) (unwrap-at t) unwrap.Post
+unwrap-wrapper-requires t c κs =
+    (omega (arith, (c .before .before .before .pre .0)), ((c .before .before .before .pre .1), inl refl))
+
+-- src/coerce.rt:251:19
+unwrap-enum-known-d : (t : ℕ) → unwrap-lts.Need-enum-known-d (unwrap-calls t) (unwrap-at t) unwrap.Post
+unwrap-enum-known-d t c =
+    search needs
+
+-- src/coerce.rt:252:41
+unwrap-enum-told : (t : ℕ) → unwrap-lts.Need-enum-told (unwrap-calls t) (unwrap-at t) unwrap.Post
+unwrap-enum-told t c =
+    search needs
+
+-- src/coerce.rt:252:26
+unwrap-wrapper-requires-2 : (t : ℕ) → unwrap-lts.Need-wrapper-requires-2 (unwrap-calls t) (unwrap-at t) unwrap.Post
+unwrap-wrapper-requires-2 t c κs =
+    (omega (arith, (c .before .before .before .before .before .before .before .before .before .pre .0)), ((room-kept (c .before .before .before .before .before .wrapper .ensures .writes .kept) (c .before .before .before .before .before .before .before .before .before .pre .1 .0), (c .before .before .before .before .before .before .before .before .before .pre .1 .1)), inr refl))
+
+-- src/coerce.rt:253:23
+unwrap-enum-known-d-2 : (t : ℕ) → unwrap-lts.Need-enum-known-d-2 (unwrap-calls t) (unwrap-at t) unwrap.Post
+unwrap-enum-known-d-2 t c =
+    search needs
+
+-- src/coerce.rt:254:38
+unwrap-enum-told-2 : (t : ℕ) → unwrap-lts.Need-enum-told-2 (unwrap-calls t) (unwrap-at t) unwrap.Post
+unwrap-enum-told-2 t c =
+    search needs
+
+-- src/coerce.rt:254:24
+unwrap-nested-requires : (t : ℕ) → unwrap-lts.Need-nested-requires (unwrap-calls t) (unwrap-at t) unwrap.Post
+unwrap-nested-requires t c κs =
+    (omega (arith, (c .before .before .before .before .before .before .before .before .before .before .before .before .before .before .before .pre .0)), (room-kept (c .before .before .before .before .before .wrapper2 .ensures .writes .kept) (room-kept (c .before .before .before .before .before .before .before .before .before .before .before .wrapper .ensures .writes .kept) (c .before .before .before .before .before .before .before .before .before .before .before .before .before .before .before .pre .1 .0)), (c .before .before .before .before .before .before .before .before .before .before .before .before .before .before .before .pre .1 .1)))
+
+-- src/coerce.rt:255:26
+unwrap-enum-told-3 : (t : ℕ) → unwrap-lts.Need-enum-told-3 (unwrap-calls t) (unwrap-at t) unwrap.Post
+unwrap-enum-told-3 t c =
+    search needs
+
+-- src/coerce.rt:257:22
+unwrap-enum-told-4 : (t : ℕ) → unwrap-lts.Need-enum-told-4 (unwrap-calls t) (unwrap-at t) unwrap.Post
+unwrap-enum-told-4 t c =
+    search needs
+
+-- src/coerce.rt:235:1
+unwrap-same-length : (t : ℕ) → unwrap-lts.Need-same-length (unwrap-calls t) (unwrap-at t) unwrap.Post
+unwrap-same-length t c =
+    search needs
+
+-- src/coerce.rt:235:1
+unwrap-returns : (t : ℕ) → unwrap-lts.Need-returns (unwrap-calls t) (unwrap-at t) unwrap.Post
+unwrap-returns t c =
+    unwrap-first _ _ _ _ (c .before .before .before .before .before .before .before .before .before .args .swap) _ _ _ _ _ _ _ (rw (c .before .d .given .1) at (c .before .before .before .before .before .wrapper .ensures))
+
+-- src/coerce.rt:235:1
+unwrap-same-length-2 : (t : ℕ) → unwrap-lts.Need-same-length-2 (unwrap-calls t) (unwrap-at t) unwrap.Post
+unwrap-same-length-2 t c =
+    search needs
+
+-- src/coerce.rt:235:1
+unwrap-returns-2 : (t : ℕ) → unwrap-lts.Need-returns-2 (unwrap-calls t) (unwrap-at t) unwrap.Post
+unwrap-returns-2 t c =
+    unwrap-second _ _ _ _ (c .before .before .before .before .before .before .before .before .before .before .before .before .before .before .before .args .swap) _ _ _ _ _ _ (c .before .before .before .before .before .before .before .before .before .before .before .before .before .before .before .pre .1 .0) (rw (c .before .before .before .before .before .before .before .enum-told .given .1) at (c .before .before .before .before .before .before .before .before .before .before .before .wrapper .ensures)) _ _ (rw (c .before .d2 .given .1) at (c .before .before .before .before .before .wrapper2 .ensures))
+
+-- src/coerce.rt:235:1
+unwrap-same-length-3 : (t : ℕ) → unwrap-lts.Need-same-length-3 (unwrap-calls t) (unwrap-at t) unwrap.Post
+unwrap-same-length-3 t c =
+    search needs
+
+-- src/coerce.rt:235:1
+unwrap-returns-3 : (t : ℕ) → unwrap-lts.Need-returns-3 (unwrap-calls t) (unwrap-at t) unwrap.Post
+unwrap-returns-3 t c =
+    unwrap-nested _ _ _ _ (c .before .before .before .before .before .before .before .before .before .before .before .before .before .before .before .before .before .before .args .swap) _ _ _ _ _ _ (c .before .before .before .before .before .before .before .before .before .before .before .before .before .before .before .before .before .before .pre .1 .0) (rw (c .before .before .before .before .before .before .before .before .before .before .enum-told .given .1) at (c .before .before .before .before .before .before .before .before .before .before .before .before .before .before .wrapper .ensures)) _ _ _ (rw (c .before .before .before .before .enum-told2 .given .1) at (c .before .before .before .before .before .before .before .before .wrapper2 .ensures)) (c .before .before .nested .ensures)
+
+-- src/coerce.rt:235:1
+unwrap-same-length-4 : (t : ℕ) → unwrap-lts.Need-same-length-4 (unwrap-calls t) (unwrap-at t) unwrap.Post
+unwrap-same-length-4 t c =
+    search needs
+
+-- src/coerce.rt:235:1
+unwrap-returns-4 : (t : ℕ) → unwrap-lts.Need-returns-4 (unwrap-calls t) (unwrap-at t) unwrap.Post
+unwrap-returns-4 t c =
+    unwrap-second-full _ _ _ _ (c .before .before .before .before .before .before .before .before .before .before .before .before .before .before .args .swap) _ _ _ _ _ _ (c .before .before .before .before .before .before .before .before .before .before .before .before .before .before .pre .1 .0) (rw (c .before .before .before .before .before .before .enum-told .given .1) at (c .before .before .before .before .before .before .before .before .before .before .wrapper .ensures)) _ (rw (c .enum-told3 .given .1) at (c .before .before .before .before .wrapper2 .ensures))
+
+-- src/coerce.rt:235:1
+unwrap-same-length-5 : (t : ℕ) → unwrap-lts.Need-same-length-5 (unwrap-calls t) (unwrap-at t) unwrap.Post
+unwrap-same-length-5 t c =
+    search needs
+
+-- src/coerce.rt:235:1
+unwrap-returns-5 : (t : ℕ) → unwrap-lts.Need-returns-5 (unwrap-calls t) (unwrap-at t) unwrap.Post
+unwrap-returns-5 t c =
+    unwrap-full _ _ _ _ (c .before .before .before .before .before .before .before .before .args .swap) _ _ _ _ _ _ (rw (c .enum-told4 .given .1) at (c .before .before .before .before .wrapper .ensures))
+
+-- src/coerce.rt:279:9
+wrapper-kind-at-requires : (t : ℕ) → wrapper-lts.Need-kind-at-requires (wrapper-calls t) (wrapper-at t) wrapper.Post
+wrapper-kind-at-requires t c κs =
+    search needs
+
+-- src/coerce.rt:280:9
+wrapper-kind-at-requires-2 : (t : ℕ) → wrapper-lts.Need-kind-at-requires-2 (wrapper-calls t) (wrapper-at t) wrapper.Post
+wrapper-kind-at-requires-2 t c κs =
+    search needs
+
+-- src/coerce.rt:281:9
+wrapper-value-at-requires : (t : ℕ) → wrapper-lts.Need-value-at-requires (wrapper-calls t) (wrapper-at t) wrapper.Post
+wrapper-value-at-requires t c κs =
+    search needs
+
+-- src/coerce.rt:282:9
+wrapper-value-at-requires-2 : (t : ℕ) → wrapper-lts.Need-value-at-requires-2 (wrapper-calls t) (wrapper-at t) wrapper.Post
+wrapper-value-at-requires-2 t c κs =
+    search needs
+
+-- src/coerce.rt:285:13
+wrapper-coerce-requires : (t : ℕ) → wrapper-lts.Need-coerce-requires (wrapper-calls t) (wrapper-at t) wrapper.Post
+wrapper-coerce-requires t c κs =
+    (omega (arith, (c .before .before .before .before .before .before .before .before .before .before .before .before .before .pre .0)), (c .before .before .before .before .before .before .before .before .before .before .before .before .before .pre .1 .0))
+
+-- src/coerce.rt:285:13
+wrapper-same-length : (t : ℕ) → wrapper-lts.Need-same-length (wrapper-calls t) (wrapper-at t) wrapper.Post
+wrapper-same-length t c =
+    search needs
+
+-- src/coerce.rt:285:13
+wrapper-returns : (t : ℕ) → wrapper-lts.Need-returns (wrapper-calls t) (wrapper-at t) wrapper.Post
+wrapper-returns t c =
+    wrapper-both _ _ _ (c .before .before .before .before .before .before .before .before .before .before .before .before .before .before .before .before .args .swap) _ _ _ _ _ (c .before .before .before .before .before .before .before .before .before .before .before .before .kind-at .ensures) (c .before .before .before .before .before .before .before .before .before .before .kind-at2 .ensures) (c .before .before .before .before .before .before .before .before .before .before .before .before .before .before .before .before .pre .1 .1) _ _ (c .before .before .before .before .before .before .before .before .value-at .ensures) (c .before .before .before .before .before .before .value-at2 .ensures) (c .before .before .before .before .before .if1 .taken) (c .before .before .before .before .if2 .taken) (c .before .before .coerce .ensures)
+
+-- src/coerce.rt:287:12
+wrapper-same-sides-requires : (t : ℕ) → wrapper-lts.Need-same-sides-requires (wrapper-calls t) (wrapper-at t) wrapper.Post
+wrapper-same-sides-requires t c κs =
+    search needs
+
+-- src/coerce.rt:288:13
+wrapper-copy-type-requires : (t : ℕ) → wrapper-lts.Need-copy-type-requires (wrapper-calls t) (wrapper-at t) wrapper.Post
+wrapper-copy-type-requires t c κs =
+    (c .before .before .before .before .before .before .before .before .before .before .before .before .before .before .before .before .pre .1 .0)
+
+-- src/coerce.rt:288:13
+wrapper-same-length-2 : (t : ℕ) → wrapper-lts.Need-same-length-2 (wrapper-calls t) (wrapper-at t) wrapper.Post
+wrapper-same-length-2 t c =
+    search needs
+
+-- src/coerce.rt:288:13
+wrapper-returns-2 : (t : ℕ) → wrapper-lts.Need-returns-2 (wrapper-calls t) (wrapper-at t) wrapper.Post
+wrapper-returns-2 t c =
+    wrapper-left-same _ _ _ (c .before .before .before .before .before .before .before .before .before .before .before .before .before .before .before .before .before .before .before .args .swap) _ _ _ _ _ (c .before .before .before .before .before .before .before .before .before .before .before .before .before .before .before .kind-at .ensures) (c .before .before .before .before .before .before .before .before .before .before .before .before .before .kind-at2 .ensures) (c .before .before .before .before .before .before .before .before .before .before .before .before .before .before .before .before .before .before .before .pre .1 .1) _ _ (c .before .before .before .before .before .before .before .before .if1 .taken) (c .before .before .before .before .before .before .before .if2 .left) (c .before .before .before .before .before .before .before .before .before .before .before .value-at .ensures) (c .before .before .before .before .before .same-sides .ensures) (c .before .before .before .before .if3 .taken) (c .before .before .copy-type .ensures)
+
+-- src/coerce.rt:290:9
+wrapper-coerce-requires-2 : (t : ℕ) → wrapper-lts.Need-coerce-requires-2 (wrapper-calls t) (wrapper-at t) wrapper.Post
+wrapper-coerce-requires-2 t c κs =
+    (omega (arith, (c .before .before .before .before .before .before .before .before .before .before .before .before .before .before .before .before .pre .0)), (c .before .before .before .before .before .before .before .before .before .before .before .before .before .before .before .before .pre .1 .0))
+
+-- src/coerce.rt:290:9
+wrapper-same-length-3 : (t : ℕ) → wrapper-lts.Need-same-length-3 (wrapper-calls t) (wrapper-at t) wrapper.Post
+wrapper-same-length-3 t c =
+    search needs
+
+-- src/coerce.rt:290:9
+wrapper-returns-3 : (t : ℕ) → wrapper-lts.Need-returns-3 (wrapper-calls t) (wrapper-at t) wrapper.Post
+wrapper-returns-3 t c =
+    wrapper-left _ _ _ (c .before .before .before .before .before .before .before .before .before .before .before .before .before .before .before .before .before .before .before .args .swap) _ _ _ _ _ (c .before .before .before .before .before .before .before .before .before .before .before .before .before .before .before .kind-at .ensures) (c .before .before .before .before .before .before .before .before .before .before .before .before .before .kind-at2 .ensures) (c .before .before .before .before .before .before .before .before .before .before .before .before .before .before .before .before .before .before .before .pre .1 .1) _ _ (c .before .before .before .before .before .before .before .before .if1 .taken) (c .before .before .before .before .before .before .before .if2 .left) (c .before .before .before .before .before .before .before .before .before .before .before .value-at .ensures) (c .before .before .before .before .before .same-sides .ensures) (c .before .before .before .before .if3 .left) (c .before .before .coerce2 .ensures)
+
+-- src/coerce.rt:293:12
+wrapper-same-sides-requires-2 : (t : ℕ) → wrapper-lts.Need-same-sides-requires-2 (wrapper-calls t) (wrapper-at t) wrapper.Post
+wrapper-same-sides-requires-2 t c κs =
+    search needs
+
+-- src/coerce.rt:294:13
+wrapper-copy-type-requires-2 : (t : ℕ) → wrapper-lts.Need-copy-type-requires-2 (wrapper-calls t) (wrapper-at t) wrapper.Post
+wrapper-copy-type-requires-2 t c κs =
+    (c .before .before .before .before .before .before .before .before .before .before .before .before .before .before .before .before .pre .1 .0)
+
+-- src/coerce.rt:294:13
+wrapper-same-length-4 : (t : ℕ) → wrapper-lts.Need-same-length-4 (wrapper-calls t) (wrapper-at t) wrapper.Post
+wrapper-same-length-4 t c =
+    search needs
+
+-- src/coerce.rt:294:13
+wrapper-returns-4 : (t : ℕ) → wrapper-lts.Need-returns-4 (wrapper-calls t) (wrapper-at t) wrapper.Post
+wrapper-returns-4 t c =
+    wrapper-right-same _ _ _ (c .before .before .before .before .before .before .before .before .before .before .before .before .before .before .before .before .before .before .before .args .swap) _ _ _ _ _ (c .before .before .before .before .before .before .before .before .before .before .before .before .before .before .before .kind-at .ensures) (c .before .before .before .before .before .before .before .before .before .before .before .before .before .kind-at2 .ensures) (c .before .before .before .before .before .before .before .before .before .before .before .before .before .before .before .before .before .before .before .pre .1 .1) _ _ (c .before .before .before .before .before .before .before .before .if1 .left) (c .before .before .before .before .before .before .before .if4 .taken) (c .before .before .before .before .before .before .before .before .before .value-at2 .ensures) (c .before .before .before .before .before .same-sides2 .ensures) (c .before .before .before .before .if5 .taken) (c .before .before .copy-type2 .ensures)
+
+-- src/coerce.rt:296:9
+wrapper-coerce-requires-3 : (t : ℕ) → wrapper-lts.Need-coerce-requires-3 (wrapper-calls t) (wrapper-at t) wrapper.Post
+wrapper-coerce-requires-3 t c κs =
+    (omega (arith, (c .before .before .before .before .before .before .before .before .before .before .before .before .before .before .before .before .pre .0)), (c .before .before .before .before .before .before .before .before .before .before .before .before .before .before .before .before .pre .1 .0))
+
+-- src/coerce.rt:296:9
+wrapper-same-length-5 : (t : ℕ) → wrapper-lts.Need-same-length-5 (wrapper-calls t) (wrapper-at t) wrapper.Post
+wrapper-same-length-5 t c =
+    search needs
+
+-- src/coerce.rt:296:9
+wrapper-returns-5 : (t : ℕ) → wrapper-lts.Need-returns-5 (wrapper-calls t) (wrapper-at t) wrapper.Post
+wrapper-returns-5 t c =
+    wrapper-right _ _ _ (c .before .before .before .before .before .before .before .before .before .before .before .before .before .before .before .before .before .before .before .args .swap) _ _ _ _ _ (c .before .before .before .before .before .before .before .before .before .before .before .before .before .before .before .kind-at .ensures) (c .before .before .before .before .before .before .before .before .before .before .before .before .before .kind-at2 .ensures) (c .before .before .before .before .before .before .before .before .before .before .before .before .before .before .before .before .before .before .before .pre .1 .1) _ _ (c .before .before .before .before .before .before .before .before .if1 .left) (c .before .before .before .before .before .before .before .if4 .taken) (c .before .before .before .before .before .before .before .before .before .value-at2 .ensures) (c .before .before .before .before .before .same-sides2 .ensures) (c .before .before .before .before .if5 .left) (c .before .before .coerce3 .ensures)
+
+-- src/coerce.rt:262:1
+wrapper-same-length-6 : (t : ℕ) → wrapper-lts.Need-same-length-6 (wrapper-calls t) (wrapper-at t) wrapper.Post
+wrapper-same-length-6 t c =
+    search needs
+
+-- src/coerce.rt:262:1
+wrapper-returns-6 : (t : ℕ) → wrapper-lts.Need-returns-6 (wrapper-calls t) (wrapper-at t) wrapper.Post
+wrapper-returns-6 t c =
+    wrapper-none _ _ _ (c .before .before .before .before .before .before .before .before .before .before .before .before .args .swap) _ _ _ _ _ (c .before .before .before .before .before .before .before .before .kind-at .ensures) (c .before .before .before .before .before .before .kind-at2 .ensures) (c .before .before .before .before .before .before .before .before .before .before .before .before .pre .1 .1) (c .before .if1 .left) (c .if4 .left)
+
+pub +both-parts+coerce+coerce-field+entry+list-rule+list-struct+map-rule+nested+resolve+resolve-wrapper+rewrapped+rows+struct-rule+under+unwrap+wrapper-spec :
+    {M : Type 1} → statement M
++both-parts+coerce+coerce-field+entry+list-rule+list-struct+map-rule+nested+resolve+resolve-wrapper+rewrapped+rows+struct-rule+under+unwrap+wrapper-spec =
+    close
+    μ-both-parts
+    μ-coerce
+    μ-coerce-field
+    μ-entry
+    μ-list-rule
+    μ-list-struct
+    μ-map-rule
+    μ-nested
+    μ-resolve
+    μ-resolve-wrapper
+    μ-rewrapped
+    μ-rows
+    μ-struct-rule
+    μ-under
+    μ-unwrap
+    μ-wrapper
+    (λ t. both-parts-lts.spec (both-parts-calls t)
+    (both-parts-at t)
+    both-parts.Post
+    (both-parts-returns t)
+    (both-parts-look-requires t)
+    (both-parts-look-requires-2 t)
+    (both-parts-copy-head-requires t)
+    (both-parts-enum-known-d t)
+    (both-parts-rows-requires t)
+    (both-parts-enum-told t)
+    (both-parts-enum-told-2 t)
+    (both-parts-same-length t)
+    (both-parts-returns-2 t)
+    (both-parts-same-length-2 t)
+    (both-parts-returns-3 t)
+    (both-parts-same-length-3 t)
+    (both-parts-returns-4 t))
+    (λ t. coerce-lts.spec (coerce-calls t)
+    (coerce-at t)
+    coerce.Post
+    (coerce-returns t)
+    (coerce-is-list-question-requires t)
+    (coerce-same-sides-requires t)
+    (coerce-copy-type-requires t)
+    (coerce-same-length t)
+    (coerce-returns-2 t)
+    (coerce-sub-resolve t)
+    (coerce-resolve-requires t)
+    (coerce-same-length-2 t)
+    (coerce-returns-3 t)
+    (coerce-sub-unwrap t)
+    (coerce-unwrap-requires t)
+    (coerce-same-length-3 t)
+    (coerce-returns-4 t))
+    (λ t. coerce-field-lts.spec (coerce-field-calls t)
+    (coerce-field-at t)
+    coerce-field.Post
+    (coerce-field-look-requires t)
+    (coerce-field-is-nullable-requires t)
+    (coerce-field-name-field-requires t)
+    (coerce-field-coerce-requires t)
+    (coerce-field-same-length t)
+    (coerce-field-returns t)
+    (coerce-field-same-length-2 t)
+    (coerce-field-returns-2 t))
+    (λ t. entry-lts.spec (entry-calls t)
+    (entry-at t)
+    entry.Post
+    (entry-look-requires t)
+    (entry-is-nullable-requires t)
+    (entry-name-field-requires t)
+    (entry-struct-rule-requires t)
+    (entry-same-length t)
+    (entry-returns t)
+    (entry-same-length-2 t)
+    (entry-returns-2 t))
+    (λ t. list-rule-lts.spec (list-rule-calls t)
+    (list-rule-at t)
+    list-rule.Post
+    (list-rule-look-requires t)
+    (list-rule-look-requires-2 t)
+    (list-rule-list-kind-requires t)
+    (list-rule-list-size-requires t)
+    (list-rule-under-requires t)
+    (list-rule-same-length t)
+    (list-rule-returns t))
+    (λ t. list-struct-lts.spec (list-struct-calls t)
+    (list-struct-at t)
+    list-struct.Post
+    (list-struct-look-requires t)
+    (list-struct-look-requires-2 t)
+    (list-struct-same-arity-requires t)
+    (list-struct-have-same-names-requires t)
+    (list-struct-both-requires t)
+    (list-struct-under-requires t)
+    (list-struct-same-length t)
+    (list-struct-returns t)
+    (list-struct-same-length-2 t)
+    (list-struct-returns-2 t))
+    (λ t. map-rule-lts.spec (map-rule-calls t)
+    (map-rule-at t)
+    map-rule.Post
+    (map-rule-add-label t)
+    (map-rule-returns t)
+    (map-rule-look-requires t)
+    (map-rule-look-requires-2 t)
+    (map-rule-both-requires t)
+    (map-rule-same-length t)
+    (map-rule-returns-2 t)
+    (map-rule-same-length-2 t)
+    (map-rule-returns-3 t)
+    (map-rule-add-lay t)
+    (map-rule-lay-requires t)
+    (map-rule-add-t31 t)
+    (map-rule-entry-requires t)
+    (map-rule-same-length-3 t)
+    (map-rule-returns-4 t))
+    (λ t. nested-lts.spec (nested-calls t)
+    (nested-at t)
+    nested.Post
+    (nested-look-requires t)
+    (nested-look-requires-2 t)
+    (nested-is-list-requires t)
+    (nested-is-list-requires-2 t)
+    (nested-both-requires t)
+    (nested-list-rule-requires t)
+    (nested-same-length t)
+    (nested-returns t)
+    (nested-both-requires-2 t)
+    (nested-is-list-question-requires t)
+    (nested-list-struct-requires t)
+    (nested-same-length-2 t)
+    (nested-returns-2 t)
+    (nested-struct-rule-requires t)
+    (nested-same-length-3 t)
+    (nested-returns-3 t)
+    (nested-both-requires-3 t)
+    (nested-map-rule-requires t)
+    (nested-same-length-4 t)
+    (nested-returns-4 t)
+    (nested-plain-requires t)
+    (nested-lay-step-requires t)
+    (nested-same-length-5 t)
+    (nested-returns-5 t))
+    (λ t. resolve-lts.spec (resolve-calls t)
+    (resolve-at t)
+    resolve.Post
+    (resolve-kind-at-requires t)
+    (resolve-kind-at-requires-2 t)
+    (resolve-either-requires t)
+    (resolve-resolve-wrapper-requires t)
+    (resolve-same-length t)
+    (resolve-returns t)
+    (resolve-either-requires-2 t)
+    (resolve-resolve-wrapper-requires-2 t)
+    (resolve-same-length-2 t)
+    (resolve-returns-2 t)
+    (resolve-nested-requires t)
+    (resolve-same-length-3 t)
+    (resolve-returns-3 t))
+    (λ t. resolve-wrapper-lts.spec (resolve-wrapper-calls t)
+    (resolve-wrapper-at t)
+    resolve-wrapper.Post
+    (resolve-wrapper-kind-at-requires t)
+    (resolve-wrapper-kind-at-requires-2 t)
+    (resolve-wrapper-both-parts-requires t)
+    (resolve-wrapper-same-length t)
+    (resolve-wrapper-returns t)
+    (resolve-wrapper-rewrapped-requires t)
+    (resolve-wrapper-same-length-2 t)
+    (resolve-wrapper-returns-2 t)
+    (resolve-wrapper-rewrapped-requires-2 t)
+    (resolve-wrapper-same-length-3 t)
+    (resolve-wrapper-returns-3 t)
+    (resolve-wrapper-same-length-4 t)
+    (resolve-wrapper-returns-4 t))
+    (λ t. rewrapped-lts.spec (rewrapped-calls t)
+    (rewrapped-at t)
+    rewrapped.Post
+    (rewrapped-returns t)
+    (rewrapped-look-requires t)
+    (rewrapped-look-requires-2 t)
+    (rewrapped-copy-head-requires t)
+    (rewrapped-enum-known-a t)
+    (rewrapped-copy-field-requires t)
+    (rewrapped-enum-known-b t)
+    (rewrapped-coerce-field-requires t)
+    (rewrapped-enum-known-e t)
+    (rewrapped-tie-requires t)
+    (rewrapped-keep-wrapper-requires t)
+    (rewrapped-enum-told t)
+    (rewrapped-enum-told-2 t)
+    (rewrapped-enum-told-3 t)
+    (rewrapped-enum-told-4 t)
+    (rewrapped-enum-told-5 t)
+    (rewrapped-enum-told-6 t)
+    (rewrapped-same-length t)
+    (rewrapped-returns-2 t)
+    (rewrapped-same-length-2 t)
+    (rewrapped-returns-3 t)
+    (rewrapped-same-length-3 t)
+    (rewrapped-returns-4 t)
+    (rewrapped-same-length-4 t)
+    (rewrapped-returns-5 t)
+    (rewrapped-same-length-5 t)
+    (rewrapped-returns-6 t)
+    (rewrapped-same-length-6 t)
+    (rewrapped-returns-7 t)
+    (rewrapped-same-length-7 t)
+    (rewrapped-returns-8 t))
+    (λ t. rows-lts.spec (rows-calls t)
+    (rows-at t)
+    rows.Post
+    (rows-row-end-requires t)
+    (rows-returns t)
+    (rows-returns-2 t)
+    (rows-look-requires t)
+    (rows-row-requires t)
+    (rows-same-length t)
+    (rows-returns-3 t)
+    (rows-name-field-requires t)
+    (rows-same-length-2 t)
+    (rows-returns-4 t)
+    (rows-coerce-requires t)
+    (rows-enum-known-d t)
+    (rows-sub-rows t)
+    (rows-rows-requires t)
+    (rows-enum-known-e t)
+    (rows-next-link-requires t)
+    (rows-tie-requires t)
+    (rows-enum-told t)
+    (rows-enum-told-2 t)
+    (rows-enum-told-3 t)
+    (rows-enum-told-4 t)
+    (rows-same-length-3 t)
+    (rows-returns-5 t)
+    (rows-same-length-4 t)
+    (rows-returns-6 t)
+    (rows-same-length-5 t)
+    (rows-returns-7 t)
+    (rows-same-length-6 t)
+    (rows-returns-8 t)
+    (rows-same-length-7 t)
+    (rows-returns-9 t))
+    (λ t. struct-rule-lts.spec (struct-rule-calls t)
+    (struct-rule-at t)
+    struct-rule.Post
+    (struct-rule-look-requires t)
+    (struct-rule-look-requires-2 t)
+    (struct-rule-both-requires t)
+    (struct-rule-same-arity-requires t)
+    (struct-rule-both-requires-2 t)
+    (struct-rule-have-same-names-requires t)
+    (struct-rule-under-requires t)
+    (struct-rule-same-length t)
+    (struct-rule-returns t)
+    (struct-rule-under-requires-2 t)
+    (struct-rule-same-length-2 t)
+    (struct-rule-returns-2 t)
+    (struct-rule-same-length-3 t)
+    (struct-rule-returns-3 t))
+    (λ t. under-lts.spec (under-calls t)
+    (under-at t)
+    under.Post
+    (under-add-label t)
+    (under-returns t)
+    (under-first-link-requires t)
+    (under-lay-requires t)
+    (under-add-t21 t)
+    (under-rows-requires t)
+    (under-same-length t)
+    (under-returns-2 t))
+    (λ t. unwrap-lts.spec
+    (wrapper-below t, wrapper.Post, nested-below t, nested.Post)
+    (unwrap-at t)
+    unwrap.Post
+    (unwrap-wrapper-requires t)
+    (unwrap-enum-known-d t)
+    (unwrap-enum-told t)
+    (unwrap-wrapper-requires-2 t)
+    (unwrap-enum-known-d-2 t)
+    (unwrap-enum-told-2 t)
+    (unwrap-nested-requires t)
+    (unwrap-enum-told-3 t)
+    (unwrap-enum-told-4 t)
+    (unwrap-same-length t)
+    (unwrap-returns t)
+    (unwrap-same-length-2 t)
+    (unwrap-returns-2 t)
+    (unwrap-same-length-3 t)
+    (unwrap-returns-3 t)
+    (unwrap-same-length-4 t)
+    (unwrap-returns-4 t)
+    (unwrap-same-length-5 t)
+    (unwrap-returns-5 t))
+    λ t. wrapper-lts.spec (wrapper-calls t)
+    (wrapper-at t)
+    wrapper.Post
+    (wrapper-kind-at-requires t)
+    (wrapper-kind-at-requires-2 t)
+    (wrapper-value-at-requires t)
+    (wrapper-value-at-requires-2 t)
+    (wrapper-coerce-requires t)
+    (wrapper-same-length t)
+    (wrapper-returns t)
+    (wrapper-same-sides-requires t)
+    (wrapper-copy-type-requires t)
+    (wrapper-same-length-2 t)
+    (wrapper-returns-2 t)
+    (wrapper-coerce-requires-2 t)
+    (wrapper-same-length-3 t)
+    (wrapper-returns-3 t)
+    (wrapper-same-sides-requires-2 t)
+    (wrapper-copy-type-requires-2 t)
+    (wrapper-same-length-4 t)
+    (wrapper-returns-4 t)
+    (wrapper-coerce-requires-3 t)
+    (wrapper-same-length-5 t)
+    (wrapper-returns-5 t)
+    (wrapper-same-length-6 t)
+    (wrapper-returns-6 t)

@@ -1,0 +1,742 @@
+// The merge of two types. Each call hands down how many records may be left in both types, and that number falls.
+ghost use mathlib.Core.Path.{_≡_};
+ghost use mathlib.Core.Bool.{Bool, false, not};
+ghost use Prim.Native.Nat.{_+_, _≤_, _<_};
+ghost use Rattle.coercion.specs.Answers.{coercion, listStruct};
+ghost use Rattle.coercion.specs.Wrappers.{wrapperCoercion};
+ghost use Rattle.coercion.specs.Nested.{structCoercion};
+ghost use Rattle.sheet.specs.Head.{headAt};
+ghost use Rattle.merge.specs.Writes.{side};
+ghost use Rattle.merge.specs.Region.{Room, Inside, Ready};
+ghost use Rattle.merge.specs.Goal.{shapeFor};
+ghost use Rattle.merge.specs.Turns.{rulesOf, IsWrapper, resolved, unwrapped, eitherWrapped, nestedOf, bothWrapped, rewrapped, listRule, mapRule};
+ghost use Rattle.merge.specs.Merge.{Merges, MergesField, Rowed, Under};
+use crate::Feed;
+use crate::Goal;
+use crate::Out;
+use crate::Question;
+use crate::Space;
+use crate::Spot;
+use crate::alike::same_sides;
+use crate::copy::copy_head;
+use crate::copy::is_nullable;
+use crate::field::copy_field;
+use crate::field::first_link;
+use crate::field::keep_wrapper;
+use crate::field::name_field;
+use crate::field::next_link;
+use crate::field::row_end;
+use crate::lay::copy_type;
+use crate::lay::lay;
+use crate::lay::tie;
+use crate::names::have_same_names;
+use crate::names::row;
+use crate::names::same_arity;
+use crate::plain::is_list_question;
+use crate::plain::list_kind;
+use crate::plain::list_size;
+use crate::plain::plain;
+use crate::stamp::lay_step;
+use crate::write::kind_at;
+use crate::write::look;
+use crate::write::value_at;
+use coercion::tests::both;
+use coercion::tests::either;
+use coercion::tests::is_list;
+
+// The common type of two types, or none.
+pub fn coerce(
+    sheet: &[u8],
+    work: &mut [u8],
+    space: Space,
+    question: Question,
+    mask: u64,
+    left: usize,
+    swap: bool,
+    l: usize,
+    r: usize,
+    g: Goal,
+) -> Out
+    requires { ⌜ Room (now work) space × Ready space g ⌝ }
+    ensures { λ o. ⌜ Merges (coercion (rulesOf question mask)) space left swap (now (sheet .entry)) (now (work .entry)) (now (work .exit)) l r g o ⌝ }
+{
+    if left == 0 {
+        return Out::No;
+    }
+    let list = is_list_question(question);
+    if same_sides(sheet, &*work, space.n, swap, l, r, list) {
+        return copy_type(sheet, work, space, swap, l, g);
+    }
+    if list {
+        return resolve(sheet, work, space, question, mask, left - 1, swap, l, r, g);
+    }
+    unwrap(sheet, work, space, question, mask, left - 1, swap, l, r, g)
+}
+
+// The rules of a list, after the test for sameness.
+fn resolve(
+    sheet: &[u8],
+    work: &mut [u8],
+    space: Space,
+    question: Question,
+    mask: u64,
+    left: usize,
+    swap: bool,
+    l: usize,
+    r: usize,
+    g: Goal,
+) -> Out
+    requires { ⌜ Room (now work) space × Ready space g ⌝ }
+    ensures { λ o. ⌜ Merges (resolved (rulesOf question mask) (coercion (rulesOf question mask))) space (left + 1) swap (now (sheet .entry)) (now (work .entry)) (now (work .exit)) l r g o ⌝ }
+{
+    let k = kind_at(sheet, &*work, swap, l);
+    let j = kind_at(sheet, &*work, !swap, r);
+    if either(k == 37, j == 37) {
+        return resolve_wrapper(sheet, work, space, question, mask, left, swap, 37, l, r, g);
+    }
+    if either(k == 38, j == 38) {
+        return resolve_wrapper(sheet, work, space, question, mask, left, swap, 38, l, r, g);
+    }
+    nested(sheet, work, space, question, mask, left, swap, l, r, g)
+}
+
+// Two types of a list, of which one at least is a wrapper of a kind.
+fn resolve_wrapper(
+    sheet: &[u8],
+    work: &mut [u8],
+    space: Space,
+    question: Question,
+    mask: u64,
+    left: usize,
+    swap: bool,
+    kind: u8,
+    l: usize,
+    r: usize,
+    g: Goal,
+) -> Out
+    requires { ⌜ Room (now work) space × Ready space g ⌝ }
+    requires { ⌜ IsWrapper kind ⌝ }
+    ensures { λ o. ⌜ Merges (eitherWrapped kind (coercion (rulesOf question mask))) space (left + 1) swap (now (sheet .entry)) (now (work .entry)) (now (work .exit)) l r g o ⌝ }
+{
+    let k = kind_at(sheet, &*work, swap, l);
+    let j = kind_at(sheet, &*work, !swap, r);
+    if k == kind {
+        if j == kind {
+            return both_parts(sheet, work, space, question, mask, left, swap, l, r, g);
+        }
+        return rewrapped(
+            sheet,
+            work,
+            space,
+            question,
+            mask,
+            left,
+            swap,
+            kind,
+            l,
+            r,
+            g,
+        );
+    }
+    if j == kind {
+        return rewrapped(
+            sheet,
+            work,
+            space,
+            question,
+            mask,
+            left,
+            !swap,
+            kind,
+            r,
+            l,
+            g,
+        );
+    }
+    Out::No
+}
+
+// Two wrappers: their parts are coerced one by one.
+fn both_parts(
+    sheet: &[u8],
+    work: &mut [u8],
+    space: Space,
+    question: Question,
+    mask: u64,
+    left: usize,
+    swap: bool,
+    l: usize,
+    r: usize,
+    g: Goal,
+) -> Out
+    requires { ⌜ Room (now work) space × Ready space g ⌝ }
+    ensures { λ o. ⌜ Merges (bothWrapped (coercion (rulesOf question mask))) space (left + 1) swap (now (sheet .entry)) (now (work .entry)) (now (work .exit)) l r g o ⌝ }
+{
+    if space.n <= g.at {
+        return Out::Full;
+    }
+    let x = look(sheet, &*work, swap, l);
+    let y = look(sheet, &*work, !swap, r);
+    let a = x.first;
+    let b = y.first;
+    match copy_head(sheet, work, space, swap, x, l, g, 0) {
+        Out::Done(d) => rows(
+            sheet,
+            work,
+            space,
+            question,
+            mask,
+            left,
+            swap,
+            Feed::Own,
+            a,
+            b,
+            b,
+            d,
+        ),
+        Out::No => Out::No,
+        Out::Full => Out::Full,
+    }
+}
+
+// A wrapper whose value is coerced with another type, the value on the left.
+fn rewrapped(
+    sheet: &[u8],
+    work: &mut [u8],
+    space: Space,
+    question: Question,
+    mask: u64,
+    left: usize,
+    swap: bool,
+    kind: u8,
+    l: usize,
+    r: usize,
+    g: Goal,
+) -> Out
+    requires { ⌜ Room (now work) space × Ready space g ⌝ }
+    requires { ⌜ IsWrapper kind × (headAt (side swap (now sheet) (now work)) l .kind ≡ kind) ⌝ }
+    ensures { λ o. ⌜ Merges (rewrapped kind (coercion (rulesOf question mask))) space (left + 1) swap (now (sheet .entry)) (now (work .entry)) (now (work .exit)) l r g o ⌝ }
+{
+    if space.n <= g.at {
+        return Out::Full;
+    }
+    let x = look(sheet, &*work, swap, l);
+    let first = x.first;
+    let second = look(sheet, &*work, swap, first).next;
+    match copy_head(sheet, work, space, swap, x, l, g, 0) {
+        Out::Done(a) => match copy_field(sheet, work, space, swap, first, a) {
+            Out::Done(b) => match coerce_field(
+                sheet,
+                work,
+                space,
+                question,
+                mask,
+                left,
+                swap,
+                second,
+                r,
+                b,
+            ) {
+                Out::Done(e) => {
+                    let i = b.at;
+                    tie(work, space, a.at, i);
+                    keep_wrapper(work, space, kind, i, g, e)
+                }
+                Out::No => Out::No,
+                Out::Full => Out::Full,
+            },
+            Out::No => Out::No,
+            Out::Full => Out::Full,
+        },
+        Out::No => Out::No,
+        Out::Full => Out::Full,
+    }
+}
+
+// A field of a side, coerced with a type of the other under its own name and nullability.
+fn coerce_field(
+    sheet: &[u8],
+    work: &mut [u8],
+    space: Space,
+    question: Question,
+    mask: u64,
+    left: usize,
+    swap: bool,
+    l: usize,
+    r: usize,
+    to: Spot,
+) -> Out
+    requires { ⌜ Room (now work) space × Inside space to ⌝ }
+    ensures { λ o. ⌜ MergesField (coercion (rulesOf question mask)) space left swap (now (sheet .entry)) (now (work .entry)) (now (work .exit)) l r to o ⌝ }
+{
+    let x = look(sheet, &*work, swap, l);
+    let nlen = x.nlen;
+    let nullable = is_nullable(x);
+    if name_field(sheet, work, space, swap, x, to) {
+        let g = Goal {
+            at: to.at,
+            label: to.label,
+            nlen,
+            nullable,
+        };
+        return coerce(sheet, work, space, question, mask, left, swap, l, r, g);
+    }
+    Out::Full
+}
+
+// The rules of union and compare, after the test for alikeness.
+fn unwrap(
+    sheet: &[u8],
+    work: &mut [u8],
+    space: Space,
+    question: Question,
+    mask: u64,
+    left: usize,
+    swap: bool,
+    l: usize,
+    r: usize,
+    g: Goal,
+) -> Out
+    requires { ⌜ Room (now work) space × Ready space g ⌝ }
+    ensures { λ o. ⌜ Merges (unwrapped (rulesOf question mask) (coercion (rulesOf question mask))) space (left + 1) swap (now (sheet .entry)) (now (work .entry)) (now (work .exit)) l r g o ⌝ }
+{
+    match wrapper(sheet, work, space, question, mask, left, swap, 37, l, r, g) {
+        Out::Done(d) => Out::Done(d),
+        Out::No => match wrapper(sheet, work, space, question, mask, left, swap, 38, l, r, g) {
+            Out::Done(d) => Out::Done(d),
+            Out::No => nested(sheet, work, space, question, mask, left, swap, l, r, g),
+            Out::Full => Out::Full,
+        },
+        Out::Full => Out::Full,
+    }
+}
+
+// A wrapper of a kind on either side, or on both.
+fn wrapper(
+    sheet: &[u8],
+    work: &mut [u8],
+    space: Space,
+    question: Question,
+    mask: u64,
+    left: usize,
+    swap: bool,
+    kind: u8,
+    l: usize,
+    r: usize,
+    g: Goal,
+) -> Out
+    requires { ⌜ Room (now work) space × Ready space g ⌝ }
+    requires { ⌜ IsWrapper kind ⌝ }
+    ensures { λ o. ⌜ Merges (wrapperCoercion kind (coercion (rulesOf question mask))) space (left + 1) swap (now (sheet .entry)) (now (work .entry)) (now (work .exit)) l r g o ⌝ }
+{
+    let k = kind_at(sheet, &*work, swap, l);
+    let j = kind_at(sheet, &*work, !swap, r);
+    let a = value_at(sheet, &*work, swap, l);
+    let b = value_at(sheet, &*work, !swap, r);
+    if k == kind {
+        if j == kind {
+            return coerce(sheet, work, space, question, mask, left, swap, a, b, g);
+        }
+        if same_sides(sheet, &*work, space.n, swap, a, r, true) {
+            return copy_type(sheet, work, space, swap, l, g);
+        }
+        return coerce(sheet, work, space, question, mask, left, swap, a, r, g);
+    }
+    if j == kind {
+        if same_sides(sheet, &*work, space.n, !swap, b, l, true) {
+            return copy_type(sheet, work, space, !swap, r, g);
+        }
+        return coerce(sheet, work, space, question, mask, left, swap, l, b, g);
+    }
+    Out::No
+}
+
+// Two types that are no wrappers: lists, structs, maps, and types without parts.
+fn nested(
+    sheet: &[u8],
+    work: &mut [u8],
+    space: Space,
+    question: Question,
+    mask: u64,
+    left: usize,
+    swap: bool,
+    l: usize,
+    r: usize,
+    g: Goal,
+) -> Out
+    requires { ⌜ Room (now work) space × Ready space g ⌝ }
+    ensures { λ o. ⌜ Merges (nestedOf (rulesOf question mask) (coercion (rulesOf question mask))) space (left + 1) swap (now (sheet .entry)) (now (work .entry)) (now (work .exit)) l r g o ⌝ }
+{
+    let x = look(sheet, &*work, swap, l);
+    let y = look(sheet, &*work, !swap, r);
+    let k = x.kind;
+    let j = y.kind;
+    if both(is_list(k), is_list(j)) {
+        return list_rule(sheet, work, space, question, mask, left, swap, l, r, g);
+    }
+    if both(k == 35, j == 35) {
+        if is_list_question(question) {
+            return list_struct(sheet, work, space, question, mask, left, swap, l, r, g);
+        }
+        return struct_rule(sheet, work, space, question, mask, left, swap, l, r, g);
+    }
+    if both(k == 36, j == 36) {
+        return map_rule(sheet, work, space, question, mask, left, swap, l, r, g);
+    }
+    lay_step(
+        sheet,
+        work,
+        space,
+        swap,
+        plain(question, mask, x, y),
+        l,
+        r,
+        g,
+    )
+}
+
+// The record of a type with parts, and its parts after it.
+fn under(
+    sheet: &[u8],
+    work: &mut [u8],
+    space: Space,
+    question: Question,
+    mask: u64,
+    left: usize,
+    swap: bool,
+    feed: Feed,
+    kind: u8,
+    size: usize,
+    l: usize,
+    r: usize,
+    p: usize,
+    g: Goal,
+) -> Out
+    requires { ⌜ (Room (now work) space × Ready space g) × (size < 4294967296) ⌝ }
+    ensures { λ o. ⌜ Under (coercion (rulesOf question mask)) space left swap (now (sheet .entry)) (now (work .entry)) (now (work .exit)) feed (shapeFor kind 0 0 size false) l r p g o ⌝ }
+{
+    let at = g.at;
+    let label = g.label + g.nlen;
+    if space.n <= at {
+        return Out::Full;
+    }
+    lay(work, space, g, kind, 0, 0, size, false, first_link(at, l));
+    rows(
+        sheet,
+        work,
+        space,
+        question,
+        mask,
+        left,
+        swap,
+        feed,
+        l,
+        r,
+        p,
+        Spot { at: at + 1, label },
+    )
+}
+
+// `list_coercion`, of two lists.
+fn list_rule(
+    sheet: &[u8],
+    work: &mut [u8],
+    space: Space,
+    question: Question,
+    mask: u64,
+    left: usize,
+    swap: bool,
+    l: usize,
+    r: usize,
+    g: Goal,
+) -> Out
+    requires { ⌜ Room (now work) space × Ready space g ⌝ }
+    ensures { λ o. ⌜ Merges (listRule (coercion (rulesOf question mask))) space (left + 1) swap (now (sheet .entry)) (now (work .entry)) (now (work .exit)) l r g o ⌝ }
+{
+    let x = look(sheet, &*work, swap, l);
+    let y = look(sheet, &*work, !swap, r);
+    let kind = list_kind(x, y);
+    let size = list_size(x, y);
+    let a = x.first;
+    let b = y.first;
+    under(
+        sheet,
+        work,
+        space,
+        question,
+        mask,
+        left,
+        swap,
+        Feed::Place,
+        kind,
+        size,
+        a,
+        b,
+        b,
+        g,
+    )
+}
+
+// `struct_coercion`, of two types.
+fn struct_rule(
+    sheet: &[u8],
+    work: &mut [u8],
+    space: Space,
+    question: Question,
+    mask: u64,
+    left: usize,
+    swap: bool,
+    l: usize,
+    r: usize,
+    g: Goal,
+) -> Out
+    requires { ⌜ Room (now work) space × Ready space g ⌝ }
+    ensures { λ o. ⌜ Merges (structCoercion (coercion (rulesOf question mask))) space (left + 1) swap (now (sheet .entry)) (now (work .entry)) (now (work .exit)) l r g o ⌝ }
+{
+    let x = look(sheet, &*work, swap, l);
+    let y = look(sheet, &*work, !swap, r);
+    let a = x.first;
+    let b = y.first;
+    if both(
+        both(x.kind == 35, y.kind == 35),
+        same_arity(sheet, &*work, space, swap, l, a, b),
+    ) {
+        if have_same_names(sheet, &*work, space, swap, l, a, b) {
+            return under(
+                sheet,
+                work,
+                space,
+                question,
+                mask,
+                left,
+                swap,
+                Feed::Name,
+                35,
+                0,
+                a,
+                b,
+                0,
+                g,
+            );
+        }
+        return under(
+            sheet,
+            work,
+            space,
+            question,
+            mask,
+            left,
+            swap,
+            Feed::Place,
+            35,
+            0,
+            a,
+            b,
+            b,
+            g,
+        );
+    }
+    Out::No
+}
+
+// Two structs of a list.
+fn list_struct(
+    sheet: &[u8],
+    work: &mut [u8],
+    space: Space,
+    question: Question,
+    mask: u64,
+    left: usize,
+    swap: bool,
+    l: usize,
+    r: usize,
+    g: Goal,
+) -> Out
+    requires { ⌜ Room (now work) space × Ready space g ⌝ }
+    requires { ⌜ headAt (side swap (now sheet) (now work)) l .kind ≡ 35 ⌝ }
+    ensures { λ o. ⌜ Merges (listStruct (coercion (rulesOf question mask))) space (left + 1) swap (now (sheet .entry)) (now (work .entry)) (now (work .exit)) l r g o ⌝ }
+{
+    let a = look(sheet, &*work, swap, l).first;
+    let b = look(sheet, &*work, !swap, r).first;
+    if both(
+        same_arity(sheet, &*work, space, swap, l, a, b),
+        have_same_names(sheet, &*work, space, swap, l, a, b),
+    ) {
+        return under(
+            sheet,
+            work,
+            space,
+            question,
+            mask,
+            left,
+            swap,
+            Feed::NameThenPlace,
+            35,
+            0,
+            a,
+            b,
+            b,
+            g,
+        );
+    }
+    Out::No
+}
+
+// `map_coercion`, of two maps.
+fn map_rule(
+    sheet: &[u8],
+    work: &mut [u8],
+    space: Space,
+    question: Question,
+    mask: u64,
+    left: usize,
+    swap: bool,
+    l: usize,
+    r: usize,
+    g: Goal,
+) -> Out
+    requires { ⌜ Room (now work) space × Ready space g ⌝ }
+    ensures { λ o. ⌜ Merges (mapRule (coercion (rulesOf question mask))) space (left + 1) swap (now (sheet .entry)) (now (work .entry)) (now (work .exit)) l r g o ⌝ }
+{
+    let at = g.at;
+    let label = g.label + g.nlen;
+    if space.n <= at {
+        return Out::Full;
+    }
+    let x = look(sheet, &*work, swap, l);
+    let y = look(sheet, &*work, !swap, r);
+    let a = x.first;
+    let b = y.first;
+    let sorted = both(x.flags / 2 % 2 == 1, y.flags / 2 % 2 == 1);
+    if a == 0 {
+        return Out::No;
+    }
+    if b == 0 {
+        return Out::No;
+    }
+    lay(work, space, g, 36, 0, 0, 0, sorted, at + 1);
+    entry(
+        sheet,
+        work,
+        space,
+        question,
+        mask,
+        left,
+        swap,
+        a,
+        b,
+        Spot { at: at + 1, label },
+    )
+}
+
+// The entries of two maps, under the left's name and nullability.
+fn entry(
+    sheet: &[u8],
+    work: &mut [u8],
+    space: Space,
+    question: Question,
+    mask: u64,
+    left: usize,
+    swap: bool,
+    l: usize,
+    r: usize,
+    to: Spot,
+) -> Out
+    requires { ⌜ Room (now work) space × Inside space to ⌝ }
+    ensures { λ o. ⌜ MergesField (structCoercion (coercion (rulesOf question mask))) space (left + 1) swap (now (sheet .entry)) (now (work .entry)) (now (work .exit)) l r to o ⌝ }
+{
+    let x = look(sheet, &*work, swap, l);
+    let nlen = x.nlen;
+    let nullable = is_nullable(x);
+    if name_field(sheet, work, space, swap, x, to) {
+        let g = Goal {
+            at: to.at,
+            label: to.label,
+            nlen,
+            nullable,
+        };
+        return struct_rule(sheet, work, space, question, mask, left, swap, l, r, g);
+    }
+    Out::Full
+}
+
+// The rows of two chains: each field of the left is coerced with the one that feeds it, and then come the rows behind it.
+fn rows(
+    sheet: &[u8],
+    work: &mut [u8],
+    space: Space,
+    question: Question,
+    mask: u64,
+    left: usize,
+    swap: bool,
+    feed: Feed,
+    l: usize,
+    r: usize,
+    p: usize,
+    to: Spot,
+) -> Out
+    requires { ⌜ Room (now work) space × Inside space to ⌝ }
+    ensures { λ o. ⌜ Rowed (coercion (rulesOf question mask)) space left swap (now (sheet .entry)) (now (work .entry)) (now (work .exit)) feed l r p to o ⌝ }
+{
+    if l == 0 {
+        return row_end(p, to);
+    }
+    if left == 0 {
+        return Out::No;
+    }
+    let x = look(sheet, &*work, swap, l);
+    let row = row(sheet, &*work, space, swap, feed, l, r, p);
+    let at = to.at;
+    let nlen = x.nlen;
+    let next = x.next;
+    let partner = row.partner;
+    let p = row.next;
+    if partner == 0 {
+        return Out::No;
+    }
+    if !name_field(sheet, work, space, swap, x, to) {
+        return Out::Full;
+    }
+    let g = Goal {
+        at,
+        label: to.label,
+        nlen,
+        nullable: row.nullable,
+    };
+    match coerce(
+        sheet,
+        work,
+        space,
+        question,
+        mask,
+        left,
+        swap,
+        l,
+        partner,
+        g,
+    ) {
+        Out::Done(d) => match rows(
+            sheet,
+            work,
+            space,
+            question,
+            mask,
+            left - 1,
+            swap,
+            feed,
+            next,
+            r,
+            p,
+            d,
+        ) {
+            Out::Done(e) => {
+                tie(work, space, at, next_link(d, e));
+                Out::Done(e)
+            }
+            Out::No => Out::No,
+            Out::Full => Out::Full,
+        },
+        Out::No => Out::No,
+        Out::Full => Out::Full,
+    }
+}
