@@ -11,17 +11,18 @@ use Rattle.coercion.specs.Data as Data
 use Rattle.coercion.specs.Same.{sameType}
 use Rattle.coercion.specs.Answers.{coercion}
 use Rattle.coercion.proofs.Fuel.{coercion-asks}
-use Rattle.merge.specs.Source.{SameTypes}
-use Rattle.merge.specs.Writes.{side}
-use Rattle.merge.specs.Goal.{CopiedType}
-use Rattle.merge.specs.Merge.{Typed, Merges}
-use Rattle.merge.specs.Turns.{asked, rulesOf, isListQuestion, resolved, unwrapped, turnsFor, turnsOf}
-use Rattle.merge.specs.declared.Space.{Space}
-use Rattle.merge.specs.declared.Goal.{Goal}
-use Rattle.merge.specs.declared.Question.{Question}
-use Rattle.merge.specs.declared.Question.the-variants as Question
-use Rattle.merge.specs.declared.Out.{Out}
-use Rattle.merge.specs.declared.Out.the-variants.{Done, No, Full}
+use Rattle.buffers.specs.Source.{SameTypes}
+use Rattle.buffers.specs.Writes.{side}
+use Rattle.buffers.specs.Goal.{CopiedType}
+use Rattle.buffers.specs.Typed.{Typed, Merges}
+use Rattle.buffers.specs.Plain.{asked, rulesOf, isListQuestion}
+use Rattle.merge.specs.Turns.{resolved, unwrapped, turnsFor, turnsOf}
+use Rattle.buffers.specs.declared.Space.{Space}
+use Rattle.buffers.specs.declared.Goal.{Goal}
+use Rattle.buffers.specs.declared.Question.{Question}
+use Rattle.buffers.specs.declared.Question.the-variants as Question
+use Rattle.buffers.specs.declared.Out.{Out}
+use Rattle.buffers.specs.declared.Out.the-variants.{Done, No, Full}
 use Rattle.merge.proofs.Orders.{ask-turns}
 use Rattle.merge.proofs.Merging.{typed-same, merges-as, merges-left, merges-none}
 

@@ -16,25 +16,27 @@ use Rattle.sheet.specs.declared.Head.{Head}
 use Rattle.coercion.specs.Data.{DataType, Rules, size, andThen}
 use Rattle.coercion.specs.Answers.{coercion}
 use Rattle.coercion.specs.Nested.{before, joinFields, byName}
-use Rattle.merge.specs.Writes.{side}
-use Rattle.merge.specs.Region.{Room, Kept, Inside, Grows, Short, Wrote, Ready, Named}
-use Rattle.merge.specs.Goal.{letters, spotOf, fieldFor, NoRoom, Means, Tied}
-use Rattle.merge.specs.Merge.{Chain, Typed, Merges, ChainIs, Feeds, Rowed, Fed, Unfed, RowIs, goalAt, NamedAt}
-use Rattle.merge.specs.declared.Space.{Space}
-use Rattle.merge.specs.declared.Spot.{Spot}
-use Rattle.merge.specs.declared.Goal.{Goal}
-use Rattle.merge.specs.declared.Row.{Row}
-use Rattle.merge.specs.declared.Feed.{Feed}
-use Rattle.merge.specs.declared.Feed.the-variants as Feed
-use Rattle.merge.specs.declared.Out.{Out}
-use Rattle.merge.specs.declared.Out.the-variants.{Done, No, Full}
-use Rattle.merge.proofs.Frames.{kept-self, kept-trans, kept-wider, wrote-frame}
-use Rattle.merge.proofs.Chained.{labels-sum}
-use Rattle.merge.proofs.Laying.{named-kept}
-use Rattle.merge.proofs.Tying.{tied-kept, chain-tied}
+use Rattle.buffers.specs.Writes.{side}
+use Rattle.buffers.specs.Region.{Room, Kept, Inside, Grows, Short, Wrote, Ready, Named}
+use Rattle.buffers.specs.Goal.{letters, spotOf, fieldFor, NoRoom, Means, Tied}
+use Rattle.buffers.specs.Feeds.{Feeds, Fed, Unfed, RowIs}
+use Rattle.buffers.specs.Typed.{Chain, Typed, Merges, ChainIs, goalAt, NamedAt}
+use Rattle.merge.specs.Merge.{Rowed}
+use Rattle.buffers.specs.declared.Space.{Space}
+use Rattle.buffers.specs.declared.Spot.{Spot}
+use Rattle.buffers.specs.declared.Goal.{Goal}
+use Rattle.buffers.specs.declared.Row.{Row}
+use Rattle.buffers.specs.declared.Feed.{Feed}
+use Rattle.buffers.specs.declared.Feed.the-variants as Feed
+use Rattle.buffers.specs.declared.Out.{Out}
+use Rattle.buffers.specs.declared.Out.the-variants.{Done, No, Full}
+use Rattle.buffers.proofs.Frames.{kept-self, kept-trans, kept-wider, wrote-frame}
+use Rattle.buffers.proofs.Chained.{labels-sum}
+use Rattle.buffers.proofs.Laying.{named-kept}
+use Rattle.buffers.proofs.Tying.{tied-kept, chain-tied}
 use Rattle.merge.proofs.Merging.{chain-side, typed-side, chain-some, common-fits}
-use Rattle.merge.proofs.Rows.{chain-link, chain-typed, chain-next}
-use Rattle.merge.proofs.Fielding.{name-length}
+use Rattle.buffers.proofs.Rows.{chain-link, chain-typed, chain-next}
+use Rattle.buffers.proofs.Fielding.{name-length}
 
 some-one : {A : Type 0} {a b : A} → some a ≡ some b → a ≡ b
 some-one {A} {a} {b} e = ap (λ (o : Option A). value o) e

@@ -18,20 +18,20 @@ use Rattle.coercion.specs.Answers.{coercion}
 use Rattle.coercion.proofs.Shorter.{coercion-smaller, coercion-shorter}
 use Rattle.sheet.proofs.Tests.{all-at, all-cons, all-nil}
 use Rattle.coercion.specs.Same.{sameType}
-use Rattle.merge.specs.Source.{Source, SameTypes}
-use Rattle.merge.specs.Writes.{side}
-use Rattle.merge.specs.Region.{Room, Kept, Held, Inside, Ready, Wrote}
-use Rattle.merge.specs.Goal.{letters, NoRoom, Means, Writes, CopiedType}
-use Rattle.merge.specs.Merge.{Chain, Typed, Merges}
-use Rattle.merge.specs.declared.Space.{Space}
-use Rattle.merge.specs.declared.Goal.{Goal}
-use Rattle.merge.specs.declared.Out.{Out}
-use Rattle.merge.specs.declared.Out.the-variants.{Done, No, Full}
-use Rattle.merge.proofs.Sources.{source-lower, read-nullable}
-use Rattle.merge.proofs.Frames.{kept-self}
-use Rattle.merge.proofs.Copying.{held-side}
-use Rattle.merge.proofs.Chained.{held-first}
-use Rattle.merge.proofs.Laying.{no-record}
+use Rattle.buffers.specs.Source.{Source, SameTypes}
+use Rattle.buffers.specs.Writes.{side}
+use Rattle.buffers.specs.Region.{Room, Kept, Held, Inside, Ready, Wrote}
+use Rattle.buffers.specs.Goal.{letters, NoRoom, Means, Writes, CopiedType}
+use Rattle.buffers.specs.Typed.{Chain, Typed, Merges}
+use Rattle.buffers.specs.declared.Space.{Space}
+use Rattle.buffers.specs.declared.Goal.{Goal}
+use Rattle.buffers.specs.declared.Out.{Out}
+use Rattle.buffers.specs.declared.Out.the-variants.{Done, No, Full}
+use Rattle.buffers.proofs.Sources.{source-lower, read-nullable}
+use Rattle.buffers.proofs.Frames.{kept-self}
+use Rattle.buffers.proofs.Copying.{held-side}
+use Rattle.buffers.proofs.Chained.{held-first}
+use Rattle.buffers.proofs.Laying.{no-record}
 
 -- what a source holds stays while the second half is written
 pub chain-side : (swap : Bool) (space : Space) (s w v : List ℕ) (at label : ℕ) {link : ℕ} {t : Fields} → Room w space → Kept space w v at label → Chain space (side swap s w) link t

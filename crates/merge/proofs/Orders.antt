@@ -24,7 +24,8 @@ use Rattle.coercion.specs.Answers.{ofKindType, stringNumber, listStruct, listRu
 use Rattle.coercion.proofs.Ranked.{kind-from}
 use Rattle.coercion.proofs.Moments.{above}
 use Rattle.coercion.proofs.Words.{or-none, rulesFor}
-use Rattle.merge.specs.Turns.{isListQuestion, stringTime, plainRules, structRule, nestedOf, eitherWrapped, resolved, unwrapped, turnsFor, turnsOf}
+use Rattle.buffers.specs.Plain.{isListQuestion, stringTime, plainRules}
+use Rattle.merge.specs.Turns.{structRule, nestedOf, eitherWrapped, resolved, unwrapped, turnsFor, turnsOf}
 
 -- answers with others between them that are none
 data Among : List (Option DataType) → List (Option DataType) → Type 0 where

@@ -17,25 +17,26 @@ use Rattle.sheet.specs.declared.Head.{Head}
 use Rattle.coercion.specs.Data.{DataType, size, andThen}
 use Rattle.coercion.specs.Nested.{joinFields, listOf, structCoercion, entryType, entryOf, mapShape}
 use Rattle.coercion.proofs.Maybe.{If, if-then}
-use Rattle.merge.specs.Writes.{side}
-use Rattle.merge.specs.Region.{Room, region, Kept, Grows, Ready, Named, Passes, Wrote, CopiedHead}
-use Rattle.merge.specs.Goal.{letters, spotOf, fieldFor, Means, Writes, Laid, typeOf, shapeFor}
+use Rattle.buffers.specs.Writes.{side}
+use Rattle.buffers.specs.Region.{Room, region, Kept, Grows, Ready, Named, Passes, Wrote, CopiedHead}
+use Rattle.buffers.specs.Goal.{letters, spotOf, fieldFor, Means, Writes, Laid, typeOf, shapeFor}
 use Rattle.merge.specs.Turns.{bothWrapped, mapRule}
-use Rattle.merge.specs.Merge.{Chain, Typed, Merges, MergesField, ChainIs, fieldOf, Rowed, Under, goalAt, NamedAt}
-use Rattle.merge.specs.declared.Space.{Space}
-use Rattle.merge.specs.declared.Spot.{Spot}
-use Rattle.merge.specs.declared.Goal.{Goal}
-use Rattle.merge.specs.declared.Feed.{Feed}
-use Rattle.merge.specs.declared.Feed.the-variants as Feed
-use Rattle.merge.specs.declared.Out.{Out}
-use Rattle.merge.specs.declared.Out.the-variants.{Done, No, Full}
-use Rattle.merge.proofs.Sources.{read-shape}
-use Rattle.merge.proofs.Frames.{stands-frame, kept-trans, kept-wider}
-use Rattle.merge.proofs.Chained.{labels-sum}
-use Rattle.merge.proofs.Laying.{no-record}
+use Rattle.buffers.specs.Typed.{Chain, Typed, Merges, ChainIs, goalAt, NamedAt}
+use Rattle.merge.specs.Merge.{MergesField, fieldOf, Rowed, Under}
+use Rattle.buffers.specs.declared.Space.{Space}
+use Rattle.buffers.specs.declared.Spot.{Spot}
+use Rattle.buffers.specs.declared.Goal.{Goal}
+use Rattle.buffers.specs.declared.Feed.{Feed}
+use Rattle.buffers.specs.declared.Feed.the-variants as Feed
+use Rattle.buffers.specs.declared.Out.{Out}
+use Rattle.buffers.specs.declared.Out.the-variants.{Done, No, Full}
+use Rattle.buffers.proofs.Sources.{read-shape}
+use Rattle.buffers.proofs.Frames.{stands-frame, kept-trans, kept-wider}
+use Rattle.buffers.proofs.Chained.{labels-sum}
+use Rattle.buffers.proofs.Laying.{no-record}
 use Rattle.merge.proofs.Merging.{chain-side, typed-side, chain-first, chain-some, means-for, merges-none}
-use Rattle.merge.proofs.Rows.{chain-end, chain-link, chain-typed, chain-nullable}
-use Rattle.merge.proofs.Fielding.{name-length}
+use Rattle.buffers.proofs.Rows.{chain-end, chain-link, chain-typed, chain-nullable}
+use Rattle.buffers.proofs.Fielding.{name-length}
 
 -- a record stands at a goal with a link to its parts, whose place is d
 pub record Parent (space : Space) (w v : List ℕ) (g : Goal) (shape : Shape) (link : ℕ) (d : Spot) : Type 0 where

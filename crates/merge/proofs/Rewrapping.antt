@@ -23,22 +23,23 @@ use Rattle.coercion.specs.Nested.{before}
 use Rattle.coercion.proofs.Maybe.{If}
 use Rattle.coercion.proofs.PlainRight.{Sound, own-right}
 use Rattle.coercion.proofs.NestedRight.{coercion-sound}
-use Rattle.merge.specs.Writes.{side}
-use Rattle.merge.specs.Region.{Room, region, Kept, Grows, Wrote, CopiedHead}
-use Rattle.merge.specs.Goal.{letters, Means, Writes, typeOf, shapeFor, Tied}
+use Rattle.buffers.specs.Writes.{side}
+use Rattle.buffers.specs.Region.{Room, region, Kept, Grows, Wrote, CopiedHead}
+use Rattle.buffers.specs.Goal.{letters, Means, Writes, typeOf, shapeFor, Tied}
 use Rattle.merge.specs.Turns.{IsWrapper, rewrap, rewrapped}
-use Rattle.merge.specs.Merge.{Chain, Typed, Merges, MergesField, ChainIs, fieldOf, CopiedField, isView, Viewed}
-use Rattle.merge.specs.declared.Space.{Space}
-use Rattle.merge.specs.declared.Spot.{Spot}
-use Rattle.merge.specs.declared.Goal.{Goal}
-use Rattle.merge.specs.declared.Out.{Out}
-use Rattle.merge.specs.declared.Out.the-variants.{Done, No, Full}
-use Rattle.merge.proofs.Frames.{kept-trans, kept-wider, wrote-frame}
-use Rattle.merge.proofs.Chained.{labels-sum}
-use Rattle.merge.proofs.Laying.{named-kept}
-use Rattle.merge.proofs.Tying.{tied-kept, chain-tied}
+use Rattle.buffers.specs.Typed.{Chain, Typed, Merges, ChainIs, CopiedField, isView, Viewed}
+use Rattle.merge.specs.Merge.{MergesField, fieldOf}
+use Rattle.buffers.specs.declared.Space.{Space}
+use Rattle.buffers.specs.declared.Spot.{Spot}
+use Rattle.buffers.specs.declared.Goal.{Goal}
+use Rattle.buffers.specs.declared.Out.{Out}
+use Rattle.buffers.specs.declared.Out.the-variants.{Done, No, Full}
+use Rattle.buffers.proofs.Frames.{kept-trans, kept-wider, wrote-frame}
+use Rattle.buffers.proofs.Chained.{labels-sum}
+use Rattle.buffers.proofs.Laying.{named-kept}
+use Rattle.buffers.proofs.Tying.{tied-kept, chain-tied}
 use Rattle.merge.proofs.Merging.{chain-side, typed-side, typed-kind, chain-first, means-for}
-use Rattle.merge.proofs.Rows.{chain-next}
+use Rattle.buffers.proofs.Rows.{chain-next}
 use Rattle.merge.proofs.Parents.{Parent, parent-copied, parent-wrote, kept-on, writes-on}
 
 -- what a test rules out

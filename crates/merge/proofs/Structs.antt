@@ -16,18 +16,19 @@ use Rattle.coercion.specs.Data.{DataType, size}
 use Rattle.coercion.specs.Wrappers.{isOf}
 use Rattle.coercion.specs.Nested.{joinFields, byName, fieldsHaveSameNames, partners, listOf, structOf, structCoercion}
 use Rattle.coercion.specs.Answers.{listStruct}
-use Rattle.merge.specs.Writes.{side}
-use Rattle.merge.specs.Goal.{letters, shapeFor}
-use Rattle.merge.specs.Merge.{Chain, Typed, Merges, Under}
-use Rattle.merge.specs.declared.Space.{Space}
-use Rattle.merge.specs.declared.Goal.{Goal}
-use Rattle.merge.specs.declared.Out.{Out}
-use Rattle.merge.specs.declared.Out.the-variants.{No}
-use Rattle.merge.specs.declared.Feed.the-variants as Feed
-use Rattle.merge.proofs.Chained.{held-first}
+use Rattle.buffers.specs.Writes.{side}
+use Rattle.buffers.specs.Goal.{letters, shapeFor}
+use Rattle.buffers.specs.Typed.{Chain, Typed, Merges}
+use Rattle.merge.specs.Merge.{Under}
+use Rattle.buffers.specs.declared.Space.{Space}
+use Rattle.buffers.specs.declared.Goal.{Goal}
+use Rattle.buffers.specs.declared.Out.{Out}
+use Rattle.buffers.specs.declared.Out.the-variants.{No}
+use Rattle.buffers.specs.declared.Feed.the-variants as Feed
+use Rattle.buffers.proofs.Chained.{held-first}
 use Rattle.merge.proofs.Merging.{chain-first, means-for, merges-none}
-use Rattle.merge.proofs.Naming.{Asks, sameArity, names-found, names-missing, by-name-fits}
-use Rattle.merge.proofs.Fielding.{typed-reads}
+use Rattle.buffers.proofs.Naming.{Asks, sameArity, names-found, names-missing, by-name-fits}
+use Rattle.buffers.proofs.Fielding.{typed-reads}
 
 -- a chain of nothing, at link 0
 pub chain-nothing : (space : Space) (s : List ℕ) → 0 < space .n → Chain space s 0 end

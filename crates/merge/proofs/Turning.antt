@@ -23,25 +23,27 @@ use Rattle.coercion.specs.Same.{sameType}
 use Rattle.coercion.specs.Wrappers.{valueIn, isOf, wrapperCoercion}
 use Rattle.coercion.specs.Nested.{before, joinFields, listShape, listOf, listCoercion, structCoercion, mapCoercion}
 use Rattle.coercion.specs.Answers.{bothParts, listStruct}
-use Rattle.merge.specs.Source.{SameTypes}
-use Rattle.merge.specs.Writes.{side}
-use Rattle.merge.specs.Region.{Room, Kept}
-use Rattle.merge.specs.Goal.{letters, Means, CopiedType, typeOf, shapeFor}
-use Rattle.merge.specs.Steps.{Reads, listKind, listSize}
-use Rattle.merge.specs.Turns.{isListQuestion, plainRules, structRule, nestedOf, listRule, mapRule, IsWrapper, bothWrapped, rewrapped, eitherWrapped, resolved, unwrapped}
-use Rattle.merge.specs.Merge.{Chain, Typed, Merges, Under}
-use Rattle.merge.specs.declared.Space.{Space}
-use Rattle.merge.specs.declared.Spot.{Spot}
-use Rattle.merge.specs.declared.Goal.{Goal}
-use Rattle.merge.specs.declared.Out.{Out}
-use Rattle.merge.specs.declared.Out.the-variants.{Done, No, Full}
-use Rattle.merge.specs.declared.Feed.the-variants as Feed
-use Rattle.merge.proofs.Frames.{kept-trans}
-use Rattle.merge.proofs.Chained.{room-kept, labels-sum}
-use Rattle.merge.proofs.Laying.{named-kept}
+use Rattle.buffers.specs.Source.{SameTypes}
+use Rattle.buffers.specs.Writes.{side}
+use Rattle.buffers.specs.Region.{Room, Kept}
+use Rattle.buffers.specs.Goal.{letters, Means, CopiedType, typeOf, shapeFor}
+use Rattle.buffers.specs.Steps.{Reads, listKind, listSize}
+use Rattle.buffers.specs.Plain.{isListQuestion, plainRules}
+use Rattle.merge.specs.Turns.{structRule, nestedOf, listRule, mapRule, IsWrapper, bothWrapped, rewrapped, eitherWrapped, resolved, unwrapped}
+use Rattle.buffers.specs.Typed.{Chain, Typed, Merges}
+use Rattle.merge.specs.Merge.{Under}
+use Rattle.buffers.specs.declared.Space.{Space}
+use Rattle.buffers.specs.declared.Spot.{Spot}
+use Rattle.buffers.specs.declared.Goal.{Goal}
+use Rattle.buffers.specs.declared.Out.{Out}
+use Rattle.buffers.specs.declared.Out.the-variants.{Done, No, Full}
+use Rattle.buffers.specs.declared.Feed.the-variants as Feed
+use Rattle.buffers.proofs.Frames.{kept-trans}
+use Rattle.buffers.proofs.Chained.{room-kept, labels-sum}
+use Rattle.buffers.proofs.Laying.{named-kept}
 use Rattle.merge.proofs.Merging.{typed-side, chain-first, typed-same, side-twice, means-for, merges-as, merges-swapped, merges-left, merges-right, merges-none}
-use Rattle.merge.proofs.Rows.{chain-typed, chain-next}
-use Rattle.merge.proofs.Fielding.{typed-reads}
+use Rattle.buffers.proofs.Rows.{chain-typed, chain-next}
+use Rattle.buffers.proofs.Fielding.{typed-reads}
 
 -- the test of two tests, by what each is
 pub and-are : {a b p q r : Bool} → p ≡ a → q ≡ b → r ≡ (p && q) → (a && b) ≡ r

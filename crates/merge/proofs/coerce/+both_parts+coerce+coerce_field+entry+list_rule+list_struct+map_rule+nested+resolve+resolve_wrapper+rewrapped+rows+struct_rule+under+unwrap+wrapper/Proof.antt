@@ -3,12 +3,12 @@ use borrow.Author.Needs.{needs}
 use Prim.Native.Nat.{_+_, _*_, _-_, _≤_}
 use mathlib.Core.Path.{_≡_, refl, sym, _∙_, ap}
 use borrow.Author.Tests.{not-true, not-false}
-use Rattle.merge.proofs.Chained.{room-kept}
-use Rattle.merge.proofs.Fielding.{field-ready}
+use Rattle.buffers.proofs.Chained.{room-kept}
+use Rattle.buffers.proofs.Fielding.{field-ready}
 use Rattle.merge.proofs.Joining.{rows-end, rows-spent, rows-unfed, rows-crowded, rows-none, rows-full, rows-rest-none, rows-rest-full, rows-done}
 use Rattle.merge.proofs.Asking.{coerce-spent, coerce-same, coerce-list, coerce-pair}
 use Rattle.merge.proofs.Merging.{merges-full}
-use Rattle.merge.proofs.Tying.{tied-kept}
+use Rattle.buffers.proofs.Tying.{tied-kept}
 use Rattle.merge.proofs.Rewrapping.{index-none, index-full, value-none, value-full, wrapper-on}
 use Rattle.merge.proofs.Parents.{under-full, under-on, head-crowded, both-on, field-crowded, field-merged, map-left-end, map-right-end, map-on, after-passes}
 use mathlib.Core.Logic.{inl, inr}
@@ -68,35 +68,31 @@ use Rattle.merge.proofs.coerce.+both_parts+coerce+coerce_field+entry+li
 use Rattle.coercion.proofs.tests.both.Reads as both-reads
 use Rattle.coercion.proofs.tests.either.Reads as either-reads
 use Rattle.coercion.proofs.tests.is_list.Reads as is-list-reads
-use Rattle.merge.proofs.alike.same_sides.Reads as same-sides-reads
-use Rattle.merge.proofs.copy.copy_head.Reads as copy-head-reads
-use Rattle.merge.proofs.copy.is_nullable.Reads as is-nullable-reads
-use Rattle.merge.proofs.field.copy_field.Reads as copy-field-reads
-use Rattle.merge.proofs.field.first_link.Reads as first-link-reads
-use Rattle.merge.proofs.field.keep_wrapper.Reads as keep-wrapper-reads
-use Rattle.merge.proofs.field.name_field.Reads as name-field-reads
-use Rattle.merge.proofs.field.next_link.Reads as next-link-reads
-use Rattle.merge.proofs.field.row_end.Reads as row-end-reads
-use Rattle.merge.proofs.lay.copy_type.Reads as copy-type-reads
-use Rattle.merge.proofs.lay.lay.Reads as lay-reads
-use Rattle.merge.proofs.lay.tie.Reads as tie-reads
-use Rattle.merge.proofs.names.have_same_names.Reads as have-same-names-reads
-use Rattle.merge.proofs.names.row.Reads as row-reads
-use Rattle.merge.proofs.names.same_arity.Reads as same-arity-reads
-use Rattle.merge.proofs.plain.is_list_question.Reads as is-list-question-reads
-use Rattle.merge.proofs.plain.list_kind.Reads as list-kind-reads
-use Rattle.merge.proofs.plain.list_size.Reads as list-size-reads
-use Rattle.merge.proofs.plain.plain.Reads as plain-reads
-use Rattle.merge.proofs.stamp.lay_step.Reads as lay-step-reads
-use Rattle.merge.proofs.write.kind_at.Reads as kind-at-reads
-use Rattle.merge.proofs.write.look.Reads as look-reads
-use Rattle.merge.proofs.write.value_at.Reads as value-at-reads
-use Rattle.merge.proofs.coerce.+both_parts+coerce+coerce_field+entry+list_rule+list_struct+map_rule+nested+resolve+resolve_wrapper+rewrapped+rows+struct_rule+under+unwrap+wrapper.{
-  statement,
-}
-use Rattle.merge.proofs.coerce.+both_parts+coerce+coerce_field+entry+list_rule+list_struct+map_rule+nested+resolve+resolve_wrapper+rewrapped+rows+struct_rule+under+unwrap+wrapper.Tie.{
-  close,
-}
+use Rattle.buffers.proofs.alike.same_sides.Reads as same-sides-reads
+use Rattle.buffers.proofs.copy.copy_head.Reads as copy-head-reads
+use Rattle.buffers.proofs.copy.is_nullable.Reads as is-nullable-reads
+use Rattle.buffers.proofs.field.copy_field.Reads as copy-field-reads
+use Rattle.buffers.proofs.field.first_link.Reads as first-link-reads
+use Rattle.buffers.proofs.field.keep_wrapper.Reads as keep-wrapper-reads
+use Rattle.buffers.proofs.field.name_field.Reads as name-field-reads
+use Rattle.buffers.proofs.field.next_link.Reads as next-link-reads
+use Rattle.buffers.proofs.field.row_end.Reads as row-end-reads
+use Rattle.buffers.proofs.lay.copy_type.Reads as copy-type-reads
+use Rattle.buffers.proofs.lay.lay.Reads as lay-reads
+use Rattle.buffers.proofs.lay.tie.Reads as tie-reads
+use Rattle.buffers.proofs.names.have_same_names.Reads as have-same-names-reads
+use Rattle.buffers.proofs.names.row.Reads as row-reads
+use Rattle.buffers.proofs.names.same_arity.Reads as same-arity-reads
+use Rattle.buffers.proofs.plain.is_list_question.Reads as is-list-question-reads
+use Rattle.buffers.proofs.plain.list_kind.Reads as list-kind-reads
+use Rattle.buffers.proofs.plain.list_size.Reads as list-size-reads
+use Rattle.buffers.proofs.plain.plain.Reads as plain-reads
+use Rattle.buffers.proofs.stamp.lay_step.Reads as lay-step-reads
+use Rattle.buffers.proofs.write.kind_at.Reads as kind-at-reads
+use Rattle.buffers.proofs.write.look.Reads as look-reads
+use Rattle.buffers.proofs.write.value_at.Reads as value-at-reads
+use Rattle.merge.proofs.coerce.+both_parts+coerce+coerce_field+entry+list_rule+list_struct+map_rule+nested+resolve+resolve_wrapper+rewrapped+rows+struct_rule+under+unwrap+wrapper.{statement}
+use Rattle.merge.proofs.coerce.+both_parts+coerce+coerce_field+entry+list_rule+list_struct+map_rule+nested+resolve+resolve_wrapper+rewrapped+rows+struct_rule+under+unwrap+wrapper.Tie.{close}
 
 abbrev μ-both-parts : Measures 2 both-parts-kinds.ps ℕ
 μ-both-parts κs a =

@@ -1,0 +1,13 @@
+pub mod Sources
+pub mod Sameness
+pub mod Puts
+pub mod Frames
+pub mod Copying
+pub mod Chained
+pub mod Laying
+pub mod Tying
+pub mod Fielding
+pub mod Stamping
+pub mod Naming
+pub mod Rows
+pub mod Steps

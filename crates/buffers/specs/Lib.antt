@@ -1,0 +1,9 @@
+pub mod Source
+pub mod Writes
+pub mod Region
+pub mod Goal
+pub mod Typed
+pub mod Feeds
+pub mod Naming
+pub mod Plain
+pub mod Steps

@@ -1,0 +1,40 @@
+-- The search for a name in a chain, and the rows that it feeds.
+use mathlib.Core.Path.{_≡_}
+use Prim.Native.Nat.{ℕ, _<_}
+use mathlib.Core.Bool.{Bool, true, false, _||_}
+use mathlib.Core.List.{List}
+use mathlib.Core.Option.{none, some}
+use Rattle.sheet.specs.Types.{Shape, Fields, field}
+use Rattle.sheet.specs.Head.{nullableIn}
+use Rattle.sheet.specs.Names.{hasName}
+use Rattle.sheet.specs.declared.Head.{Head}
+use Rattle.coercion.specs.Nested.{withName}
+use Rattle.buffers.specs.Region.{Held}
+use Rattle.buffers.specs.Typed.{Chain}
+use Rattle.buffers.specs.declared.Space.{Space}
+use Rattle.buffers.specs.declared.Row.{Row}
+
+-- no field of a chain has a name
+pub record Missing (name : List ℕ) (t : Fields) : Type 0 where
+  pub has : hasName name t ≡ false
+  pub takes : (more : Fields) → withName name t more ≡ none
+
+-- the field at a link is the first of a chain that has a name
+pub record Present (space : Space) (s : List ℕ) (link : ℕ) (name : List ℕ) (t : Fields) : Type 0 where
+  pub label : List ℕ
+  pub nullable : Bool
+  pub shape : Shape
+  pub parts : Fields
+  pub rest : Fields
+  pub chain : Chain space s link (field label nullable shape parts rest)
+  pub has : hasName name t ≡ true
+  pub takes : (more : Fields) → withName name t more ≡ some (field label nullable shape parts more)
+
+-- what a search for a name says of whatever chain stands at a link: the link of the first field of that name, or 0
+pub record Finds (space : Space) (s : List ℕ) (name : List ℕ) (floor link found : ℕ) : Type 0 where
+  pub missing : found ≡ 0 → (r o up : ℕ) (t : Fields) → Held space s floor link r o up t → Missing name t
+  pub present : 0 < found → (r o up : ℕ) (t : Fields) → Held space s floor link r o up t → Present space s found name t
+
+-- the row of a field whose nullability is that of two heads
+abbrev pub rowOf : ℕ → Head → Head → ℕ → Row
+rowOf partner a b next = record { partner = partner; nullable = nullableIn a || nullableIn b; next = next }

@@ -1,0 +1,105 @@
+// Writing heads and labels into the work space.
+ghost use mathlib.Core.Path.{_≡_};
+ghost use mathlib.Core.Bool.{Bool, not};
+ghost use Prim.Native.Nat.{_+_, _*_, _≤_, _<_};
+ghost use lib.ListN.{length, take, drop};
+ghost use Rattle.sheet.specs.Head.{headAt, bytesOf};
+ghost use Rattle.sheet.specs.Bounds.{Bounded, Filled};
+ghost use Rattle.buffers.specs.Writes.{side, Put};
+use sheet::Head;
+use sheet::label::fill;
+use sheet::record::head_at;
+
+// The head of record r of a side.
+pub fn look(sheet: &[u8], work: &[u8], swap: bool, r: usize) -> Head
+    ensures { λ h. ⌜ (h ≡ headAt (side swap (now (sheet .entry)) (now (work .entry))) r) × Bounded h ⌝ }
+{
+    if swap {
+        head_at(work, r)
+    } else {
+        head_at(sheet, r)
+    }
+}
+
+// The kind of record r of a side.
+pub fn kind_at(sheet: &[u8], work: &[u8], swap: bool, r: usize) -> u8
+    ensures { λ k. ⌜ k ≡ headAt (side swap (now (sheet .entry)) (now (work .entry))) r .kind ⌝ }
+{
+    look(sheet, work, swap, r).kind
+}
+
+// The record of the second part of record r of a side.
+pub fn value_at(sheet: &[u8], work: &[u8], swap: bool, r: usize) -> usize
+    ensures { λ v. ⌜ v ≡ headAt (side swap (now (sheet .entry)) (now (work .entry))) (headAt (side swap (now (sheet .entry)) (now (work .entry))) r .first) .next ⌝ }
+{
+    let first = look(sheet, work, swap, r).first;
+    look(sheet, work, swap, first).next
+}
+
+// Puts bytes into a buffer, from at on.
+pub(crate) fn put(work: &mut [u8], at: usize, bytes: &[u8])
+    requires { ⌜ at + length (now bytes) ≤ length (now work) ⌝ }
+    ensures { λ _. ⌜ Put (now (work .entry)) (now (work .exit)) at (now (bytes .entry)) ⌝ }
+{
+    bytes::copy(bytes, &mut work[at..]);
+}
+
+// Puts the sixteen bytes of a head into a buffer.
+pub(crate) fn put_head(work: &mut [u8], at: usize, h: Head)
+    requires { ⌜ (at + 16 ≤ length (now work)) × Bounded h ⌝ }
+    ensures { λ _. ⌜ Put (now (work .entry)) (now (work .exit)) at (bytesOf h) ⌝ }
+{
+    let quad = h.quad;
+    let first = h.first;
+    let next = h.next;
+    let name = h.name;
+    let nlen = h.nlen;
+    let bytes = [
+        h.kind,
+        h.flags,
+        h.figure,
+        h.scale,
+        (quad % 256) as u8,
+        (quad / 256 % 256) as u8,
+        (quad / 65536 % 256) as u8,
+        (quad / 16777216) as u8,
+        (first % 256) as u8,
+        (first / 256) as u8,
+        (next % 256) as u8,
+        (next / 256) as u8,
+        (name % 256) as u8,
+        (name / 256) as u8,
+        nlen as u8,
+        h.last,
+    ];
+    put(work, at, &bytes)
+}
+
+// Fills a buffer with a label of a side, and says how many bytes it has.
+fn fetch(sheet: &[u8], work: &[u8], swap: bool, from: usize, len: usize, buf: &mut [u8]) -> usize
+    requires { ⌜ len ≤ length (now buf) ⌝ }
+    ensures { λ r. ⌜ Filled (take len (drop from (side swap (now (sheet .entry)) (now (work .entry))))) (now (buf .entry)) (now (buf .exit)) r ⌝ }
+{
+    if swap {
+        fill(work, from, len, buf)
+    } else {
+        fill(sheet, from, len, buf)
+    }
+}
+
+// Puts a label of a side into the work space, by way of an array of its own.
+pub(crate) fn put_label(
+    sheet: &[u8],
+    work: &mut [u8],
+    swap: bool,
+    from: usize,
+    len: usize,
+    at: usize,
+)
+    requires { ⌜ (len ≤ 255) × (at + len ≤ length (now work)) ⌝ }
+    ensures { λ _. ⌜ Put (now (work .entry)) (now (work .exit)) at (take len (drop from (side swap (now (sheet .entry)) (now (work .entry))))) ⌝ }
+{
+    let mut buf = [0u8; 255];
+    let k = fetch(sheet, &*work, swap, from, len, &mut buf);
+    put(work, at, &buf[..k])
+}
