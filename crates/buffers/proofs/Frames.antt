@@ -25,9 +25,21 @@ span-frame v [] l f a = span-nil
 span-frame {w} v {i} (b ∷ bs) l f a =
     at-span v i (b ∷ bs) (omega (arith, span-inside (omega arith) a)) (λ j q. f (i + j) (omega arith) (omega arith) ∙ span-at j q a)
 
-pub head-frame : (w v : List ℕ) (r : ℕ) → length v ≡ length w → Agree w v (16 * r) (16 * r + 16) → headAt v r ≡ headAt w r
-unfolding headAt
-head-frame w v r l f = ap (λ (k : ℕ). cond (ltb r (k / 16)) (headFrom v (16 * r)) blank) l ∙ ap (λ (h : Head). cond (ltb r (length w / 16)) h blank) same
+pub head-bytes : (w v : List ℕ) (r : ℕ) → Agree w v (16 * r) (16 * r + 16) → headFrom v (16 * r) ≡ headFrom w (16 * r)
+head-bytes w v r f =
+    λ i.
+    record {
+      kind = first i;
+      flags = at 1 (omega arith) i;
+      figure = at 2 (omega arith) i;
+      scale = at 3 (omega arith) i;
+      quad = ap₂ (λ (a b : ℕ). a + 65536 * b) (word 4 (omega arith)) high i;
+      first = word 8 (omega arith) i;
+      next = word 10 (omega arith) i;
+      name = word 12 (omega arith) i;
+      nlen = at 14 (omega arith) i;
+      last = at 15 (omega arith) i;
+    }
   where
     at : (k : ℕ) → k < 16 → getD v (16 * r + k) 0 ≡ getD w (16 * r + k) 0
     at k q = f (16 * r + k) (omega arith) (omega arith)
@@ -44,21 +56,10 @@ head-frame w v r l f = ap (λ (k : ℕ). cond (ltb r (k / 16)) (headFrom v (16 *
     high : getD v (16 * r + 4 + 2) 0 + 256 * getD v (16 * r + 4 + 2 + 1) 0 ≡ getD w (16 * r + 4 + 2) 0 + 256 * getD w (16 * r + 4 + 2 + 1) 0
     high = ap₂ (λ (a b : ℕ). a + 256 * b) (f (16 * r + 4 + 2) (omega arith) (omega arith)) (f (16 * r + 4 + 2 + 1) (omega arith) (omega arith))
 
-    same : headFrom v (16 * r) ≡ headFrom w (16 * r)
-    same =
-        λ i.
-        record {
-          kind = first i;
-          flags = at 1 (omega arith) i;
-          figure = at 2 (omega arith) i;
-          scale = at 3 (omega arith) i;
-          quad = ap₂ (λ (a b : ℕ). a + 65536 * b) (word 4 (omega arith)) high i;
-          first = word 8 (omega arith) i;
-          next = word 10 (omega arith) i;
-          name = word 12 (omega arith) i;
-          nlen = at 14 (omega arith) i;
-          last = at 15 (omega arith) i;
-        }
+pub head-frame : (w v : List ℕ) (r : ℕ) → length v ≡ length w → Agree w v (16 * r) (16 * r + 16) → headAt v r ≡ headAt w r
+unfolding headAt
+head-frame w v r l f =
+    ap (λ (k : ℕ). cond (ltb r (k / 16)) (headFrom v (16 * r)) blank) l ∙ ap (λ (h : Head). cond (ltb r (length w / 16)) h blank) (head-bytes w v r f)
 
 -- a chain stands where its records and its labels are the same
 pub holds-frame : (w v : List ℕ) (n r o : ℕ) (t : Fields) → length v ≡ length w → Agree w v (16 * r) (16 * (r + count t)) → Agree w v (16 * n + o) (16 * n + (o + length (labels t)))

@@ -81,21 +81,6 @@ time-paired list l r h = never (sym h)
 time-paired union l r h = refl
 time-paired compare l r h = refl
 
--- two lists' common list
-pub list-shape : (x y : Head) (l r : DataType) → Reads x l → Reads y r → isList (l .shape .kind) ≡ true → isList (r .shape .kind) ≡ true
-    → listShape (l .shape) (r .shape) ≡ shapeFor (listKind x y) 0 0 (listSize x y) false
-list-shape x y l r p q e f =
-    rw (p .kind, q .kind, p .size (no-zone 32 34 p (omega arith) e), q .size (no-zone 32 34 q (omega arith) f))
-    (go (eqb (x .kind) 34 && eqb (y .kind) 34) (eqb (x .quad) (y .quad)) (eqb (x .kind) 33 || eqb (y .kind) 33) (y .quad))
-  where
-    go : (a s b : Bool) (n : ℕ)
-        → cond a (cond s (shapeFor 34 0 0 n false) (shapeOfKind 32)) (cond b (shapeOfKind 33) (shapeOfKind 32))
-        ≡ shapeFor (cond a (cond s 34 32) (cond b 33 32)) 0 0 (cond a (cond s n 0) 0) false
-    go true true b n = refl
-    go true false b n = refl
-    go false s true n = refl
-    go false s false n = refl
-
 -- a rule before others
 pub before-others : {o a b x y : Option DataType} → o ≡ orElse a b → a ≡ x → b ≡ y → o ≡ orElse x y
 before-others e f g = e ∙ ap₂ orElse f g

@@ -87,15 +87,6 @@ labels-none : length (labels end) ≡ 0
 unfolding labels
 labels-none = refl
 
--- the same meaning, for more room
-pub chain-for : (space : Space) (v : List ℕ) (to : Spot) {z y : ℕ} (z′ y′ : ℕ) (o : Out) {m m′ : Option Fields} → z ≤ z′ → y ≤ y′ → m ≡ m′ → ChainIs space v to z y o m
-    → ChainIs space v to z′ y′ o m′
-chain-for space v to z′ y′ (Done d) {m = none} p q e a = absurd a
-chain-for space v to z′ y′ (Done d) {m = some t} p q e a = subst (ChainIs space v to z′ y′ (Done d)) e a
-chain-for space v to z′ y′ No {m = none} p q e a = subst (ChainIs space v to z′ y′ No) e tt
-chain-for space v to z′ y′ No {m = some t} p q e a = absurd a
-chain-for space v to z′ y′ Full p q e a = ⊎-elim (λ h. inl (omega arith)) (λ h. inr (omega arith)) a
-
 module _ (c : DataType → DataType → Option DataType) (space : Space) (left : ℕ) (swap : Bool) (s w : List ℕ) (feed : Feed) (l r p : ℕ) (to : Spot) where
   pub rows-end : (o : Out) → Inside space to → l ≡ 0 → o ≡ cond (eqb p 0) (Done to) No → Rowed c space left swap s w w feed l r p to o
   unfolding count labels

@@ -32,6 +32,8 @@ use Rattle.buffers.proofs.Frames.{kept-self}
 use Rattle.buffers.proofs.Copying.{held-side}
 use Rattle.buffers.proofs.Chained.{held-first}
 use Rattle.buffers.proofs.Laying.{no-record}
+use Rattle.buffers.proofs.Fielding.{typed-reads}
+use Rattle.buffers.proofs.Stamping.{means-more}
 
 -- what a source holds stays while the second half is written
 pub chain-side : (swap : Bool) (space : Space) (s w v : List ℕ) (at label : ℕ) {link : ℕ} {t : Fields} → Room w space → Kept space w v at label → Chain space (side swap s w) link t
@@ -51,9 +53,7 @@ module _ {space : Space} {s : List ℕ} {link : ℕ} {name : List ℕ} {nullable
 
 -- the kind of a type
 pub typed-kind : {space : Space} {s : List ℕ} {link : ℕ} {t : DataType} (h : Head) → h ≡ headAt s link → Typed space s link t → h .kind ≡ t .shape .kind
-typed-kind {space} {s} {link} {t} h e a =
-    let c = a .chain in
-    ap (λ (x : Head). x .kind) (head-is s (space .n) (c .floor) link (c .at) (c .label) (a .name) (a .nullable) (t .shape) (t .parts) (a .rest) (c .held .source .leads) h e)
+typed-kind h e a = sym (typed-reads a e .kind)
 
 -- two types that were compared
 pub typed-same : {space : Space} {s t : List ℕ} {i j : ℕ} (named : Bool) {e : Bool} {x y : DataType} → SameTypes s (space .n) i t (space .n) j named e → Typed space s i x → Typed space t j y
@@ -69,11 +69,7 @@ side-twice false s w = refl
 -- the same meaning, for more room
 pub means-for : (space : Space) (w v : List ℕ) (g : Goal) {z y : ℕ} (z′ y′ : ℕ) (o : Out) {m m′ : Option DataType} → z ≤ z′ → y ≤ y′ → m ≡ m′ → Means space w v g z y o m
     → Means space w v g z′ y′ o m′
-means-for space w v g z′ y′ (Done d) {m = none} p q e a = absurd a
-means-for space w v g z′ y′ (Done d) {m = some t} p q e a = subst (Means space w v g z′ y′ (Done d)) e a
-means-for space w v g z′ y′ No {m = none} p q e a = subst (Means space w v g z′ y′ No) e tt
-means-for space w v g z′ y′ No {m = some t} p q e a = absurd a
-means-for space w v g z′ y′ Full p q e a = ⊎-elim (λ h. inl (omega arith)) (λ h. inr (omega arith)) a
+means-for space w v g {z} {y} z′ y′ o {m} p q e a = subst (Means space w v g z′ y′ o) e (means-more space w v g z y z′ y′ o m p q a)
 
 module _ {A : DataType → DataType → Option DataType} (B : DataType → DataType → Option DataType) (space : Space) (swap : Bool) (s w v : List ℕ) (l r : ℕ) (g : Goal) (o : Out) where
   -- a rule that says the same of the types at hand
@@ -141,11 +137,11 @@ pub chain-some : {space : Space} {s : List ℕ} {link : ℕ} {name : List ℕ} {
 chain-some a = omega (arith, a .held .source .leads .is, a .held .source .leads .above)
 
 -- names within a type differ
-type-differ : {space : Space} {s : List ℕ} {link : ℕ} (t : DataType) → Typed space s link t → namesDiffer (single t) ≡ true
+pub type-differ : {space : Space} {s : List ℕ} {link : ℕ} (t : DataType) → Typed space s link t → namesDiffer (single t) ≡ true
 unfolding namesDiffer
 type-differ t a = let d = a .chain .held .differ in all-cons _ (all-at _ 0 d) (all-cons _ (all-at _ 1 d) (all-cons _ refl all-nil))
 
-single-letters : (t : DataType) → length (labels (single t)) ≡ letters t
+pub single-letters : (t : DataType) → length (labels (single t)) ≡ letters t
 unfolding labels
 single-letters t = length-append (zoneBytes (t .shape .zone)) (labels (t .parts) ++ []) ∙ ap (λ (k : ℕ). length (zoneBytes (t .shape .zone)) + k) (length-append (labels (t .parts)) [] ∙ omega arith)
 
