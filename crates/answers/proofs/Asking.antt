@@ -1,7 +1,7 @@
 -- What demand 3 asks for can be had: every list of at most 1,023 types of a family can be asked, under every mask that 6 lets pass and over every output
 -- and work space that 8 lets pass; and so can each stretch of each cutting of it, and the list of their answers. Assumes nothing.
 use mathlib.Core.Path.{_≡_, refl, ap, ap₂, sym, subst, _∙_}
-use mathlib.Core.Bool.{Bool, true, false, cond, not, _&&_}
+use mathlib.Core.Bool.{Bool, true, false, not, _&&_}
 use mathlib.Core.List.{List, [], _∷_, _++_, map, flatten}
 use Prim.Native.Nat.{ℕ, zero, suc, _+_, _*_, _<_, _≤_}
 use native.Mathlib.Omega.{arith}
@@ -26,9 +26,10 @@ use Rattle.coercion.specs.Families.{Family, AllIn, SomeIn}
 use Rattle.coercion.proofs.Joins.{all, in-front, in-back, in-cut}
 use Rattle.coercion.proofs.Commons.{Settled, settled}
 use Rattle.coercion.proofs.Fitting.{Fits, in-fits}
-use Rattle.answers.specs.Call.{Call, badMask, badPair, badSpace, refusal}
+use Rattle.answers.specs.Call.{Call, badMask, badPair, refusal}
 use Rattle.answers.proofs.Demanded.{full-rest, stretch-answers}
 use Rattle.answers.specs.Demand.{Asks, Calls, call, NonEmpty}
+use Rattle.answers.proofs.Refusing.{accepted-refusal}
 
 -- listed types as a chain
 abbrev pub listed : List DataType → Fields
@@ -159,22 +160,12 @@ chain-bytes gs a h =
     (omega arith, (omega arith, (omega arith, (omega arith, (z, (z, (z, (z, (z, (z, (z, (z, (z, (z, (z, (z, tt))))))))))))))))
     (bytes-append (records 1 0 (chain gs)) (labels (chain gs)) (records-bytes 1 0 gs a (omega arith)) (subst Bytes (sym (chain-labels gs)) tt))
 
--- a condition that is not met leaves the others
-pass : (b : Bool) (n x y z : ℕ) → cond b (suc n) x ≡ 0 → (x ≡ 0 → y ≡ z) → cond b (suc n) y ≡ z
-pass true n x y z h f = absurd (omega arith)
-pass false n x y z h f = f h
-
 -- a sheet that is accepted, a good mask, a list question and space
 unrefused : (c : Call) → c .question ≡ list → Sheet.refusal (c .sheet) ≡ 0 → badMask (c .mask) ≡ false
     → length (c .sheet) ≤ length (c .output) → 2 * length (c .sheet) ≤ length (c .work) → refusal c ≡ 0
-unfolding refusal Sheet.refusal badPair badSpace
+unfolding badPair
 unrefused c q h m o w =
-    pass (Sheet.torn (c .sheet)) 0 _ _ _ h (λ h.
-    pass (Sheet.badKind (c .sheet)) 1 _ _ _ h (λ h.
-    pass (Sheet.badChain (c .sheet)) 2 _ _ _ h (λ h.
-    pass (Sheet.badFigure (c .sheet)) 3 _ _ _ h (λ h.
-    pass (Sheet.badLabel (c .sheet)) 4 _ _ _ h (λ h.
-    rw m (rw q (rw (le-ltb (length (c .output)) (length (c .sheet)) o) (rw (le-ltb (length (c .work)) (2 * length (c .sheet)) w) refl))))))))
+    accepted-refusal c h ∙ rw (m, q, le-ltb (length (c .output)) (length (c .sheet)) o, le-ltb (length (c .work)) (2 * length (c .sheet)) w)
 
 -- a call on a list of types, with the mask and the buffers that are wanted
 pub record Asked (ts : List DataType) (mask : ℕ) (output work : List ℕ) : Type 0 where

@@ -1,0 +1,398 @@
+-- A candidate that is folded with listed types. Assumes nothing.
+use mathlib.Core.Path.{_≡_, refl, ap, sym, subst, _∙_}
+use mathlib.Core.Bool.{Bool, true, false, cond}
+use mathlib.Core.List.{List, [], _∷_}
+use mathlib.Core.Logic.{⊎-elim}
+use mathlib.Core.Option.{Option, none, some}
+use Prim.Native.Nat.{ℕ, _+_, _*_, _<_, _≤_}
+use native.Mathlib.Omega.{arith}
+use borrow.Author.Tests.{eq-eqb, ne-eqb}
+use lib.ListN.{length, length-append}
+use Rattle.sheet.specs.Types.{Shape, Fields, end, field, count, zoneBytes, labels}
+use Rattle.sheet.specs.Kind.{namesParts}
+use Rattle.sheet.specs.Tests.{between}
+use Rattle.sheet.specs.Carried.{FieldRight}
+use Rattle.sheet.specs.Head.{headAt}
+use Rattle.sheet.specs.declared.Head.{Head}
+use Rattle.sheet.proofs.Spans.{span-nil}
+use Rattle.coercion.specs.Data.{DataType, Rules, size, single, typesOf, andThen}
+use Rattle.coercion.specs.Answers.{coercion, foldFrom, foldTypes, typeUnionResolution, pairAnswer, allEqual, hasCategory, categoriesIn, notSupported}
+use Rattle.coercion.proofs.AnswersRight.{TypeRight, sound-right, coercion-right}
+use Rattle.coercion.proofs.PlainRight.{own-right}
+use Rattle.coercion.proofs.Shorter.{coercion-smaller, coercion-shorter}
+use Rattle.buffers.specs.Region.{Room, Kept, Inside, Passes, Wrote}
+use Rattle.buffers.specs.Goal.{letters, typeOf, Means}
+use Rattle.buffers.specs.Typed.{Chain, Typed, Merges, ChainIs, CopiedField}
+use Rattle.buffers.specs.declared.Space.{Space}
+use Rattle.buffers.specs.declared.Spot.{Spot}
+use Rattle.buffers.specs.declared.Goal.{Goal}
+use Rattle.buffers.specs.declared.Out.{Out}
+use Rattle.buffers.specs.declared.Out.the-variants.{Done, No, Full}
+use Rattle.buffers.proofs.Sources.{source-none, link-inside}
+use Rattle.buffers.proofs.Chained.{held-next, labels-sum}
+use Rattle.merge.proofs.Merging.{typed-kind, type-differ, single-letters}
+use Rattle.resolution.specs.Reached.{front, Listed, Fits, AnswerIs, Enclosed, Within, Reached, Candidate, Shifted, fitting, Steps, Folds}
+use Rattle.resolution.proofs.Shifting.{candidate-typed}
+
+-- the goal at the front
+abbrev pub foremost : Goal
+foremost = record { at = 1; label = 0; nlen = 0; nullable = false }
+
+-- where there is room, an answer at the front says which type there is
+answered : (space : Space) (w v : List ℕ) (z y : ℕ) (o : Out) (m : Option DataType) → z < space .n → y ≤ space .m → Means space w v foremost z y o m → AnswerIs space v o m
+answered space w v z y (Done d) none p q a = a
+answered space w v z y (Done d) (some t) p q a = a [] (record { long = refl; span = span-nil })
+answered space w v z y No none p q a = tt
+answered space w v z y No (some t) p q a = a
+answered space w v z y Full m p q a = ⊎-elim (λ h. omega arith) (λ h. omega arith) a
+
+enclosed : (space : Space) (o : Out) → Passes space foremost o → Enclosed space o
+enclosed space (Done d) a = a .0
+enclosed space No a = tt
+enclosed space Full a = tt
+
+-- the candidate was moved, then merged
+pub stepped : {A : DataType → DataType → Option DataType} (space : Space) {s w v u : List ℕ} {link : ℕ} {d : Spot} (o : Out) → Room w space → Inside space d → Shifted space w v d
+    → Merges A space (2 * space .n) false s v u link 1 foremost o → Steps A space s w u link d o
+stepped {A} space {w = w} {v} {u} {d = d} o room inside a m =
+    record {
+      within =
+          record {
+            long = m .writes .kept .long ∙ a .long;
+            above = λ j h. m .writes .kept .above j (omega (arith, room .half)) ∙ a .above j (omega arith);
+          };
+      inside = enclosed space o (m .writes .passes);
+      means =
+          λ x c t k h l.
+          answered space v u (size x + size c) (letters x + letters c) o (A x c) h l (m .means x c t (candidate-typed space w v d c room inside a k) (omega arith));
+    }
+
+within-self : {space : Space} (w : List ℕ) → Within space w w
+within-self w = record { long = refl; above = λ j h. refl }
+
+within-trans : {space : Space} {w v u : List ℕ} → Within space w v → Within space v u → Within space w u
+within-trans a b = record { long = b .long ∙ a .long; above = λ j h. b .above j h ∙ a .above j h }
+
+within-kept : {space : Space} {w v : List ℕ} {at label : ℕ} → Room w space → Kept space w v at label → Within space w v
+within-kept room k = record { long = k .long; above = λ j h. k .above j (omega (arith, room .half)) }
+
+pub room-within : {space : Space} {w v : List ℕ} → Within space w v → Room w space → Room v space
+room-within k r = record { half = r .half; few = r .few; short = r .short; inside = omega (arith, r .inside, k .long) }
+
+-- a type that stands somewhere is one that a list may have
+typed-right : {space : Space} {s : List ℕ} {link : ℕ} (t : DataType) → Typed space s link t → TypeRight t
+typed-right t a = let r = a .chain .held .source .right in (sound-right t (own-right (r .0), r .1 .0), type-differ t a)
+
+-- no type is listed at a link past the records
+unlisted : {space : Space} {s : List ℕ} {floor link : ℕ} (types : Fields) → floor < link → space .n ≤ link → Listed space s floor link types → ⊥
+unlisted end h g a = omega (arith, a .held .source .leads .is)
+unlisted (field name nullable shape parts rest) h g a = omega (arith, link-inside (a .held .source))
+
+-- a link past floor leads to a type
+some-listed : {space : Space} {s : List ℕ} {floor link : ℕ} → floor < link → Listed space s floor link end → ⊥
+some-listed h a = omega (arith, a .held .source .leads .is)
+
+plain-field : (name : List ℕ) (nullable : Bool) (shape : Shape) (parts : Fields) → FieldRight 0 name nullable shape parts
+    → field name nullable shape parts end ≡ field [] false shape parts end
+unfolding namesParts between
+plain-field [] false shape parts a = refl
+plain-field [] true shape parts a = let e = a .mayBeNull in let z : _≡_ {A = ℕ} 0 1 = cc in absurd (omega arith)
+plain-field (b ∷ bs) nullable shape parts a = let e = a .mayBeNamed in let z : _≡_ {A = ℕ} 0 1 = cc in absurd (omega arith)
+
+-- the first of some listed types, and those behind it
+module _ {space : Space} {s : List ℕ} {floor link : ℕ} {name : List ℕ} {nullable : Bool} {shape : Shape} {parts rest : Fields}
+    (a : Listed space s floor link (field name nullable shape parts rest)) where
+  listed-chain : Chain space s link (field name nullable shape parts rest)
+  listed-chain = record { floor = floor; at = a .at; label = a .label; up = 0; held = a .held }
+
+  listed-typed : Typed space s link (typeOf shape parts)
+  listed-typed = record { name = name; nullable = nullable; rest = rest; chain = listed-chain }
+
+  listed-plain : field name nullable shape parts end ≡ single (typeOf shape parts)
+  listed-plain = plain-field name nullable shape parts (a .held .source .right .0)
+
+  listed-next : (h : Head) → h ≡ headAt s link → Listed space s link (h .next) rest
+  listed-next h e = record { at = _; label = _; held = held-next (a .held) h e }
+
+module _ {space : Space} {records bytes : ℕ} (name : List ℕ) (nullable : Bool) (shape : Shape) (parts rest : Fields)
+    (f : Fits space records bytes (field name nullable shape parts rest)) where
+  fits-few : records + (size (typeOf shape parts) + count rest) < space .n
+  unfolding count
+  fits-few = omega (arith, f .few)
+
+  fits-short : bytes + (letters (typeOf shape parts) + length (labels rest)) ≤ space .m
+  fits-short = omega (arith, f .short, labels-sum name nullable shape parts rest, length-append name (zoneBytes (shape .zone)))
+
+  fits-rest : Fits space records bytes rest
+  fits-rest = record { few = omega (arith, fits-few); short = omega (arith, fits-short) }
+
+  fits-behind : Fits space (records + size (typeOf shape parts)) (bytes + letters (typeOf shape parts)) rest
+  fits-behind = record { few = omega (arith, fits-few); short = omega (arith, fits-short) }
+
+-- the common type of a listed type and a candidate is the next candidate
+module _ (rules : Rules) {space : Space} {s w : List ℕ} {link : ℕ} {d : Spot} {x c : DataType} (t : DataType) (a : Typed space s link x) (k : Candidate space w d c)
+    (q : coercion rules x c ≡ some t) where
+  next-candidate : {v : List ℕ} {e : Spot} → Wrote space v front e (single t) → Candidate space v e t
+  next-candidate b = let r = coercion-right rules x c t (typed-right x a) (k .right, k .differ) q in record { wrote = b; right = r .0; differ = r .1 }
+
+  next-fits : (rest : Fields) → size c + (size x + count rest) < space .n → letters c + (letters x + length (labels rest)) ≤ space .m → Fits space (size t) (letters t) rest
+  next-fits rest h g =
+      record {
+        few = omega (arith, coercion-smaller rules x c t (type-differ x a) (k .differ) q);
+        short = omega (arith, coercion-shorter rules x c t (type-differ x a) (k .differ) q, single-letters t, single-letters x, single-letters c);
+      }
+
+stops : (rules : Rules) (space : Space) (v : List ℕ) (ts : List DataType) (m : Option DataType) → AnswerIs space v No m → AnswerIs space v No (andThen m (λ t. foldFrom rules t ts))
+stops rules space v ts none a = tt
+stops rules space v ts (some t) a = absurd a
+
+module _ (rules : Rules) (space : Space) {s w : List ℕ} {floor link : ℕ} {d : Spot} where
+  -- no type is left
+  pub folds-end : link ≤ floor → Folds (foldFrom rules) space s w w floor link d (Done d)
+  unfolding foldFrom typesOf
+  folds-end h = record { within = within-self w; means = λ c types k a f. go c types k a }
+    where
+      go : (c : DataType) (types : Fields) → Candidate space w d c → Listed space s floor link types → AnswerIs space w (Done d) (foldFrom rules c (typesOf types))
+      go c types k a = subst (λ (t : Fields). AnswerIs space w (Done d) (foldFrom rules c (typesOf t))) (sym (source-none h (a .held .source))) (k .wrote)
+
+  -- a link that leads nowhere
+  pub folds-lost : floor < link → space .n ≤ link → Folds (foldFrom rules) space s w w floor link d No
+  folds-lost h g = record { within = within-self w; means = λ c types k a f. absurd (unlisted types h g a) }
+
+  module _ (past : floor < link) (h : Head) (e : h ≡ headAt s link) where
+    -- a Null is skipped
+    pub folds-null : {v : List ℕ} (o : Out) → h .kind ≡ 1 → Folds (foldFrom rules) space s w v link (h .next) d o → Folds (foldFrom rules) space s w v floor link d o
+    unfolding foldFrom typesOf
+    folds-null {v} o n m = record { within = m .within; means = go }
+      where
+        go : (c : DataType) (types : Fields) → Candidate space w d c → Listed space s floor link types → Fits space (size c) (letters c) types → AnswerIs space v o (foldFrom rules c (typesOf types))
+        go c end k a f = absurd (some-listed past a)
+        go c (field name nullable shape parts rest) k a f =
+            rw (eq-eqb (shape .kind) 1 (sym (typed-kind h e (listed-typed a)) ∙ n)) (m .means c rest k (listed-next a h e) (fits-rest name nullable shape parts rest f))
+
+    module _ {v : List ℕ} (n : h .kind ≡ 1 → ⊥) where
+      -- what a step says of the first type
+      first : {o : Out} → Steps (coercion rules) space s w v link d o → (c : DataType) (name : List ℕ) (nullable : Bool) (shape : Shape) (parts rest : Fields) → Candidate space w d c
+          → Listed space s floor link (field name nullable shape parts rest) → Fits space (size c) (letters c) (field name nullable shape parts rest) → AnswerIs space v o (coercion rules (typeOf shape parts) c)
+      first m c name nullable shape parts rest k a f =
+          m .means (typeOf shape parts) c (listed-typed a) k (omega (arith, fits-few name nullable shape parts rest f)) (omega (arith, fits-short name nullable shape parts rest f))
+
+      -- the candidate gives way to the next
+      pub folds-on : {u : List ℕ} {d′ : Spot} (o : Out) → Steps (coercion rules) space s w v link d (Done d′) → Folds (foldFrom rules) space s v u link (h .next) d′ o
+          → Folds (foldFrom rules) space s w u floor link d o
+      unfolding foldFrom typesOf
+      folds-on {u} {d′} o m g = record { within = within-trans (m .within) (g .within); means = go }
+        where
+          more : (c x : DataType) (rest : Fields) → Candidate space w d c → Typed space s link x → Listed space s link (h .next) rest → size c + (size x + count rest) < space .n
+              → letters c + (letters x + length (labels rest)) ≤ space .m → (r : Option DataType) → coercion rules x c ≡ r → AnswerIs space v (Done d′) r
+              → AnswerIs space u o (andThen r (λ t. foldFrom rules t (typesOf rest)))
+          more c x rest k a b p q none i z = absurd z
+          more c x rest k a b p q (some t) i z = g .means t rest (next-candidate rules t a k i z) b (next-fits rules t a k i rest p q)
+
+          go : (c : DataType) (types : Fields) → Candidate space w d c → Listed space s floor link types → Fits space (size c) (letters c) types → AnswerIs space u o (foldFrom rules c (typesOf types))
+          go c end k a f = absurd (some-listed past a)
+          go c (field name nullable shape parts rest) k a f =
+              rw (ne-eqb (shape .kind) 1 (λ q. n (typed-kind h e (listed-typed a) ∙ q)))
+              (more c (typeOf shape parts) rest k (listed-typed a) (listed-next a h e) (fits-few name nullable shape parts rest f) (fits-short name nullable shape parts rest f)
+              (coercion rules (typeOf shape parts) c) refl (first m c name nullable shape parts rest k a f))
+
+      -- there is no common type
+      pub folds-no : Steps (coercion rules) space s w v link d No → Folds (foldFrom rules) space s w v floor link d No
+      unfolding foldFrom typesOf
+      folds-no m = record { within = m .within; means = go }
+        where
+          go : (c : DataType) (types : Fields) → Candidate space w d c → Listed space s floor link types → Fits space (size c) (letters c) types → AnswerIs space v No (foldFrom rules c (typesOf types))
+          go c end k a f = absurd (some-listed past a)
+          go c (field name nullable shape parts rest) k a f =
+              rw (ne-eqb (shape .kind) 1 (λ q. n (typed-kind h e (listed-typed a) ∙ q)))
+              (stops rules space v (typesOf rest) (coercion rules (typeOf shape parts) c) (first m c name nullable shape parts rest k a f))
+
+      -- there is always room
+      pub folds-full : Steps (coercion rules) space s w v link d Full → Folds (foldFrom rules) space s w v floor link d No
+      folds-full m = record { within = m .within; means = go }
+        where
+          go : (c : DataType) (types : Fields) → Candidate space w d c → Listed space s floor link types → Fits space (size c) (letters c) types → AnswerIs space v No (foldFrom rules c (typesOf types))
+          go c end k a f = absurd (some-listed past a)
+          go c (field name nullable shape parts rest) k a f = absurd (first m c name nullable shape parts rest k a f)
+
+-- a listed type that was copied to the front
+module _ {space : Space} {s w v : List ℕ} {floor link : ℕ} where
+  copied : (o : Out) (name : List ℕ) (nullable : Bool) (shape : Shape) (parts rest : Fields) → CopiedField space s w v link front o
+      → Listed space s floor link (field name nullable shape parts rest) → Fits space 0 0 (field name nullable shape parts rest) → AnswerIs space v o (some (typeOf shape parts))
+  copied o name nullable shape parts rest m a f = go o (m .means name nullable shape parts rest (listed-chain a))
+    where
+      go : (o : Out) → ChainIs space v front (1 + count parts) (length name + letters (typeOf shape parts)) o (some (field name nullable shape parts end)) → AnswerIs space v o (some (typeOf shape parts))
+      go (Done d) c = subst (Wrote space v front d) (listed-plain a) c
+      go No c = c
+      go Full c =
+          ⊎-elim (λ h. omega (arith, fits-few name nullable shape parts rest f))
+          (λ h. omega (arith, f .short, labels-sum name nullable shape parts rest, length-append name (zoneBytes (shape .zone)))) c
+
+  copied-candidate : {d : Spot} (name : List ℕ) (nullable : Bool) (shape : Shape) (parts rest : Fields) → CopiedField space s w v link front (Done d)
+      → Listed space s floor link (field name nullable shape parts rest) → Fits space 0 0 (field name nullable shape parts rest) → Candidate space v d (typeOf shape parts)
+  copied-candidate {d} name nullable shape parts rest m a f =
+      let r = typed-right (typeOf shape parts) (listed-typed a) in record { wrote = copied (Done d) name nullable shape parts rest m a f; right = r .0; differ = r .1 }
+
+-- no answer, whatever is listed
+nothing-reached : {A : List DataType → Option DataType} (space : Space) {s w : List ℕ} {floor link : ℕ}
+    → ((types : Fields) → Listed space s floor link types → Fits space 0 0 types → none ≡ A (typesOf types)) → Reached A space s w w floor link No
+nothing-reached {A} space {w = w} f = record { within = within-self w; means = λ types a b. subst (AnswerIs space w No) (f types a b) tt }
+
+pub reached-empty : {A : List DataType → Option DataType} (space : Space) {s w : List ℕ} {floor link : ℕ} → none ≡ A [] → link ≤ floor → Reached A space s w w floor link No
+unfolding typesOf
+reached-empty {A} space e h = nothing-reached space (λ types a f. e ∙ ap (λ (t : Fields). A (typesOf t)) (sym (source-none h (a .held .source))))
+
+pub reached-lost : {A : List DataType → Option DataType} (space : Space) {s w : List ℕ} {floor link : ℕ} → floor < link → space .n ≤ link → Reached A space s w w floor link No
+reached-lost space h g = nothing-reached space (λ types a f. absurd (unlisted types h g a))
+
+module _ (rules : Rules) (space : Space) {s w : List ℕ} {floor link : ℕ} where
+  module _ (past : floor < link) (h : Head) (e : h ≡ headAt s link) where
+    pub types-null : {v : List ℕ} (o : Out) → h .kind ≡ 1 → Reached (foldTypes rules) space s w v link (h .next) o → Reached (foldTypes rules) space s w v floor link o
+    unfolding foldTypes typesOf
+    types-null {v} o n m = record { within = m .within; means = go }
+      where
+        go : (types : Fields) → Listed space s floor link types → Fits space 0 0 types → AnswerIs space v o (foldTypes rules (typesOf types))
+        go end a f = absurd (some-listed past a)
+        go (field name nullable shape parts rest) a f =
+            rw (eq-eqb (shape .kind) 1 (sym (typed-kind h e (listed-typed a)) ∙ n)) (m .means rest (listed-next a h e) (fits-rest name nullable shape parts rest f))
+
+    -- the first type that is not Null is the candidate
+    pub types-on : {v u : List ℕ} {d : Spot} (o : Out) → (h .kind ≡ 1 → ⊥) → Room w space → CopiedField space s w v link front (Done d)
+        → Folds (foldFrom rules) space s v u link (h .next) d o → Reached (foldTypes rules) space s w u floor link o
+    unfolding foldTypes typesOf
+    types-on {u = u} o n room m g = record { within = within-trans (within-kept room (m .kept)) (g .within); means = go }
+      where
+        go : (types : Fields) → Listed space s floor link types → Fits space 0 0 types → AnswerIs space u o (foldTypes rules (typesOf types))
+        go end a f = absurd (some-listed past a)
+        go (field name nullable shape parts rest) a f =
+            rw (ne-eqb (shape .kind) 1 (λ q. n (typed-kind h e (listed-typed a) ∙ q)))
+            (g .means (typeOf shape parts) rest (copied-candidate name nullable shape parts rest m a f) (listed-next a h e)
+            (record { few = omega (arith, fits-few name nullable shape parts rest f); short = omega (arith, fits-short name nullable shape parts rest f) }))
+
+abbrev Undone : Out → Type 0
+Undone (Done d) = ⊥
+Undone No = Unit
+Undone Full = Unit
+
+-- what is listed can be copied
+uncopied : {space : Space} {s w v : List ℕ} {floor link : ℕ} (o : Out) → Undone o → (name : List ℕ) (nullable : Bool) (shape : Shape) (parts rest : Fields) → CopiedField space s w v link front o
+    → Listed space s floor link (field name nullable shape parts rest) → Fits space 0 0 (field name nullable shape parts rest) → ⊥
+uncopied (Done d) n name nullable shape parts rest m a f = n
+uncopied No n name nullable shape parts rest m a f = copied No name nullable shape parts rest m a f
+uncopied Full n name nullable shape parts rest m a f = copied Full name nullable shape parts rest m a f
+
+pub types-lost : {A : List DataType → Option DataType} {space : Space} {s w v : List ℕ} {floor link : ℕ} (o : Out) → Undone o → floor < link → Room w space
+    → CopiedField space s w v link front o → Reached A space s w v floor link No
+types-lost {A} {space} {s} {v = v} {floor} {link} o n past room m = record { within = within-kept room (m .kept); means = go }
+  where
+    go : (types : Fields) → Listed space s floor link types → Fits space 0 0 types → AnswerIs space v No (A (typesOf types))
+    go end a f = absurd (some-listed past a)
+    go (field name nullable shape parts rest) a f = absurd (uncopied o n name nullable shape parts rest m a f)
+
+-- the one pair
+module _ (rules : Rules) (space : Space) {s w : List ℕ} {link : ℕ} (past : 0 < link) (h : Head) (e : h ≡ headAt s link) where
+  pub pair-one : h .next ≡ 0 → Reached (pairAnswer rules) space s w w 0 link No
+  unfolding typesOf
+  pair-one z = nothing-reached space go
+    where
+      go : (types : Fields) → Listed space s 0 link types → Fits space 0 0 types → none ≡ pairAnswer rules (typesOf types)
+      go end a f = absurd (some-listed past a)
+      go (field name nullable shape parts end) a f = refl
+      go (field name nullable shape parts (field name₂ nullable₂ shape₂ parts₂ rest)) a f =
+          absurd (omega (arith, listed-next a h e .held .source .leads .is, listed-next a h e .held .source .leads .above))
+
+  module _ (more : h .next ≡ 0 → ⊥) (h₂ : Head) (e₂ : h₂ ≡ headAt s (h .next)) where
+    pub pair-many : (h₂ .next ≡ 0 → ⊥) → Reached (pairAnswer rules) space s w w 0 link No
+    unfolding typesOf
+    pair-many z = nothing-reached space go
+      where
+        go : (types : Fields) → Listed space s 0 link types → Fits space 0 0 types → none ≡ pairAnswer rules (typesOf types)
+        go end a f = absurd (some-listed past a)
+        go (field name nullable shape parts end) a f = refl
+        go (field name nullable shape parts (field name₂ nullable₂ shape₂ parts₂ end)) a f = absurd (z (listed-next (listed-next a h e) h₂ e₂ .held .source .leads .is))
+        go (field name nullable shape parts (field name₂ nullable₂ shape₂ parts₂ (field name₃ nullable₃ shape₃ parts₃ rest))) a f = refl
+
+    module _ (last : h₂ .next ≡ 0) (room : Room w space) where
+      -- what is said of two types says all
+      of-two : (u : List ℕ) (o : Out) → ((name name₂ : List ℕ) (nullable nullable₂ : Bool) (shape shape₂ : Shape) (parts parts₂ : Fields)
+          → Listed space s 0 link (field name nullable shape parts (field name₂ nullable₂ shape₂ parts₂ end)) → Fits space 0 0 (field name nullable shape parts (field name₂ nullable₂ shape₂ parts₂ end))
+          → AnswerIs space u o (coercion rules (typeOf shape parts) (typeOf shape₂ parts₂)))
+          → (types : Fields) → Listed space s 0 link types → Fits space 0 0 types → AnswerIs space u o (pairAnswer rules (typesOf types))
+      unfolding typesOf
+      of-two u o k end a f = absurd (some-listed past a)
+      of-two u o k (field name nullable shape parts end) a f = absurd (more (listed-next a h e .held .source .leads .is))
+      of-two u o k (field name nullable shape parts (field name₂ nullable₂ shape₂ parts₂ end)) a f = k name name₂ nullable nullable₂ shape shape₂ parts parts₂ a f
+      of-two u o k (field name nullable shape parts (field name₂ nullable₂ shape₂ parts₂ (field name₃ nullable₃ shape₃ parts₃ rest))) a f =
+          let b = listed-next (listed-next a h e) h₂ e₂ .held .source .leads in absurd (omega (arith, b .is, b .above))
+
+      pub pair-on : {v : List ℕ} (u : List ℕ) {d : Spot} (o : Out) → CopiedField space s w v (h .next) front (Done d) → Steps (coercion rules) space s v u link d o → Reached (pairAnswer rules) space s w u 0 link o
+      unfolding count labels
+      pair-on u o m g =
+          record {
+            within = within-trans (within-kept room (m .kept)) (g .within);
+            means =
+                of-two u o
+                (λ name name₂ nullable nullable₂ shape shape₂ parts parts₂ a f.
+                let f₂ = fits-behind name nullable shape parts (field name₂ nullable₂ shape₂ parts₂ end) f in
+                g .means (typeOf shape parts) (typeOf shape₂ parts₂) (listed-typed a)
+                (copied-candidate name₂ nullable₂ shape₂ parts₂ end m (listed-next a h e) (fits-rest name nullable shape parts (field name₂ nullable₂ shape₂ parts₂ end) f))
+                (omega (arith, fits-few name₂ nullable₂ shape₂ parts₂ end f₂)) (omega (arith, fits-short name₂ nullable₂ shape₂ parts₂ end f₂)));
+          }
+
+      pub pair-lost : (v : List ℕ) (o : Out) → Undone o → CopiedField space s w v (h .next) front o → Reached (pairAnswer rules) space s w v 0 link No
+      pair-lost v o n m =
+          record {
+            within = within-kept room (m .kept);
+            means =
+                of-two v No
+                (λ name name₂ nullable nullable₂ shape shape₂ parts parts₂ a f.
+                absurd
+                (uncopied o n name₂ nullable₂ shape₂ parts₂ end m (listed-next a h e) (fits-rest name nullable shape parts (field name₂ nullable₂ shape₂ parts₂ end) f)));
+          }
+
+-- `type_union_resolution` by its two tests
+by-tests : (rules : Rules) (t : DataType) (ts : List DataType) (same fit : Bool) → same ≡ allEqual t ts → fit ≡ fitting (t ∷ ts)
+    → typeUnionResolution rules (t ∷ ts) ≡ cond same (some t) (cond fit (foldTypes rules (t ∷ ts)) none)
+unfolding typeUnionResolution
+by-tests rules t ts same fit p q =
+    ap (λ (b : Bool). cond b (some t) rest) (sym p)
+    ∙ ap (cond same (some t)) (tests (hasCategory notSupported (t ∷ ts)) (between 0 1 (categoriesIn (t ∷ ts))) ∙ ap (λ (b : Bool). cond b (foldTypes rules (t ∷ ts)) none) (sym q))
+  where
+    rest : Option DataType
+    rest = cond (hasCategory notSupported (t ∷ ts)) none (cond (between 0 1 (categoriesIn (t ∷ ts))) (foldTypes rules (t ∷ ts)) none)
+
+    tests : (a b : Bool) → cond a none (cond b (foldTypes rules (t ∷ ts)) none) ≡ cond (cond a false b) (foldTypes rules (t ∷ ts)) none
+    tests true b = refl
+    tests false b = refl
+
+module _ (rules : Rules) (space : Space) {s : List ℕ} {link : ℕ} (past : 0 < link) (h : Head) (e : h ≡ headAt s link) (same : Bool)
+    (compared : (t : DataType) (ts : Fields) → Typed space s link t → Listed space s link (h .next) ts → same ≡ allEqual t (typesOf ts)) where
+  -- all types are the same
+  pub union-same : {w v : List ℕ} (o : Out) → same ≡ true → Room w space → CopiedField space s w v link front o → Reached (typeUnionResolution rules) space s w v 0 link o
+  unfolding typesOf
+  union-same {v = v} o q room m = record { within = within-kept room (m .kept); means = go }
+    where
+      go : (types : Fields) → Listed space s 0 link types → Fits space 0 0 types → AnswerIs space v o (typeUnionResolution rules (typesOf types))
+      go end a f = absurd (some-listed past a)
+      go (field name nullable shape parts rest) a f =
+          let t = typeOf shape parts in
+          subst (AnswerIs space v o) (sym (by-tests rules t (typesOf rest) true (fitting (t ∷ typesOf rest)) (sym q ∙ compared t rest (listed-typed a) (listed-next a h e)) refl))
+          (copied o name nullable shape parts rest m a f)
+
+  module _ (differ : same ≡ false) (fit : Bool) (fits : (ts : Fields) → Listed space s 0 link ts → fit ≡ fitting (typesOf ts)) where
+    told : (types : Fields) → Listed space s 0 link types → typeUnionResolution rules (typesOf types) ≡ cond fit (foldTypes rules (typesOf types)) none
+    unfolding typesOf
+    told end a = absurd (some-listed past a)
+    told (field name nullable shape parts rest) a =
+        let t = typeOf shape parts in by-tests rules t (typesOf rest) false fit (sym differ ∙ compared t rest (listed-typed a) (listed-next a h e)) (fits _ a)
+
+    pub union-fold : {w v : List ℕ} (o : Out) → fit ≡ true → Reached (foldTypes rules) space s w v 0 link o → Reached (typeUnionResolution rules) space s w v 0 link o
+    union-fold {v = v} o q m =
+        record {
+          within = m .within;
+          means =
+              λ types a f. subst (AnswerIs space v o) (sym (told types a ∙ ap (λ (b : Bool). cond b (foldTypes rules (typesOf types)) none) q)) (m .means types a f);
+        }
+
+    pub union-none : {w : List ℕ} → fit ≡ false → Reached (typeUnionResolution rules) space s w w 0 link No
+    union-none q = nothing-reached space (λ types a f. sym (told types a ∙ ap (λ (b : Bool). cond b (foldTypes rules (typesOf types)) none) q))

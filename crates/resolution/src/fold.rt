@@ -1,0 +1,174 @@
+// The fold of a list, and the one pair of a union or a comparison.
+ghost use mathlib.Core.Path.{_≡_};
+ghost use Prim.Native.Nat.{ℕ, _+_, _<_, _≤_};
+ghost use Rattle.sheet.specs.Types.{Fields};
+ghost use Rattle.coercion.specs.Data.{DataType};
+ghost use Rattle.coercion.specs.Answers.{coercion, foldFrom, foldTypes, typeUnionResolution, pairAnswer};
+ghost use Rattle.buffers.specs.Region.{Room, Inside};
+ghost use Rattle.buffers.specs.Plain.{rulesOf};
+ghost use Rattle.resolution.specs.Reached.{Reached, Steps, Folds};
+use crate::list::all_equal;
+use crate::list::is_fitting;
+use crate::shift::shift;
+use buffers::Goal;
+use buffers::Out;
+use buffers::Question;
+use buffers::Space;
+use buffers::Spot;
+use buffers::field::copy_field;
+use merge::coerce::coerce;
+use sheet::record::head_at;
+
+// The common type of the type at a link and the candidate that ends at d; it takes the candidate's place.
+fn step(
+    sheet: &[u8],
+    work: &mut [u8],
+    space: Space,
+    question: Question,
+    mask: u64,
+    link: usize,
+    d: Spot,
+) -> Out
+    requires { ⌜ Room (now work) space × (Inside space d × (1 < space .n)) ⌝ }
+    ensures { λ o. ⌜ Steps (coercion (rulesOf question mask)) space (now (sheet .entry)) (now (work .entry)) (now (work .exit)) link d o ⌝ }
+{
+    shift(work, space, d);
+    let g = Goal {
+        at: 1,
+        label: 0,
+        nlen: 0,
+        nullable: false,
+    };
+    coerce(
+        sheet,
+        work,
+        space,
+        question,
+        mask,
+        2 * space.n,
+        false,
+        link,
+        1,
+        g,
+    )
+}
+
+// The candidate that ends at d, folded with the types at a link past floor. Nulls are skipped.
+fn fold_from(
+    sheet: &[u8],
+    work: &mut [u8],
+    space: Space,
+    mask: u64,
+    floor: usize,
+    link: usize,
+    d: Spot,
+) -> Out
+    requires { ⌜ Room (now work) space × (Inside space d × (1 < space .n)) ⌝ }
+    ensures { λ o. ⌜ Folds (foldFrom (rulesOf Question.List mask)) space (now (sheet .entry)) (now (work .entry)) (now (work .exit)) floor link d o ⌝ }
+{
+    if link <= floor {
+        return Out::Done(d);
+    }
+    if space.n <= link {
+        return Out::No;
+    }
+    let h = head_at(sheet, link);
+    let next = h.next;
+    if h.kind == 1 {
+        return fold_from(sheet, work, space, mask, link, next, d);
+    }
+    match step(sheet, work, space, Question::List, mask, link, d) {
+        Out::Done(e) => fold_from(sheet, work, space, mask, link, next, e),
+        Out::No => Out::No,
+        Out::Full => Out::No,
+    }
+}
+
+// The first type at a link past floor that is not Null, folded with those behind it.
+fn fold_types(
+    sheet: &[u8],
+    work: &mut [u8],
+    space: Space,
+    mask: u64,
+    floor: usize,
+    link: usize,
+) -> Out
+    requires { ⌜ Room (now work) space × (1 < space .n) ⌝ }
+    ensures { λ o. ⌜ Reached (foldTypes (rulesOf Question.List mask)) space (now (sheet .entry)) (now (work .entry)) (now (work .exit)) floor link o ⌝ }
+{
+    if link <= floor {
+        return Out::No;
+    }
+    if space.n <= link {
+        return Out::No;
+    }
+    let h = head_at(sheet, link);
+    let next = h.next;
+    if h.kind == 1 {
+        return fold_types(sheet, work, space, mask, link, next);
+    }
+    match copy_field(sheet, work, space, false, link, Spot { at: 1, label: 0 }) {
+        Out::Done(d) => fold_from(sheet, work, space, mask, link, next, d),
+        Out::No => Out::No,
+        Out::Full => Out::No,
+    }
+}
+
+// `type_union_resolution`, of the types at a link.
+pub(crate) fn type_union_resolution(
+    sheet: &[u8],
+    work: &mut [u8],
+    space: Space,
+    mask: u64,
+    link: usize,
+) -> Out
+    requires { ⌜ Room (now work) space ⌝ }
+    ensures { λ o. ⌜ Reached (typeUnionResolution (rulesOf Question.List mask)) space (now (sheet .entry)) (now (work .entry)) (now (work .exit)) 0 link o ⌝ }
+{
+    if link == 0 {
+        return Out::No;
+    }
+    if space.n <= 1 {
+        return Out::No;
+    }
+    let next = head_at(sheet, link).next;
+    if all_equal(sheet, space, link, link, next) {
+        return copy_field(sheet, work, space, false, link, Spot { at: 1, label: 0 });
+    }
+    if is_fitting(sheet, space, link) {
+        return fold_types(sheet, work, space, mask, 0, link);
+    }
+    Out::No
+}
+
+// The common type of the two types at a link, where there are two.
+pub(crate) fn pair(
+    sheet: &[u8],
+    work: &mut [u8],
+    space: Space,
+    question: Question,
+    mask: u64,
+    link: usize,
+) -> Out
+    requires { ⌜ Room (now work) space ⌝ }
+    ensures { λ o. ⌜ Reached (pairAnswer (rulesOf question mask)) space (now (sheet .entry)) (now (work .entry)) (now (work .exit)) 0 link o ⌝ }
+{
+    if link == 0 {
+        return Out::No;
+    }
+    if space.n <= 1 {
+        return Out::No;
+    }
+    let next = head_at(sheet, link).next;
+    if next == 0 {
+        return Out::No;
+    }
+    if head_at(sheet, next).next != 0 {
+        return Out::No;
+    }
+    match copy_field(sheet, work, space, false, next, Spot { at: 1, label: 0 }) {
+        Out::Done(d) => step(sheet, work, space, question, mask, link, d),
+        Out::No => Out::No,
+        Out::Full => Out::No,
+    }
+}
