@@ -119,7 +119,7 @@ fn report_nothing(space: Space, work: &mut [u8]) -> Answer
     requires { ⌜ 2 * space .half ≤ length (now work) ⌝ }
     ensures { λ o. ⌜ (replyOf o ≡ nothing) × (now (work .exit) ≡ zeroed (2 * space .half) (now (work .entry))) ⌝ }
 {
-    let half = space.half;
-    clear(work, 2 * half);
+    let both = 2 * space.half;
+    clear(work, both);
     Answer::Nothing
 }

@@ -39,18 +39,8 @@ fn step(
         nlen: 0,
         nullable: false,
     };
-    coerce(
-        sheet,
-        work,
-        space,
-        question,
-        mask,
-        2 * space.n,
-        false,
-        link,
-        1,
-        g,
-    )
+    let left = 2 * space.n;
+    coerce(sheet, work, space, question, mask, left, false, link, 1, g)
 }
 
 // The candidate that ends at d, folded with the types at a link past floor. Nulls are skipped.

@@ -8,8 +8,8 @@ shift-requires : tie.Need-shift-requires
 shift-requires c κs = search needs
 
 -- src/fold.rt:48:9
-mul-coerce : tie.Need-mul-coerce
-mul-coerce c = search needs
+mul-left : tie.Need-mul-left
+mul-left c = search needs
 
 -- src/fold.rt:42:5
 coerce-requires : tie.Need-coerce-requires
@@ -25,4 +25,4 @@ returns c =
     stepped _ _ (c .before .before .before .before .before .before .before .before .before .before .before .pre .0) (c .before .before .before .before .before .before .before .before .before .before .before .pre .1 .0) (c .before .before .before .before .before .before .before .shift .ensures) (c .before .before .coerce .ensures)
 
 pub step-spec : {M : Type 1} → statement M
-step-spec = tie.close (tie.spec shift-requires mul-coerce coerce-requires same-length returns)
+step-spec = tie.close (tie.spec shift-requires mul-left coerce-requires same-length returns)
