@@ -157,8 +157,14 @@ fn run_vector(fd: i32, v: Vector) -> Turn {
     run_fitting(fd, v)
 }
 
+fn read_entry(fd: i32) -> Entry {
+    let mut head = [0u8; 32];
+    let got = io::read_full(fd, &mut head);
+    stored::entry_of(&head, got)
+}
+
 fn turn_of(fd: i32) -> Turn {
-    match stored::next_entry(fd) {
+    match read_entry(fd) {
         Entry::End => Turn::End,
         Entry::Broken => Turn::Broken,
         Entry::Stored(v) => run_vector(fd, v),

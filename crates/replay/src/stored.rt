@@ -1,5 +1,7 @@
 // The stored calls, as oracle/vectors/README.md has their form.
+ghost use mathlib.Core.Path.{_≡_};
 ghost use Prim.Native.Nat.{_+_, _^_, _<_, _≤_};
+ghost use Rattle.replay.specs.Stored.{isQuestion, numberAt, maskOf, vectorIn, entryIn};
 
 pub const LIST: u8 = 1;
 
@@ -28,7 +30,7 @@ pub enum Entry {
 }
 
 fn wide(b: u8) -> usize
-    ensures { λ r. ⌜ r < 256 ⌝ }
+    ensures { λ r. ⌜ (r ≡ b) × (r < 256) ⌝ }
 {
     b as usize
 }
@@ -36,7 +38,7 @@ fn wide(b: u8) -> usize
 // The number in the four bytes from `at`.
 fn number_at(head: &[u8; 32], at: usize) -> usize
     requires { ⌜ at + 4 ≤ 32 ⌝ }
-    ensures { λ r. ⌜ r < 2 ^ 32 ⌝ }
+    ensures { λ r. ⌜ (r ≡ numberAt (now (head .entry)) at) × (r < 2 ^ 32) ⌝ }
 {
     let low = wide(head[at]) + 256 * wide(head[at + 1]);
     let high = wide(head[at + 2]) + 256 * wide(head[at + 3]);
@@ -45,11 +47,14 @@ fn number_at(head: &[u8; 32], at: usize) -> usize
 
 fn mask_of(low: usize, high: usize) -> u64
     requires { ⌜ (low < 2 ^ 32) × (high < 2 ^ 32) ⌝ }
+    ensures { λ r. ⌜ r ≡ maskOf low high ⌝ }
 {
     low as u64 + 4294967296 * high as u64
 }
 
-fn vector_of(head: &[u8; 32]) -> Vector {
+fn vector_of(head: &[u8; 32]) -> Vector
+    ensures { λ r. ⌜ r ≡ vectorIn (now (head .entry)) ⌝ }
+{
     Vector {
         question: head[0],
         expected: head[1],
@@ -61,19 +66,28 @@ fn vector_of(head: &[u8; 32]) -> Vector {
     }
 }
 
-pub fn next_entry(fd: i32) -> Entry {
-    let mut head = [0u8; 32];
-    let got = io::read_full(fd, &mut head);
+// What a head is of which `got` bytes were read.
+pub fn entry_of(head: &[u8; 32], got: usize) -> Entry
+    ensures { λ r. ⌜ r ≡ entryIn (now (head .entry)) got ⌝ }
+{
     if got == 0 {
         return Entry::End;
     }
     if got < 32 {
         return Entry::Broken;
     }
-    Entry::Stored(vector_of(&head))
+    Entry::Stored(vector_of(head))
 }
 
 // Whether it is one of the three questions.
-pub fn is_question(question: u8) -> bool {
-    question == LIST || question == UNION || question == COMPARE
+pub fn is_question(question: u8) -> bool
+    ensures { λ r. ⌜ r ≡ isQuestion question ⌝ }
+{
+    if question == LIST {
+        return true;
+    }
+    if question == UNION {
+        return true;
+    }
+    question == COMPARE
 }
