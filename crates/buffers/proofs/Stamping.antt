@@ -14,14 +14,15 @@ use Rattle.sheet.specs.Read.{labelAt}
 use Rattle.sheet.specs.Bounds.{Filled}
 use Rattle.sheet.specs.declared.Head.{Head}
 use Rattle.sheet.proofs.Bytewise.{cut-part}
-use Rattle.coercion.specs.Data.{DataType, size, ofUnit, zoned}
+use Rattle.coercion.specs.Data.{DataType, Rules, size, ofUnit, zoned}
 use Rattle.coercion.specs.Times.{zoneCoercion}
 use Rattle.coercion.specs.Zones as Zones
 use Rattle.coercion.specs.declared.Figures.{Figures}
 use Rattle.coercion.specs.declared.zone.Place.{Place}
 use Rattle.buffers.specs.Writes.{side}
 use Rattle.buffers.specs.Goal.{letters, Means, LaidPlain, LaidZoned, CopiedType, shapeFor}
-use Rattle.buffers.specs.Steps.{stepOf, placeOf, eitherZone}
+use Rattle.buffers.specs.Plain.{plainRules}
+use Rattle.buffers.specs.Steps.{Reads, stepOf, placeOf, eitherZone}
 use Rattle.buffers.specs.Typed.{Typed, Merges}
 use Rattle.buffers.specs.declared.Space.{Space}
 use Rattle.buffers.specs.declared.Goal.{Goal}
@@ -31,6 +32,7 @@ use Rattle.buffers.specs.declared.Out.{Out}
 use Rattle.buffers.specs.declared.Out.the-variants.{Done, No, Full}
 use Rattle.buffers.proofs.Sources.{read-shape}
 use Rattle.buffers.proofs.Frames.{kept-self}
+use Rattle.buffers.proofs.Fielding.{typed-reads}
 
 pub place-is : (h : Head) (n len : ℕ) {b : Bool} {from upto : ℕ} → b ≡ zonedIn h → from ≡ min (16 * n + zoneAt h) len → upto ≡ min (from + zoneLen h) len
     → record { present = b; from = from; upto = upto } ≡ placeOf h n len
@@ -175,3 +177,15 @@ module _ (space : Space) (swap : Bool) (s w : List ℕ) (l r : ℕ) (g : Goal) w
     step-nothing e left =
         subst (λ (x : Step). Merges (stepOf x) space left swap s w w l r g No) (sym e)
         (record { writes = record { kept = kept-self w (g .at) (g .label + g .nlen); passes = tt }; means = λ i j p q h. tt })
+
+-- what a step says is what the rules for types without parts say of the two
+pub plain-merged : (rules : Rules) {A : DataType → DataType → Option DataType} (space : Space) (swap : Bool) (s w v : List ℕ) (l r : ℕ) (g : Goal) (o : Out) {x y : Head}
+    → x ≡ headAt (side swap s w) l → y ≡ headAt (side (not swap) s w) r → ((X Y : DataType) → Reads x X → Reads y Y → A X Y ≡ plainRules rules X Y)
+    → ((left : ℕ) → Merges A space left swap s w v l r g o) → (left : ℕ) → Merges (plainRules rules) space left swap s w v l r g o
+plain-merged rules space swap s w v l r g o ex ey f m left =
+    record {
+      writes = m left .writes;
+      means =
+          λ X Y a b q.
+          subst (λ (k : Option DataType). Means space w v g (size X + size Y) (letters X + letters Y) o k) (f X Y (typed-reads a ex) (typed-reads b ey)) (m left .means X Y a b q);
+    }

@@ -6,16 +6,19 @@ ghost use lib.ListN.{length};
 ghost use Rattle.sheet.specs.Bounds.{Filled};
 ghost use Rattle.buffers.specs.Writes.{side};
 ghost use Rattle.buffers.specs.Region.{Room, Ready};
+ghost use Rattle.buffers.specs.Plain.{rulesOf, plainRules};
 ghost use Rattle.buffers.specs.Steps.{stepOf, placeOf, eitherZone};
 ghost use Rattle.buffers.specs.Typed.{Merges};
 use crate::Goal;
 use crate::Out;
+use crate::Question;
 use crate::Space;
 use crate::Step;
 use crate::alike::is_zoned;
 use crate::lay::copy_type;
 use crate::lay::lay_plain;
 use crate::lay::lay_zoned;
+use crate::plain::plain;
 use crate::write::look;
 use coercion::tests::either;
 use coercion::zone::Place;
@@ -94,7 +97,7 @@ fn stamp(
 }
 
 // Writes what a step says of the types at two links.
-pub fn lay_step(
+fn lay_step(
     sheet: &[u8],
     work: &mut [u8],
     space: Space,
@@ -119,4 +122,33 @@ pub fn lay_step(
         Step::Right => copy_type(sheet, work, space, !swap, r, g),
         Step::Nothing => Out::No,
     }
+}
+
+// Writes what the rules for types without parts say of the types at two links.
+pub fn plain_rule(
+    sheet: &[u8],
+    work: &mut [u8],
+    space: Space,
+    question: Question,
+    mask: u64,
+    swap: bool,
+    l: usize,
+    r: usize,
+    g: Goal,
+) -> Out
+    requires { ⌜ Room (now work) space × Ready space g ⌝ }
+    ensures { λ o. ⌜ ((left : ℕ) → Merges (plainRules (rulesOf question mask)) space left swap (now (sheet .entry)) (now (work .entry)) (now (work .exit)) l r g o) ⌝ }
+{
+    let x = look(sheet, &*work, swap, l);
+    let y = look(sheet, &*work, !swap, r);
+    lay_step(
+        sheet,
+        work,
+        space,
+        swap,
+        plain(question, mask, x, y),
+        l,
+        r,
+        g,
+    )
 }

@@ -87,7 +87,7 @@ fn fetch(sheet: &[u8], work: &[u8], swap: bool, from: usize, len: usize, buf: &m
     }
 }
 
-// Puts a label of a side into the work space, by way of an array of its own.
+// Puts a label of a side into the work space, sixteen bytes at a time. All are read before one is written.
 pub(crate) fn put_label(
     sheet: &[u8],
     work: &mut [u8],
@@ -96,10 +96,15 @@ pub(crate) fn put_label(
     len: usize,
     at: usize,
 )
-    requires { ⌜ (len ≤ 255) × (at + len ≤ length (now work)) ⌝ }
+    requires { ⌜ (from + len < 4294967296) × (at + len ≤ length (now work)) ⌝ }
     ensures { λ _. ⌜ Put (now (work .entry)) (now (work .exit)) at (take len (drop from (side swap (now (sheet .entry)) (now (work .entry))))) ⌝ }
 {
-    let mut buf = [0u8; 255];
-    let k = fetch(sheet, &*work, swap, from, len, &mut buf);
+    let mut buf = [0u8; 16];
+    if len <= 16 {
+        let k = fetch(sheet, &*work, swap, from, len, &mut buf);
+        return put(work, at, &buf[..k]);
+    }
+    let k = fetch(sheet, &*work, swap, from, 16, &mut buf);
+    put_label(sheet, work, swap, from + 16, len - 16, at + 16);
     put(work, at, &buf[..k])
 }

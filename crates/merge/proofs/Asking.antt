@@ -1,11 +1,14 @@
 -- The common type of two types: the test for sameness, and then the rules of the question. Assumes nothing.
 use mathlib.Core.Path.{_≡_, refl, ap, sym, _∙_}
-use mathlib.Core.Bool.{Bool, true, false, cond, not}
+use mathlib.Core.Bool.{Bool, true, false, cond, not, _&&_}
 use mathlib.Core.List.{List}
 use mathlib.Core.Option.{Option, none, some}
-use Prim.Native.Nat.{ℕ, _+_, _-_, _≤_}
+use Prim.Native.Nat.{ℕ, _+_, _-_, _<_, _≤_}
 use native.Mathlib.Omega.{arith}
-use Rattle.sheet.proofs.Tests.{never}
+use lib.Dec.{ltb}
+use borrow.Author.Tests.{ltb-true}
+use Rattle.sheet.specs.Head.{headAt}
+use Rattle.sheet.proofs.Tests.{never, and-fst, and-snd}
 use Rattle.coercion.specs.Data.{DataType, Rules, size}
 use Rattle.coercion.specs.Data as Data
 use Rattle.coercion.specs.Same.{sameType}
@@ -15,7 +18,7 @@ use Rattle.buffers.specs.Source.{SameTypes}
 use Rattle.buffers.specs.Writes.{side}
 use Rattle.buffers.specs.Goal.{CopiedType}
 use Rattle.buffers.specs.Typed.{Typed, Merges}
-use Rattle.buffers.specs.Plain.{asked, rulesOf, isListQuestion}
+use Rattle.buffers.specs.Plain.{asked, rulesOf, isListQuestion, plainRules}
 use Rattle.merge.specs.Turns.{resolved, unwrapped, turnsFor, turnsOf}
 use Rattle.buffers.specs.declared.Space.{Space}
 use Rattle.buffers.specs.declared.Goal.{Goal}
@@ -23,8 +26,9 @@ use Rattle.buffers.specs.declared.Question.{Question}
 use Rattle.buffers.specs.declared.Question.the-variants as Question
 use Rattle.buffers.specs.declared.Out.{Out}
 use Rattle.buffers.specs.declared.Out.the-variants.{Done, No, Full}
-use Rattle.merge.proofs.Orders.{ask-turns}
+use Rattle.merge.proofs.Orders.{ask-turns, plain-turns}
 use Rattle.merge.proofs.Merging.{typed-same, merges-as, merges-left, merges-none}
+use Rattle.merge.proofs.Turning.{kind-of}
 
 -- the rules of a question that looks at names, and of one that does not
 list-turns : (q : Data.Question) (rules : Rules) (c : DataType → DataType → Option DataType) (x y : DataType) → isListQuestion q ≡ true → resolved rules c x y ≡ turnsFor q rules c x y
@@ -69,3 +73,11 @@ module _ (question : Question) (mask : ℕ) (space : Space) (left : ℕ) (swap :
     coerce-pair v o z f more m =
         merges-as both space swap s w v l r g o left (omega arith)
         (λ x y a b. pair-turns (asked question) (rulesOf question mask) both x y (sym ef ∙ f) ∙ differ z x y a b) m
+
+    pub coerce-plain : (v : List ℕ) (o : Out) {k j : ℕ} → e ≡ false → k ≡ headAt (side swap s w) l .kind → j ≡ headAt (side (not swap) s w) r .kind → (ltb k 32 && ltb j 32) ≡ true
+        → ((i : ℕ) → Merges (plainRules (rulesOf question mask)) space i swap s w v l r g o) → Merges both space left swap s w v l r g o
+    coerce-plain v o {k} {j} z ek ej h m =
+        let p : k < 32 = ltb-true k 32 (and-fst (ltb k 32) (ltb j 32) h) in
+        let q : j < 32 = ltb-true j 32 (and-snd (ltb k 32) (ltb j 32) h) in
+        merges-as both space swap s w v l r g o left (omega arith)
+        (λ x y a b. plain-turns (rulesOf question mask) both x y (omega (arith, kind-of ek a)) (omega (arith, kind-of ej b)) ∙ differ z x y a b) (m left)

@@ -7,8 +7,9 @@ use mathlib.Core.Option.{Option, none, some}
 use Prim.Native.Nat.{ℕ, _<_, _≤_}
 use native.Mathlib.Omega.{arith}
 use lib.Dec.{eqb}
-use borrow.Author.Tests.{eqb-true, ne-eqb}
+use borrow.Author.Tests.{eqb-true, ne-eqb, lt-leb}
 use Rattle.sheet.specs.Kind as Kind
+use Rattle.sheet.specs.Tests.{between}
 use Rattle.sheet.specs.Types.{arity}
 use Rattle.sheet.proofs.Tests.{never, and-fst, and-snd}
 use Rattle.coercion.specs.Data.{DataType, Question, list, union, compare, Rules, orElse, firstOf, figuresOf, asType}
@@ -267,3 +268,30 @@ module _ (c : DataType → DataType → Option DataType) (l r : DataType) where
 pub ask-turns : (rules : Rules) (c : DataType → DataType → Option DataType) (l r : DataType)
     → ask (rules .question) rules c l r ≡ cond (sameType (isListQuestion (rules .question)) l r) (some l) (turnsOf rules c l r)
 ask-turns rules c l r = turns-for c l r (rules .question) (rules .mask)
+
+-- two types without parts, of which the other rules know nothing
+module _ (rules : Rules) (c : DataType → DataType → Option DataType) (l r : DataType) (h : l .shape .kind < 32) (g : r .shape .kind < 32) where
+  other : (n : ℕ) → 32 ≤ n → (t : DataType) → t .shape .kind < 32 → isOf n t ≡ false
+  other n p t q = ne-eqb (t .shape .kind) n (λ e. omega arith)
+
+  plain-nested : plainRules rules l r ≡ nestedOf rules c l r
+  unfolding nestedOf between
+  plain-nested = rw (lt-leb 32 (l .shape .kind) h, other 35 (omega arith) l h, other 36 (omega arith) l h)
+
+  plain-resolved : plainRules rules l r ≡ resolved rules c l r
+  unfolding resolved
+  plain-resolved =
+      rw (other 37 (omega arith) l h, other 37 (omega arith) r g, other 38 (omega arith) l h, other 38 (omega arith) r g) plain-nested
+
+  plain-unwrapped : plainRules rules l r ≡ unwrapped rules c l r
+  unfolding unwrapped wrapperCoercion
+  plain-unwrapped =
+      rw (other 37 (omega arith) l h, other 37 (omega arith) r g, other 38 (omega arith) l h, other 38 (omega arith) r g) plain-nested
+
+  plain-for : (q : Question) → plainRules rules l r ≡ turnsFor q rules c l r
+  plain-for list = plain-resolved
+  plain-for union = plain-unwrapped
+  plain-for compare = plain-unwrapped
+
+  pub plain-turns : plainRules rules l r ≡ turnsOf rules c l r
+  plain-turns = plain-for (rules .question)

@@ -329,21 +329,21 @@ module _ (c : DataType → DataType → Option DataType) (space : Space) (left :
           }
 
 -- two types that are no wrappers, by the kinds of both
-module _ (rules : Rules) (c : DataType → DataType → Option DataType) (space : Space) (left : ℕ) (swap : Bool) (s w : List ℕ) (l r : ℕ) (g : Goal) (x y : Head)
-    (ex : x ≡ headAt (side swap s w) l) (ey : y ≡ headAt (side (not swap) s w) r) (v : List ℕ) (o : Out) where
+module _ (rules : Rules) (c : DataType → DataType → Option DataType) (space : Space) (left : ℕ) (swap : Bool) (s w : List ℕ) (l r : ℕ) (g : Goal)
+    {k j : ℕ} (ek : k ≡ headAt (side swap s w) l .kind) (ej : j ≡ headAt (side (not swap) s w) r .kind) (v : List ℕ) (o : Out) where
   module _ {X Y : DataType} (a : Typed space (side swap s w) l X) (b : Typed space (side (not swap) s w) r Y) where
-    lists : (isList (X .shape .kind) && isList (Y .shape .kind)) ≡ (isList (x .kind) && isList (y .kind))
-    lists = ap₂ (λ (i j : ℕ). isList i && isList j) (typed-reads a ex .kind) (typed-reads b ey .kind)
+    lists : (isList (X .shape .kind) && isList (Y .shape .kind)) ≡ (isList k && isList j)
+    lists = ap₂ (λ (m n : ℕ). isList m && isList n) (kind-of ek a) (kind-of ej b)
 
-    are : (i : ℕ) → (isOf i X && isOf i Y) ≡ (eqb (x .kind) i && eqb (y .kind) i)
-    are i = ap₂ (λ (m n : ℕ). eqb m i && eqb n i) (typed-reads a ex .kind) (typed-reads b ey .kind)
+    are : (i : ℕ) → (isOf i X && isOf i Y) ≡ (eqb k i && eqb j i)
+    are i = ap₂ _&&_ (kind-is ek i a) (kind-is ej i b)
 
-  pub nested-list : (isList (x .kind) && isList (y .kind)) ≡ true → Merges (listRule c) space (left + 1) swap s w v l r g o → Merges (nestedOf rules c) space (left + 1) swap s w v l r g o
+  pub nested-list : (isList k && isList j) ≡ true → Merges (listRule c) space (left + 1) swap s w v l r g o → Merges (nestedOf rules c) space (left + 1) swap s w v l r g o
   unfolding nestedOf listCoercion
   nested-list h = merges-as (nestedOf rules c) space swap s w v l r g o (left + 1) (omega arith) (λ X Y a b. rw (lists a b ∙ h) refl)
 
-  module _ (n : (isList (x .kind) && isList (y .kind)) ≡ false) where
-    module _ (h : (eqb (x .kind) 35 && eqb (y .kind) 35) ≡ true) where
+  module _ (n : (isList k && isList j) ≡ false) where
+    module _ (h : (eqb k 35 && eqb j 35) ≡ true) where
       by-names : (q : Data.Question) (X Y : DataType) → isListQuestion q ≡ true → listStruct c X Y ≡ structRule q c X Y
       by-names Data.list X Y e = refl
       by-names Data.union X Y e = never e
@@ -367,24 +367,22 @@ module _ (rules : Rules) (c : DataType → DataType → Option DataType) (space 
           merges-as (nestedOf rules c) space swap s w v l r g o (left + 1) (omega arith)
           (λ X Y a b. rw (lists a b ∙ n) (rw (are a b 35 ∙ h) (by-rule (rules .question) X Y e)))
 
-    module _ (h : (eqb (x .kind) 35 && eqb (y .kind) 35) ≡ false) where
-      pub nested-map : (eqb (x .kind) 36 && eqb (y .kind) 36) ≡ true → Merges (mapRule c) space (left + 1) swap s w v l r g o → Merges (nestedOf rules c) space (left + 1) swap s w v l r g o
+    module _ (h : (eqb k 35 && eqb j 35) ≡ false) where
+      pub nested-map : (eqb k 36 && eqb j 36) ≡ true → Merges (mapRule c) space (left + 1) swap s w v l r g o → Merges (nestedOf rules c) space (left + 1) swap s w v l r g o
       unfolding nestedOf mapCoercion
       nested-map e =
           merges-as (nestedOf rules c) space swap s w v l r g o (left + 1) (omega arith)
           (λ X Y a b. rw (lists a b ∙ n) (rw (are a b 35 ∙ h) (rw (are a b 36 ∙ e) refl)))
 
-      pub nested-plain : (eqb (x .kind) 36 && eqb (y .kind) 36) ≡ false → (A : DataType → DataType → Option DataType)
-          → ((X Y : DataType) → Reads x X → Reads y Y → A X Y ≡ plainRules rules X Y) → ((i : ℕ) → Merges A space i swap s w v l r g o)
-          → Merges (nestedOf rules c) space (left + 1) swap s w v l r g o
+      pub nested-plain : (eqb k 36 && eqb j 36) ≡ false → ((i : ℕ) → Merges (plainRules rules) space i swap s w v l r g o) → Merges (nestedOf rules c) space (left + 1) swap s w v l r g o
       unfolding nestedOf
-      nested-plain e A f m =
+      nested-plain e m =
           merges-as (nestedOf rules c) space swap s w v l r g o (left + 1) (omega arith)
-          (λ X Y a b. rw (lists a b ∙ n) (rw (are a b 35 ∙ h) (rw (are a b 36 ∙ e) (f X Y (typed-reads a ex) (typed-reads b ey))))) (m (left + 1))
+          (λ X Y a b. rw (lists a b ∙ n) (rw (are a b 35 ∙ h) (rw (are a b 36 ∙ e) refl))) (m (left + 1))
 
 -- the kind of the left, by a test of both
-pub left-is : (s : List ℕ) (link : ℕ) (h f : Head) → h ≡ headAt s link → (eqb (h .kind) 35 && eqb (f .kind) 35) ≡ true → headAt s link .kind ≡ 35
-left-is s link h f e q = sym (ap (λ (x : Head). x .kind) e) ∙ eqb-true (h .kind) 35 (and-fst (eqb (h .kind) 35) (eqb (f .kind) 35) q)
+pub left-is : (s : List ℕ) (link k j : ℕ) → k ≡ headAt s link .kind → (eqb k 35 && eqb j 35) ≡ true → headAt s link .kind ≡ 35
+left-is s link k j e q = sym e ∙ eqb-true k 35 (and-fst (eqb k 35) (eqb j 35) q)
 
 -- the shape of two lists' common list, by their heads
 size-of : {h : Head} {t : DataType} → Reads h t → eqb (t .shape .kind) 34 ≡ true → t .shape .size ≡ h .quad

@@ -37,8 +37,7 @@ use buffers::names::same_arity;
 use buffers::plain::is_list_question;
 use buffers::plain::list_kind;
 use buffers::plain::list_size;
-use buffers::plain::plain;
-use buffers::stamp::lay_step;
+use buffers::stamp::plain_rule;
 use buffers::write::kind_at;
 use buffers::write::look;
 use buffers::write::value_at;
@@ -68,6 +67,11 @@ pub fn coerce(
     let list = is_list_question(question);
     if same_sides(sheet, &*work, space.n, swap, l, r, list) {
         return copy_type(sheet, work, space, swap, l, g);
+    }
+    let k = kind_at(sheet, &*work, swap, l);
+    let j = kind_at(sheet, &*work, !swap, r);
+    if both(k < 32, j < 32) {
+        return plain_rule(sheet, work, space, question, mask, swap, l, r, g);
     }
     if list {
         return resolve(sheet, work, space, question, mask, left - 1, swap, l, r, g);
@@ -369,10 +373,8 @@ fn nested(
     requires { ⌜ Room (now work) space × Ready space g ⌝ }
     ensures { λ o. ⌜ Merges (nestedOf (rulesOf question mask) (coercion (rulesOf question mask))) space (left + 1) swap (now (sheet .entry)) (now (work .entry)) (now (work .exit)) l r g o ⌝ }
 {
-    let x = look(sheet, &*work, swap, l);
-    let y = look(sheet, &*work, !swap, r);
-    let k = x.kind;
-    let j = y.kind;
+    let k = kind_at(sheet, &*work, swap, l);
+    let j = kind_at(sheet, &*work, !swap, r);
     if both(is_list(k), is_list(j)) {
         return list_rule(sheet, work, space, question, mask, left, swap, l, r, g);
     }
@@ -385,16 +387,7 @@ fn nested(
     if both(k == 36, j == 36) {
         return map_rule(sheet, work, space, question, mask, left, swap, l, r, g);
     }
-    lay_step(
-        sheet,
-        work,
-        space,
-        swap,
-        plain(question, mask, x, y),
-        l,
-        r,
-        g,
-    )
+    plain_rule(sheet, work, space, question, mask, swap, l, r, g)
 }
 
 // The record of a type with parts, and its parts after it.

@@ -6,7 +6,7 @@ use borrow.Author.Tests.{not-true, not-false}
 use Rattle.buffers.proofs.Chained.{room-kept}
 use Rattle.buffers.proofs.Fielding.{field-ready}
 use Rattle.merge.proofs.Joining.{rows-end, rows-spent, rows-unfed, rows-crowded, rows-none, rows-full, rows-rest-none, rows-rest-full, rows-done}
-use Rattle.merge.proofs.Asking.{coerce-spent, coerce-same, coerce-list, coerce-pair}
+use Rattle.merge.proofs.Asking.{coerce-spent, coerce-same, coerce-plain, coerce-list, coerce-pair}
 use Rattle.merge.proofs.Merging.{merges-full}
 use Rattle.buffers.proofs.Tying.{tied-kept}
 use Rattle.merge.proofs.Rewrapping.{index-none, index-full, value-none, value-full, wrapper-on}
@@ -65,9 +65,6 @@ use Rattle.merge.proofs.coerce.+both_parts+coerce+coerce_field+entry+li
 use Rattle.merge.proofs.coerce.wrapper.Reads as wrapper
 use Rattle.merge.proofs.coerce.wrapper.Kinds as wrapper-kinds
 use Rattle.merge.proofs.coerce.+both_parts+coerce+coerce_field+entry+list_rule+list_struct+map_rule+nested+resolve+resolve_wrapper+rewrapped+rows+struct_rule+under+unwrap+wrapper.Lts-wrapper as wrapper-lts
-use Rattle.coercion.proofs.tests.both.Reads as both-reads
-use Rattle.coercion.proofs.tests.either.Reads as either-reads
-use Rattle.coercion.proofs.tests.is_list.Reads as is-list-reads
 use Rattle.buffers.proofs.alike.same_sides.Reads as same-sides-reads
 use Rattle.buffers.proofs.copy.copy_head.Reads as copy-head-reads
 use Rattle.buffers.proofs.copy.is_nullable.Reads as is-nullable-reads
@@ -86,13 +83,19 @@ use Rattle.buffers.proofs.names.same_arity.Reads as same-arity-reads
 use Rattle.buffers.proofs.plain.is_list_question.Reads as is-list-question-reads
 use Rattle.buffers.proofs.plain.list_kind.Reads as list-kind-reads
 use Rattle.buffers.proofs.plain.list_size.Reads as list-size-reads
-use Rattle.buffers.proofs.plain.plain.Reads as plain-reads
-use Rattle.buffers.proofs.stamp.lay_step.Reads as lay-step-reads
+use Rattle.buffers.proofs.stamp.plain_rule.Reads as plain-rule-reads
 use Rattle.buffers.proofs.write.kind_at.Reads as kind-at-reads
 use Rattle.buffers.proofs.write.look.Reads as look-reads
 use Rattle.buffers.proofs.write.value_at.Reads as value-at-reads
-use Rattle.merge.proofs.coerce.+both_parts+coerce+coerce_field+entry+list_rule+list_struct+map_rule+nested+resolve+resolve_wrapper+rewrapped+rows+struct_rule+under+unwrap+wrapper.{statement}
-use Rattle.merge.proofs.coerce.+both_parts+coerce+coerce_field+entry+list_rule+list_struct+map_rule+nested+resolve+resolve_wrapper+rewrapped+rows+struct_rule+under+unwrap+wrapper.Tie.{close}
+use Rattle.coercion.proofs.tests.both.Reads as both-reads
+use Rattle.coercion.proofs.tests.either.Reads as either-reads
+use Rattle.coercion.proofs.tests.is_list.Reads as is-list-reads
+use Rattle.merge.proofs.coerce.+both_parts+coerce+coerce_field+entry+list_rule+list_struct+map_rule+nested+resolve+resolve_wrapper+rewrapped+rows+struct_rule+under+unwrap+wrapper.{
+  statement,
+}
+use Rattle.merge.proofs.coerce.+both_parts+coerce+coerce_field+entry+list_rule+list_struct+map_rule+nested+resolve+resolve_wrapper+rewrapped+rows+struct_rule+under+unwrap+wrapper.Tie.{
+  close,
+}
 
 abbrev μ-both-parts : Measures 2 both-parts-kinds.ps ℕ
 μ-both-parts κs a =
@@ -285,7 +288,7 @@ both-parts-calls t =
 
 abbrev coerce-calls : ℕ → coerce-lts.Claims
 coerce-calls t =
-    (is-list-question-reads.Asked, is-list-question-reads.Learnt, same-sides-reads.Asked, same-sides-reads.Learnt, copy-type-reads.Asked, copy-type-reads.Learnt, resolve-below t, resolve.Post, unwrap-below t, unwrap.Post)
+    (is-list-question-reads.Asked, is-list-question-reads.Learnt, same-sides-reads.Asked, same-sides-reads.Learnt, copy-type-reads.Asked, copy-type-reads.Learnt, kind-at-reads.Asked, kind-at-reads.Learnt, both-reads.Asked, both-reads.Learnt, plain-rule-reads.Asked, plain-rule-reads.Learnt, resolve-below t, resolve.Post, unwrap-below t, unwrap.Post)
 
 abbrev coerce-field-calls : ℕ → coerce-field-lts.Claims
 coerce-field-calls t =
@@ -309,7 +312,7 @@ map-rule-calls t =
 
 abbrev nested-calls : ℕ → nested-lts.Claims
 nested-calls t =
-    (look-reads.Asked, look-reads.Learnt, is-list-reads.Asked, is-list-reads.Learnt, both-reads.Asked, both-reads.Learnt, list-rule-below t, list-rule.Post, is-list-question-reads.Asked, is-list-question-reads.Learnt, list-struct-below t, list-struct.Post, struct-rule-below t, struct-rule.Post, map-rule-below t, map-rule.Post, plain-reads.Asked, plain-reads.Learnt, lay-step-reads.Asked, lay-step-reads.Learnt)
+    (kind-at-reads.Asked, kind-at-reads.Learnt, is-list-reads.Asked, is-list-reads.Learnt, both-reads.Asked, both-reads.Learnt, list-rule-below t, list-rule.Post, is-list-question-reads.Asked, is-list-question-reads.Learnt, list-struct-below t, list-struct.Post, struct-rule-below t, struct-rule.Post, map-rule-below t, map-rule.Post, plain-rule-reads.Asked, plain-rule-reads.Learnt)
 
 abbrev resolve-calls : ℕ → resolve-lts.Claims
 resolve-calls t =
@@ -343,687 +346,712 @@ abbrev wrapper-calls : ℕ → wrapper-lts.Claims
 wrapper-calls t =
     (kind-at-reads.Asked, kind-at-reads.Learnt, value-at-reads.Asked, value-at-reads.Learnt, coerce-below t, coerce.Post, same-sides-reads.Asked, same-sides-reads.Learnt, copy-type-reads.Asked, copy-type-reads.Learnt)
 
--- src/coerce.rt:152:9
+-- src/coerce.rt:182:9
 both-parts-returns : (t : ℕ) → both-parts-lts.Need-returns (both-parts-calls t) (both-parts-at t) both-parts.Post
 both-parts-returns t c =
     merges-full _ _ _ _ _ _ _ _ _ (c .if1 .taken)
 
--- src/coerce.rt:154:9
+-- src/coerce.rt:184:9
 both-parts-look-requires : (t : ℕ) → both-parts-lts.Need-look-requires (both-parts-calls t) (both-parts-at t) both-parts.Post
 both-parts-look-requires t c κs =
     search needs
 
--- src/coerce.rt:155:9
+-- src/coerce.rt:185:9
 both-parts-look-requires-2 : (t : ℕ) → both-parts-lts.Need-look-requires-2 (both-parts-calls t) (both-parts-at t) both-parts.Post
 both-parts-look-requires-2 t c κs =
     search needs
 
--- src/coerce.rt:158:11
+-- src/coerce.rt:188:11
 both-parts-copy-head-requires : (t : ℕ) → both-parts-lts.Need-copy-head-requires (both-parts-calls t) (both-parts-at t) both-parts.Post
 both-parts-copy-head-requires t c κs =
     ((c .before .before .before .before .before .before .before .before .before .before .pre .1), ((c .before .before .before .before .before .if1 .left), (omega arith, (c .before .before .before .look .ensures .1))))
 
--- src/coerce.rt:159:19
+-- src/coerce.rt:189:19
 both-parts-enum-known-d : (t : ℕ) → both-parts-lts.Need-enum-known-d (both-parts-calls t) (both-parts-at t) both-parts.Post
 both-parts-enum-known-d t c =
     search needs
 
--- src/coerce.rt:159:25
+-- src/coerce.rt:189:25
 both-parts-rows-requires : (t : ℕ) → both-parts-lts.Need-rows-requires (both-parts-calls t) (both-parts-at t) both-parts.Post
 both-parts-rows-requires t c κs =
     let h = rw (c .before .before .d .given .1) at (c .before .before .before .before .before .before .copy-head .ensures) in
     (omega (arith, (c .before .before .before .before .before .before .before .before .before .before .before .before .before .before .before .before .before .pre .0)), (room-kept (h .kept) (c .before .before .before .before .before .before .before .before .before .before .before .before .before .before .before .before .before .pre .1 .0), h .passes .0))
 
--- src/coerce.rt:160:20
+-- src/coerce.rt:203:20
 both-parts-enum-told : (t : ℕ) → both-parts-lts.Need-enum-told (both-parts-calls t) (both-parts-at t) both-parts.Post
 both-parts-enum-told t c =
     search needs
 
--- src/coerce.rt:161:22
+-- src/coerce.rt:204:22
 both-parts-enum-told-2 : (t : ℕ) → both-parts-lts.Need-enum-told-2 (both-parts-calls t) (both-parts-at t) both-parts.Post
 both-parts-enum-told-2 t c =
     search needs
 
--- src/coerce.rt:136:1
+-- src/coerce.rt:166:1
 both-parts-same-length : (t : ℕ) → both-parts-lts.Need-same-length (both-parts-calls t) (both-parts-at t) both-parts.Post
 both-parts-same-length t c =
     search needs
 
--- src/coerce.rt:136:1
+-- src/coerce.rt:166:1
 both-parts-returns-2 : (t : ℕ) → both-parts-lts.Need-returns-2 (both-parts-calls t) (both-parts-at t) both-parts.Post
 both-parts-returns-2 t c =
     let h = rw (c .before .before .before .before .before .d .given .1) at (c .before .before .before .before .before .before .before .before .before .copy-head .ensures) in
     both-on _ _ _ _ _ _ _ _ _ (c .before .before .before .before .before .before .before .before .before .before .before .before .before .before .before .before .before .before .before .before .pre .1 .0) _ _ (c .before .before .before .before .before .before .before .before .before .before .before .before .before .look .ensures .0) (c .before .before .before .before .before .before .before .before .before .before .before .look2 .ensures .0) _ _ _ _ h (c .before .before .rows .ensures)
 
--- src/coerce.rt:136:1
+-- src/coerce.rt:166:1
 both-parts-same-length-2 : (t : ℕ) → both-parts-lts.Need-same-length-2 (both-parts-calls t) (both-parts-at t) both-parts.Post
 both-parts-same-length-2 t c =
     search needs
 
--- src/coerce.rt:136:1
+-- src/coerce.rt:166:1
 both-parts-returns-3 : (t : ℕ) → both-parts-lts.Need-returns-3 (both-parts-calls t) (both-parts-at t) both-parts.Post
 both-parts-returns-3 t c =
     absurd ((rw (c .enum-told .given .1) at (c .before .before .before .before .copy-head .ensures)) .means)
 
--- src/coerce.rt:136:1
+-- src/coerce.rt:166:1
 both-parts-same-length-3 : (t : ℕ) → both-parts-lts.Need-same-length-3 (both-parts-calls t) (both-parts-at t) both-parts.Post
 both-parts-same-length-3 t c =
     search needs
 
--- src/coerce.rt:136:1
+-- src/coerce.rt:166:1
 both-parts-returns-4 : (t : ℕ) → both-parts-lts.Need-returns-4 (both-parts-calls t) (both-parts-at t) both-parts.Post
 both-parts-returns-4 t c =
     head-crowded _ _ _ _ _ _ _ _ _ _ (c .before .before .before .before .before .before .before .before .look .ensures .0) _ (rw (c .enum-told2 .given .1) at (c .before .before .before .before .copy-head .ensures))
 
--- src/coerce.rt:64:9
+-- src/coerce.rt:65:9
 coerce-returns : (t : ℕ) → coerce-lts.Need-returns (coerce-calls t) (coerce-at t) coerce.Post
 coerce-returns t c =
     coerce-spent (c .before .before .before .args .question) (c .before .before .before .args .mask) (c .before .before .before .args .space) (c .before .before .before .args .left) (c .before .before .before .args .swap) _ _ _ _ _ (c .if1 .taken)
 
--- src/coerce.rt:66:9
+-- src/coerce.rt:67:9
 coerce-is-list-question-requires : (t : ℕ) → coerce-lts.Need-is-list-question-requires (coerce-calls t) (coerce-at t) coerce.Post
 coerce-is-list-question-requires t c κs =
     search needs
 
--- src/coerce.rt:67:8
+-- src/coerce.rt:68:8
 coerce-same-sides-requires : (t : ℕ) → coerce-lts.Need-same-sides-requires (coerce-calls t) (coerce-at t) coerce.Post
 coerce-same-sides-requires t c κs =
     search needs
 
--- src/coerce.rt:68:9
+-- src/coerce.rt:69:9
 coerce-copy-type-requires : (t : ℕ) → coerce-lts.Need-copy-type-requires (coerce-calls t) (coerce-at t) coerce.Post
 coerce-copy-type-requires t c κs =
     (c .before .before .before .before .before .before .before .before .pre .1)
 
--- src/coerce.rt:68:9
+-- src/coerce.rt:69:9
 coerce-same-length : (t : ℕ) → coerce-lts.Need-same-length (coerce-calls t) (coerce-at t) coerce.Post
 coerce-same-length t c =
     search needs
 
--- src/coerce.rt:68:9
+-- src/coerce.rt:69:9
 coerce-returns-2 : (t : ℕ) → coerce-lts.Need-returns-2 (coerce-calls t) (coerce-at t) coerce.Post
 coerce-returns-2 t c =
     coerce-same (c .before .before .before .before .before .before .before .before .before .before .before .args .question) (c .before .before .before .before .before .before .before .before .before .before .before .args .mask) (c .before .before .before .before .before .before .before .before .before .before .before .args .space) (c .before .before .before .before .before .before .before .before .before .before .before .args .left) (c .before .before .before .before .before .before .before .before .before .before .before .args .swap) _ _ _ _ _ (c .before .before .before .before .before .before .before .is-list-question .ensures) (c .before .before .before .before .before .same-sides .ensures) _ _ (c .before .before .before .before .if2 .taken) (c .before .before .copy-type .ensures)
 
--- src/coerce.rt:71:60
-coerce-sub-resolve : (t : ℕ) → coerce-lts.Need-sub-resolve (coerce-calls t) (coerce-at t) coerce.Post
-coerce-sub-resolve t c =
+-- src/coerce.rt:71:9
+coerce-kind-at-requires : (t : ℕ) → coerce-lts.Need-kind-at-requires (coerce-calls t) (coerce-at t) coerce.Post
+coerce-kind-at-requires t c κs =
     search needs
 
--- src/coerce.rt:71:9
-coerce-resolve-requires : (t : ℕ) → coerce-lts.Need-resolve-requires (coerce-calls t) (coerce-at t) coerce.Post
-coerce-resolve-requires t c κs =
-    (omega (arith, (c .before .before .before .before .before .before .before .before .before .pre .0), (c .before .before .before .before .before .before .if1 .left)), (c .before .before .before .before .before .before .before .before .before .pre .1))
+-- src/coerce.rt:72:9
+coerce-kind-at-requires-2 : (t : ℕ) → coerce-lts.Need-kind-at-requires-2 (coerce-calls t) (coerce-at t) coerce.Post
+coerce-kind-at-requires-2 t c κs =
+    search needs
 
--- src/coerce.rt:71:9
+-- src/coerce.rt:73:8
+coerce-both-requires : (t : ℕ) → coerce-lts.Need-both-requires (coerce-calls t) (coerce-at t) coerce.Post
+coerce-both-requires t c κs =
+    search needs
+
+-- src/coerce.rt:74:9
+coerce-plain-rule-requires : (t : ℕ) → coerce-lts.Need-plain-rule-requires (coerce-calls t) (coerce-at t) coerce.Post
+coerce-plain-rule-requires t c κs =
+    (c .before .before .before .before .before .before .before .before .before .before .before .before .before .before .pre .1)
+
+-- src/coerce.rt:74:9
 coerce-same-length-2 : (t : ℕ) → coerce-lts.Need-same-length-2 (coerce-calls t) (coerce-at t) coerce.Post
 coerce-same-length-2 t c =
     search needs
 
--- src/coerce.rt:71:9
+-- src/coerce.rt:74:9
 coerce-returns-3 : (t : ℕ) → coerce-lts.Need-returns-3 (coerce-calls t) (coerce-at t) coerce.Post
 coerce-returns-3 t c =
-    coerce-list (c .before .before .before .before .before .before .before .before .before .before .before .before .args .question) (c .before .before .before .before .before .before .before .before .before .before .before .before .args .mask) (c .before .before .before .before .before .before .before .before .before .before .before .before .args .space) (c .before .before .before .before .before .before .before .before .before .before .before .before .args .left) (c .before .before .before .before .before .before .before .before .before .before .before .before .args .swap) _ _ _ _ _ (c .before .before .before .before .before .before .before .before .is-list-question .ensures) (c .before .before .before .before .before .before .same-sides .ensures) _ _ (c .before .before .before .before .before .if2 .left) (c .before .before .before .before .if3 .taken) (c .before .before .before .before .before .before .before .before .before .if1 .left) (c .before .before .resolve .ensures)
+    coerce-plain (c .before .before .before .before .before .before .before .before .before .before .before .before .before .before .before .before .before .args .question) (c .before .before .before .before .before .before .before .before .before .before .before .before .before .before .before .before .before .args .mask) (c .before .before .before .before .before .before .before .before .before .before .before .before .before .before .before .before .before .args .space) (c .before .before .before .before .before .before .before .before .before .before .before .before .before .before .before .before .before .args .left) (c .before .before .before .before .before .before .before .before .before .before .before .before .before .before .before .before .before .args .swap) _ _ _ _ _ (c .before .before .before .before .before .before .before .before .before .before .before .before .before .is-list-question .ensures) (c .before .before .before .before .before .before .before .before .before .before .before .same-sides .ensures) _ _ (c .before .before .before .before .before .before .before .before .before .before .if2 .left) (c .before .before .before .before .before .before .before .before .kind-at .ensures) (c .before .before .before .before .before .before .kind-at2 .ensures) (sym (c .before .before .before .before .before .both .ensures) ∙ (c .before .before .before .before .if3 .taken)) (c .before .before .plain-rule .ensures)
 
--- src/coerce.rt:73:48
-coerce-sub-unwrap : (t : ℕ) → coerce-lts.Need-sub-unwrap (coerce-calls t) (coerce-at t) coerce.Post
-coerce-sub-unwrap t c =
+-- src/coerce.rt:77:60
+coerce-sub-resolve : (t : ℕ) → coerce-lts.Need-sub-resolve (coerce-calls t) (coerce-at t) coerce.Post
+coerce-sub-resolve t c =
     search needs
 
--- src/coerce.rt:73:5
-coerce-unwrap-requires : (t : ℕ) → coerce-lts.Need-unwrap-requires (coerce-calls t) (coerce-at t) coerce.Post
-coerce-unwrap-requires t c κs =
-    (omega (arith, (c .before .before .before .before .before .before .before .before .before .pre .0), (c .before .before .before .before .before .before .if1 .left)), (c .before .before .before .before .before .before .before .before .before .pre .1))
+-- src/coerce.rt:77:9
+coerce-resolve-requires : (t : ℕ) → coerce-lts.Need-resolve-requires (coerce-calls t) (coerce-at t) coerce.Post
+coerce-resolve-requires t c κs =
+    (omega (arith, (c .before .before .before .before .before .before .before .before .before .before .before .before .before .before .before .pre .0), (c .before .before .before .before .before .before .before .before .before .before .before .before .if1 .left)), (c .before .before .before .before .before .before .before .before .before .before .before .before .before .before .before .pre .1))
 
--- src/coerce.rt:48:1
+-- src/coerce.rt:77:9
 coerce-same-length-3 : (t : ℕ) → coerce-lts.Need-same-length-3 (coerce-calls t) (coerce-at t) coerce.Post
 coerce-same-length-3 t c =
     search needs
 
--- src/coerce.rt:48:1
+-- src/coerce.rt:77:9
 coerce-returns-4 : (t : ℕ) → coerce-lts.Need-returns-4 (coerce-calls t) (coerce-at t) coerce.Post
 coerce-returns-4 t c =
-    coerce-pair (c .before .before .before .before .before .before .before .before .before .before .before .before .args .question) (c .before .before .before .before .before .before .before .before .before .before .before .before .args .mask) (c .before .before .before .before .before .before .before .before .before .before .before .before .args .space) (c .before .before .before .before .before .before .before .before .before .before .before .before .args .left) (c .before .before .before .before .before .before .before .before .before .before .before .before .args .swap) _ _ _ _ _ (c .before .before .before .before .before .before .before .before .is-list-question .ensures) (c .before .before .before .before .before .before .same-sides .ensures) _ _ (c .before .before .before .before .before .if2 .left) (c .before .before .before .before .if3 .left) (c .before .before .before .before .before .before .before .before .before .if1 .left) (c .before .before .unwrap .ensures)
+    coerce-list (c .before .before .before .before .before .before .before .before .before .before .before .before .before .before .before .before .before .before .args .question) (c .before .before .before .before .before .before .before .before .before .before .before .before .before .before .before .before .before .before .args .mask) (c .before .before .before .before .before .before .before .before .before .before .before .before .before .before .before .before .before .before .args .space) (c .before .before .before .before .before .before .before .before .before .before .before .before .before .before .before .before .before .before .args .left) (c .before .before .before .before .before .before .before .before .before .before .before .before .before .before .before .before .before .before .args .swap) _ _ _ _ _ (c .before .before .before .before .before .before .before .before .before .before .before .before .before .before .is-list-question .ensures) (c .before .before .before .before .before .before .before .before .before .before .before .before .same-sides .ensures) _ _ (c .before .before .before .before .before .before .before .before .before .before .before .if2 .left) (c .before .before .before .before .if4 .taken) (c .before .before .before .before .before .before .before .before .before .before .before .before .before .before .before .if1 .left) (c .before .before .resolve .ensures)
 
--- src/coerce.rt:224:9
+-- src/coerce.rt:79:48
+coerce-sub-unwrap : (t : ℕ) → coerce-lts.Need-sub-unwrap (coerce-calls t) (coerce-at t) coerce.Post
+coerce-sub-unwrap t c =
+    search needs
+
+-- src/coerce.rt:79:5
+coerce-unwrap-requires : (t : ℕ) → coerce-lts.Need-unwrap-requires (coerce-calls t) (coerce-at t) coerce.Post
+coerce-unwrap-requires t c κs =
+    (omega (arith, (c .before .before .before .before .before .before .before .before .before .before .before .before .before .before .before .pre .0), (c .before .before .before .before .before .before .before .before .before .before .before .before .if1 .left)), (c .before .before .before .before .before .before .before .before .before .before .before .before .before .before .before .pre .1))
+
+-- src/coerce.rt:49:1
+coerce-same-length-4 : (t : ℕ) → coerce-lts.Need-same-length-4 (coerce-calls t) (coerce-at t) coerce.Post
+coerce-same-length-4 t c =
+    search needs
+
+-- src/coerce.rt:49:1
+coerce-returns-5 : (t : ℕ) → coerce-lts.Need-returns-5 (coerce-calls t) (coerce-at t) coerce.Post
+coerce-returns-5 t c =
+    coerce-pair (c .before .before .before .before .before .before .before .before .before .before .before .before .before .before .before .before .before .before .args .question) (c .before .before .before .before .before .before .before .before .before .before .before .before .before .before .before .before .before .before .args .mask) (c .before .before .before .before .before .before .before .before .before .before .before .before .before .before .before .before .before .before .args .space) (c .before .before .before .before .before .before .before .before .before .before .before .before .before .before .before .before .before .before .args .left) (c .before .before .before .before .before .before .before .before .before .before .before .before .before .before .before .before .before .before .args .swap) _ _ _ _ _ (c .before .before .before .before .before .before .before .before .before .before .before .before .before .before .is-list-question .ensures) (c .before .before .before .before .before .before .before .before .before .before .before .before .same-sides .ensures) _ _ (c .before .before .before .before .before .before .before .before .before .before .before .if2 .left) (c .before .before .before .before .if4 .left) (c .before .before .before .before .before .before .before .before .before .before .before .before .before .before .before .if1 .left) (c .before .before .unwrap .ensures)
+
+-- src/coerce.rt:278:9
 coerce-field-look-requires : (t : ℕ) → coerce-field-lts.Need-look-requires (coerce-field-calls t) (coerce-field-at t) coerce-field.Post
 coerce-field-look-requires t c κs =
     search needs
 
--- src/coerce.rt:226:9
+-- src/coerce.rt:280:9
 coerce-field-is-nullable-requires : (t : ℕ) → coerce-field-lts.Need-is-nullable-requires (coerce-field-calls t) (coerce-field-at t) coerce-field.Post
 coerce-field-is-nullable-requires t c κs =
     search needs
 
--- src/coerce.rt:227:8
+-- src/coerce.rt:281:8
 coerce-field-name-field-requires : (t : ℕ) → coerce-field-lts.Need-name-field-requires (coerce-field-calls t) (coerce-field-at t) coerce-field.Post
 coerce-field-name-field-requires t c κs =
     ((c .before .before .before .before .before .before .pre .1 .0), ((c .before .before .before .before .before .before .pre .1 .1), (c .before .before .look .ensures .1)))
 
--- src/coerce.rt:229:9
+-- src/coerce.rt:288:9
 coerce-field-coerce-requires : (t : ℕ) → coerce-field-lts.Need-coerce-requires (coerce-field-calls t) (coerce-field-at t) coerce-field.Post
 coerce-field-coerce-requires t c κs =
     (omega (arith, (c .before .before .before .before .before .before .before .before .before .before .before .pre .0)), (room-kept ((c .before .before .before .before .name-field .ensures .kept)) (c .before .before .before .before .before .before .before .before .before .before .before .pre .1 .0), field-ready _ (c .before .before .before .before .before .before .before .before .before .before .before .pre .1 .1) (c .before .before .before .before .before .before .before .look .ensures .1) (c .before .if1 .taken) (c .before .before .before .before .name-field .ensures)))
 
--- src/coerce.rt:229:9
+-- src/coerce.rt:288:9
 coerce-field-same-length : (t : ℕ) → coerce-field-lts.Need-same-length (coerce-field-calls t) (coerce-field-at t) coerce-field.Post
 coerce-field-same-length t c =
     search needs
 
--- src/coerce.rt:229:9
+-- src/coerce.rt:288:9
 coerce-field-returns : (t : ℕ) → coerce-field-lts.Need-returns (coerce-field-calls t) (coerce-field-at t) coerce-field.Post
 coerce-field-returns t c =
     field-merged _ _ _ _ _ _ _ _ _ _ (c .before .before .before .before .before .before .before .before .before .before .look .ensures .0) _ _ (c .before .before .before .before .before .before .before .name-field .ensures) _ _ _ (c .before .before .before .before .before .before .before .before .before .before .before .before .before .before .pre .1 .0) (c .before .before .before .before .if1 .taken) (c .before .before .before .before .before .before .before .before .before .is-nullable .ensures) (c .before .before .coerce .ensures)
 
--- src/coerce.rt:209:1
+-- src/coerce.rt:263:1
 coerce-field-same-length-2 : (t : ℕ) → coerce-field-lts.Need-same-length-2 (coerce-field-calls t) (coerce-field-at t) coerce-field.Post
 coerce-field-same-length-2 t c =
     search needs
 
--- src/coerce.rt:209:1
+-- src/coerce.rt:263:1
 coerce-field-returns-2 : (t : ℕ) → coerce-field-lts.Need-returns-2 (coerce-field-calls t) (coerce-field-at t) coerce-field.Post
 coerce-field-returns-2 t c =
     field-crowded _ _ _ _ _ _ _ _ _ _ (c .before .before .before .before .before .before .look .ensures .0) _ _ (c .before .before .before .name-field .ensures) (c .if1 .left)
 
--- src/coerce.rt:496:9
+-- src/coerce.rt:643:9
 entry-look-requires : (t : ℕ) → entry-lts.Need-look-requires (entry-calls t) (entry-at t) entry.Post
 entry-look-requires t c κs =
     search needs
 
--- src/coerce.rt:498:9
+-- src/coerce.rt:645:9
 entry-is-nullable-requires : (t : ℕ) → entry-lts.Need-is-nullable-requires (entry-calls t) (entry-at t) entry.Post
 entry-is-nullable-requires t c κs =
     search needs
 
--- src/coerce.rt:499:8
+-- src/coerce.rt:646:8
 entry-name-field-requires : (t : ℕ) → entry-lts.Need-name-field-requires (entry-calls t) (entry-at t) entry.Post
 entry-name-field-requires t c κs =
     ((c .before .before .before .before .before .before .pre .1 .0), ((c .before .before .before .before .before .before .pre .1 .1), (c .before .before .look .ensures .1)))
 
--- src/coerce.rt:501:9
+-- src/coerce.rt:653:9
 entry-struct-rule-requires : (t : ℕ) → entry-lts.Need-struct-rule-requires (entry-calls t) (entry-at t) entry.Post
 entry-struct-rule-requires t c κs =
     (omega (arith, (c .before .before .before .before .before .before .before .before .before .before .before .pre .0)), (room-kept ((c .before .before .before .before .name-field .ensures .kept)) (c .before .before .before .before .before .before .before .before .before .before .before .pre .1 .0), field-ready _ (c .before .before .before .before .before .before .before .before .before .before .before .pre .1 .1) (c .before .before .before .before .before .before .before .look .ensures .1) (c .before .if1 .taken) (c .before .before .before .before .name-field .ensures)))
 
--- src/coerce.rt:501:9
+-- src/coerce.rt:653:9
 entry-same-length : (t : ℕ) → entry-lts.Need-same-length (entry-calls t) (entry-at t) entry.Post
 entry-same-length t c =
     search needs
 
--- src/coerce.rt:501:9
+-- src/coerce.rt:653:9
 entry-returns : (t : ℕ) → entry-lts.Need-returns (entry-calls t) (entry-at t) entry.Post
 entry-returns t c =
     field-merged _ _ _ _ _ _ _ _ _ _ (c .before .before .before .before .before .before .before .before .before .before .look .ensures .0) _ _ (c .before .before .before .before .before .before .before .name-field .ensures) _ _ _ (c .before .before .before .before .before .before .before .before .before .before .before .before .before .before .pre .1 .0) (c .before .before .before .before .if1 .taken) (c .before .before .before .before .before .before .before .before .before .is-nullable .ensures) (c .before .before .struct-rule .ensures)
 
--- src/coerce.rt:481:1
+-- src/coerce.rt:628:1
 entry-same-length-2 : (t : ℕ) → entry-lts.Need-same-length-2 (entry-calls t) (entry-at t) entry.Post
 entry-same-length-2 t c =
     search needs
 
--- src/coerce.rt:481:1
+-- src/coerce.rt:628:1
 entry-returns-2 : (t : ℕ) → entry-lts.Need-returns-2 (entry-calls t) (entry-at t) entry.Post
 entry-returns-2 t c =
     field-crowded _ _ _ _ _ _ _ _ _ _ (c .before .before .before .before .before .before .look .ensures .0) _ _ (c .before .before .before .name-field .ensures) (c .if1 .left)
 
--- src/coerce.rt:381:9
+-- src/coerce.rt:451:9
 list-rule-look-requires : (t : ℕ) → list-rule-lts.Need-look-requires (list-rule-calls t) (list-rule-at t) list-rule.Post
 list-rule-look-requires t c κs =
     search needs
 
--- src/coerce.rt:382:9
+-- src/coerce.rt:452:9
 list-rule-look-requires-2 : (t : ℕ) → list-rule-lts.Need-look-requires-2 (list-rule-calls t) (list-rule-at t) list-rule.Post
 list-rule-look-requires-2 t c κs =
     search needs
 
--- src/coerce.rt:383:9
+-- src/coerce.rt:453:9
 list-rule-list-kind-requires : (t : ℕ) → list-rule-lts.Need-list-kind-requires (list-rule-calls t) (list-rule-at t) list-rule.Post
 list-rule-list-kind-requires t c κs =
     search needs
 
--- src/coerce.rt:384:9
+-- src/coerce.rt:454:9
 list-rule-list-size-requires : (t : ℕ) → list-rule-lts.Need-list-size-requires (list-rule-calls t) (list-rule-at t) list-rule.Post
 list-rule-list-size-requires t c κs =
     search needs
 
--- src/coerce.rt:387:5
+-- src/coerce.rt:457:5
 list-rule-under-requires : (t : ℕ) → list-rule-lts.Need-under-requires (list-rule-calls t) (list-rule-at t) list-rule.Post
 list-rule-under-requires t c κs =
     (omega (arith, (c .before .before .before .before .before .before .before .before .before .pre .0)), ((c .before .before .before .before .before .before .before .before .before .pre .1), (c .before .list-size .ensures .1)))
 
--- src/coerce.rt:366:1
+-- src/coerce.rt:436:1
 list-rule-same-length : (t : ℕ) → list-rule-lts.Need-same-length (list-rule-calls t) (list-rule-at t) list-rule.Post
 list-rule-same-length t c =
     search needs
 
--- src/coerce.rt:366:1
+-- src/coerce.rt:436:1
 list-rule-returns : (t : ℕ) → list-rule-lts.Need-returns (list-rule-calls t) (list-rule-at t) list-rule.Post
 list-rule-returns t c =
     list-merged _ _ _ (c .before .before .before .before .before .before .before .before .before .before .before .before .args .swap) _ _ _ _ _ _ _ (c .before .before .before .before .before .before .before .before .look .ensures .0) (c .before .before .before .before .before .before .look2 .ensures .0) (c .before .before .before .before .before .list-kind .ensures) (c .before .before .before .before .list-size .ensures .0) _ _ (c .before .before .under .ensures)
 
--- src/coerce.rt:436:13
+-- src/coerce.rt:554:13
 list-struct-look-requires : (t : ℕ) → list-struct-lts.Need-look-requires (list-struct-calls t) (list-struct-at t) list-struct.Post
 list-struct-look-requires t c κs =
     search needs
 
--- src/coerce.rt:437:13
+-- src/coerce.rt:555:13
 list-struct-look-requires-2 : (t : ℕ) → list-struct-lts.Need-look-requires-2 (list-struct-calls t) (list-struct-at t) list-struct.Post
 list-struct-look-requires-2 t c κs =
     search needs
 
--- src/coerce.rt:438:13
+-- src/coerce.rt:557:9
 list-struct-same-arity-requires : (t : ℕ) → list-struct-lts.Need-same-arity-requires (list-struct-calls t) (list-struct-at t) list-struct.Post
 list-struct-same-arity-requires t c κs =
     search needs
 
--- src/coerce.rt:438:62
+-- src/coerce.rt:558:9
 list-struct-have-same-names-requires : (t : ℕ) → list-struct-lts.Need-have-same-names-requires (list-struct-calls t) (list-struct-at t) list-struct.Post
 list-struct-have-same-names-requires t c κs =
     (c .before .before .before .before .before .before .before .before .before .pre .1 .0 .0 .few)
 
--- src/coerce.rt:438:8
+-- src/coerce.rt:556:8
 list-struct-both-requires : (t : ℕ) → list-struct-lts.Need-both-requires (list-struct-calls t) (list-struct-at t) list-struct.Post
 list-struct-both-requires t c κs =
     search needs
 
--- src/coerce.rt:439:9
+-- src/coerce.rt:560:9
 list-struct-under-requires : (t : ℕ) → list-struct-lts.Need-under-requires (list-struct-calls t) (list-struct-at t) list-struct.Post
 list-struct-under-requires t c κs =
     (omega (arith, (c .before .before .before .before .before .before .before .before .before .before .before .before .before .pre .0)), ((c .before .before .before .before .before .before .before .before .before .before .before .before .before .pre .1 .0), omega arith))
 
--- src/coerce.rt:439:9
+-- src/coerce.rt:560:9
 list-struct-same-length : (t : ℕ) → list-struct-lts.Need-same-length (list-struct-calls t) (list-struct-at t) list-struct.Post
 list-struct-same-length t c =
     search needs
 
--- src/coerce.rt:439:9
+-- src/coerce.rt:560:9
 list-struct-returns : (t : ℕ) → list-struct-lts.Need-returns (list-struct-calls t) (list-struct-at t) list-struct.Post
 list-struct-returns t c =
     listed-merged _ _ _ (c .before .before .before .before .before .before .before .before .before .before .before .before .before .before .before .before .args .swap) _ _ _ _ _ _ _ (c .before .before .before .before .before .before .before .before .before .before .before .before .look .ensures .0) (c .before .before .before .before .before .before .before .before .before .before .look2 .ensures .0) (c .before .before .before .before .before .before .before .before .same-arity .ensures) (c .before .before .before .before .before .before .have-same-names .ensures) (sym (c .before .before .before .before .before .both .ensures) ∙ (c .before .before .before .before .if1 .taken)) (c .before .before .before .before .before .before .before .before .before .before .before .before .before .before .before .before .pre .1 .1) _ _ (c .before .before .under .ensures)
 
--- src/coerce.rt:420:1
+-- src/coerce.rt:538:1
 list-struct-same-length-2 : (t : ℕ) → list-struct-lts.Need-same-length-2 (list-struct-calls t) (list-struct-at t) list-struct.Post
 list-struct-same-length-2 t c =
     search needs
 
--- src/coerce.rt:420:1
+-- src/coerce.rt:538:1
 list-struct-returns-2 : (t : ℕ) → list-struct-lts.Need-returns-2 (list-struct-calls t) (list-struct-at t) list-struct.Post
 list-struct-returns-2 t c =
     listed-none _ _ _ (c .before .before .before .before .before .before .before .before .before .before .before .before .args .swap) _ _ _ _ _ _ _ (c .before .before .before .before .before .before .before .before .look .ensures .0) (c .before .before .before .before .before .before .look2 .ensures .0) (c .before .before .before .before .same-arity .ensures) (c .before .before .have-same-names .ensures) (sym (c .before .both .ensures) ∙ (c .if1 .left))
 
--- src/coerce.rt:461:17
+-- src/coerce.rt:597:17
 map-rule-add-label : (t : ℕ) → map-rule-lts.Need-add-label (map-rule-calls t) (map-rule-at t) map-rule.Post
 map-rule-add-label t c =
     search needs
 
--- src/coerce.rt:463:9
+-- src/coerce.rt:599:9
 map-rule-returns : (t : ℕ) → map-rule-lts.Need-returns (map-rule-calls t) (map-rule-at t) map-rule.Post
 map-rule-returns t c =
     merges-full _ _ _ _ _ _ _ _ _ (c .if1 .taken)
 
--- src/coerce.rt:465:9
+-- src/coerce.rt:601:9
 map-rule-look-requires : (t : ℕ) → map-rule-lts.Need-look-requires (map-rule-calls t) (map-rule-at t) map-rule.Post
 map-rule-look-requires t c κs =
     search needs
 
--- src/coerce.rt:466:9
+-- src/coerce.rt:602:9
 map-rule-look-requires-2 : (t : ℕ) → map-rule-lts.Need-look-requires-2 (map-rule-calls t) (map-rule-at t) map-rule.Post
 map-rule-look-requires-2 t c κs =
     search needs
 
--- src/coerce.rt:469:9
+-- src/coerce.rt:605:9
 map-rule-both-requires : (t : ℕ) → map-rule-lts.Need-both-requires (map-rule-calls t) (map-rule-at t) map-rule.Post
 map-rule-both-requires t c κs =
     search needs
 
--- src/coerce.rt:471:9
+-- src/coerce.rt:607:9
 map-rule-same-length : (t : ℕ) → map-rule-lts.Need-same-length (map-rule-calls t) (map-rule-at t) map-rule.Post
 map-rule-same-length t c =
     search needs
 
--- src/coerce.rt:471:9
+-- src/coerce.rt:607:9
 map-rule-returns-2 : (t : ℕ) → map-rule-lts.Need-returns-2 (map-rule-calls t) (map-rule-at t) map-rule.Post
 map-rule-returns-2 t c =
     map-left-end _ _ _ _ _ _ _ _ _ _ _ (c .before .before .before .before .before .before .look .ensures .0) (c .before .before .before .before .look2 .ensures .0) (c .if2 .taken)
 
--- src/coerce.rt:474:9
+-- src/coerce.rt:610:9
 map-rule-same-length-2 : (t : ℕ) → map-rule-lts.Need-same-length-2 (map-rule-calls t) (map-rule-at t) map-rule.Post
 map-rule-same-length-2 t c =
     search needs
 
--- src/coerce.rt:474:9
+-- src/coerce.rt:610:9
 map-rule-returns-3 : (t : ℕ) → map-rule-lts.Need-returns-3 (map-rule-calls t) (map-rule-at t) map-rule.Post
 map-rule-returns-3 t c =
     map-right-end _ _ _ _ _ _ _ _ _ _ _ (c .before .before .before .before .before .before .before .look .ensures .0) (c .before .before .before .before .before .look2 .ensures .0) (c .if3 .taken)
 
--- src/coerce.rt:476:46
+-- src/coerce.rt:612:46
 map-rule-add-lay : (t : ℕ) → map-rule-lts.Need-add-lay (map-rule-calls t) (map-rule-at t) map-rule.Post
 map-rule-add-lay t c =
     search needs
 
--- src/coerce.rt:476:5
+-- src/coerce.rt:612:5
 map-rule-lay-requires : (t : ℕ) → map-rule-lts.Need-lay-requires (map-rule-calls t) (map-rule-at t) map-rule.Post
 map-rule-lay-requires t c κs =
     ((c .before .before .before .before .before .before .before .before .before .before .before .before .before .before .before .pre .1), ((c .before .before .before .before .before .before .before .before .before .before .if1 .left), (omega arith, omega (arith, (c .before .before .before .before .before .before .before .before .before .before .if1 .left), (c .before .before .before .before .before .before .before .before .before .before .before .before .before .before .before .pre .1 .0 .few)))))
 
--- src/coerce.rt:477:76
+-- src/coerce.rt:623:20
 map-rule-add-t31 : (t : ℕ) → map-rule-lts.Need-add-t31 (map-rule-calls t) (map-rule-at t) map-rule.Post
 map-rule-add-t31 t c =
     record { fits = omega (arith, (c .before .before .before .before .before .before .before .before .before .before .before .before .before .before .if1 .left), (c .before .before .before .before .before .before .before .before .before .before .before .before .before .before .before .before .before .before .before .pre .1 .0 .few)) }
 
--- src/coerce.rt:477:5
+-- src/coerce.rt:613:5
 map-rule-entry-requires : (t : ℕ) → map-rule-lts.Need-entry-requires (map-rule-calls t) (map-rule-at t) map-rule.Post
 map-rule-entry-requires t c κs =
     (omega (arith, (c .before .before .before .before .before .before .before .before .before .before .before .before .before .before .before .before .before .before .before .pre .0)), (room-kept ((c .before .before .before .lay .ensures .kept)) (c .before .before .before .before .before .before .before .before .before .before .before .before .before .before .before .before .before .before .before .pre .1 .0), after-passes _ (c .before .before .before .before .before .before .before .before .before .before .before .before .before .before .before .before .before .before .before .pre .1 .1) (c .before .before .before .before .before .before .before .before .before .before .before .before .before .before .if1 .left) .0))
 
--- src/coerce.rt:445:1
+-- src/coerce.rt:581:1
 map-rule-same-length-3 : (t : ℕ) → map-rule-lts.Need-same-length-3 (map-rule-calls t) (map-rule-at t) map-rule.Post
 map-rule-same-length-3 t c =
     search needs
 
--- src/coerce.rt:445:1
+-- src/coerce.rt:581:1
 map-rule-returns-4 : (t : ℕ) → map-rule-lts.Need-returns-4 (map-rule-calls t) (map-rule-at t) map-rule.Post
 map-rule-returns-4 t c =
     map-on _ _ _ _ _ _ _ _ _ _ _ (c .before .before .before .before .before .before .before .before .before .before .before .before .before .before .before .look .ensures .0) (c .before .before .before .before .before .before .before .before .before .before .before .before .before .look2 .ensures .0) (c .before .before .before .before .before .before .before .before .before .before .before .before .before .before .before .before .before .before .before .before .before .before .pre .1 .0) (c .before .before .before .before .before .before .before .before .before .before .before .before .before .before .before .before .before .before .before .before .before .before .pre .1 .1) (c .before .before .before .before .before .before .before .before .before .before .before .before .before .before .before .before .before .if1 .left) _ _ _ _ (c .before .before .before .before .before .before .before .before .before .before .both .ensures) (c .before .before .before .before .before .before .before .before .before .if2 .left) (c .before .before .before .before .before .before .before .before .if3 .left) (c .before .before .before .before .before .before .lay .ensures) (c .before .before .entry .ensures)
 
--- src/coerce.rt:317:9
-nested-look-requires : (t : ℕ) → nested-lts.Need-look-requires (nested-calls t) (nested-at t) nested.Post
-nested-look-requires t c κs =
+-- src/coerce.rt:376:9
+nested-kind-at-requires : (t : ℕ) → nested-lts.Need-kind-at-requires (nested-calls t) (nested-at t) nested.Post
+nested-kind-at-requires t c κs =
     search needs
 
--- src/coerce.rt:318:9
-nested-look-requires-2 : (t : ℕ) → nested-lts.Need-look-requires-2 (nested-calls t) (nested-at t) nested.Post
-nested-look-requires-2 t c κs =
+-- src/coerce.rt:377:9
+nested-kind-at-requires-2 : (t : ℕ) → nested-lts.Need-kind-at-requires-2 (nested-calls t) (nested-at t) nested.Post
+nested-kind-at-requires-2 t c κs =
     search needs
 
--- src/coerce.rt:321:13
+-- src/coerce.rt:378:13
 nested-is-list-requires : (t : ℕ) → nested-lts.Need-is-list-requires (nested-calls t) (nested-at t) nested.Post
 nested-is-list-requires t c κs =
     search needs
 
--- src/coerce.rt:321:25
+-- src/coerce.rt:378:25
 nested-is-list-requires-2 : (t : ℕ) → nested-lts.Need-is-list-requires-2 (nested-calls t) (nested-at t) nested.Post
 nested-is-list-requires-2 t c κs =
     search needs
 
--- src/coerce.rt:321:8
+-- src/coerce.rt:378:8
 nested-both-requires : (t : ℕ) → nested-lts.Need-both-requires (nested-calls t) (nested-at t) nested.Post
 nested-both-requires t c κs =
     search needs
 
--- src/coerce.rt:322:9
+-- src/coerce.rt:379:9
 nested-list-rule-requires : (t : ℕ) → nested-lts.Need-list-rule-requires (nested-calls t) (nested-at t) nested.Post
 nested-list-rule-requires t c κs =
     (omega (arith, (c .before .before .before .before .before .before .before .before .before .before .before .pre .0)), (c .before .before .before .before .before .before .before .before .before .before .before .pre .1))
 
--- src/coerce.rt:322:9
+-- src/coerce.rt:379:9
 nested-same-length : (t : ℕ) → nested-lts.Need-same-length (nested-calls t) (nested-at t) nested.Post
 nested-same-length t c =
     search needs
 
--- src/coerce.rt:322:9
+-- src/coerce.rt:379:9
 nested-returns : (t : ℕ) → nested-lts.Need-returns (nested-calls t) (nested-at t) nested.Post
 nested-returns t c =
-    nested-list _ _ _ _ (c .before .before .before .before .before .before .before .before .before .before .before .before .before .before .args .swap) _ _ _ _ _ _ _ (c .before .before .before .before .before .before .before .before .before .before .look .ensures .0) (c .before .before .before .before .before .before .before .before .look2 .ensures .0) _ _ (and-are (c .before .before .before .before .before .before .before .is-list .ensures) (c .before .before .before .before .before .before .is-list2 .ensures) (c .before .before .before .before .before .both .ensures) ∙ (c .before .before .before .before .if1 .taken)) (c .before .before .list-rule .ensures)
+    nested-list _ _ _ _ (c .before .before .before .before .before .before .before .before .before .before .before .before .before .before .args .swap) _ _ _ _ _ (c .before .before .before .before .before .before .before .before .before .before .kind-at .ensures) (c .before .before .before .before .before .before .before .before .kind-at2 .ensures) _ _ (and-are (c .before .before .before .before .before .before .before .is-list .ensures) (c .before .before .before .before .before .before .is-list2 .ensures) (c .before .before .before .before .before .both .ensures) ∙ (c .before .before .before .before .if1 .taken)) (c .before .before .list-rule .ensures)
 
--- src/coerce.rt:324:8
+-- src/coerce.rt:381:8
 nested-both-requires-2 : (t : ℕ) → nested-lts.Need-both-requires-2 (nested-calls t) (nested-at t) nested.Post
 nested-both-requires-2 t c κs =
     search needs
 
--- src/coerce.rt:325:12
+-- src/coerce.rt:382:12
 nested-is-list-question-requires : (t : ℕ) → nested-lts.Need-is-list-question-requires (nested-calls t) (nested-at t) nested.Post
 nested-is-list-question-requires t c κs =
     search needs
 
--- src/coerce.rt:326:13
+-- src/coerce.rt:383:13
 nested-list-struct-requires : (t : ℕ) → nested-lts.Need-list-struct-requires (nested-calls t) (nested-at t) nested.Post
 nested-list-struct-requires t c κs =
-    (omega (arith, (c .before .before .before .before .before .before .before .before .before .before .before .before .before .before .before .pre .0)), ((c .before .before .before .before .before .before .before .before .before .before .before .before .before .before .before .pre .1), left-is _ _ _ (c .before .before .before .before .before .before .before .before .before .look2 .result) (c .before .before .before .before .before .before .before .before .before .before .before .look .ensures .0) (sym (c .before .before .before .before .both2 .ensures) ∙ (c .before .before .before .if2 .taken))))
+    (omega (arith, (c .before .before .before .before .before .before .before .before .before .before .before .before .before .before .before .pre .0)), ((c .before .before .before .before .before .before .before .before .before .before .before .before .before .before .before .pre .1), left-is _ _ _ (c .before .before .before .before .before .before .before .before .before .kind-at2 .result) (c .before .before .before .before .before .before .before .before .before .before .before .kind-at .ensures) (sym (c .before .before .before .before .both2 .ensures) ∙ (c .before .before .before .if2 .taken))))
 
--- src/coerce.rt:326:13
+-- src/coerce.rt:383:13
 nested-same-length-2 : (t : ℕ) → nested-lts.Need-same-length-2 (nested-calls t) (nested-at t) nested.Post
 nested-same-length-2 t c =
     search needs
 
--- src/coerce.rt:326:13
+-- src/coerce.rt:383:13
 nested-returns-2 : (t : ℕ) → nested-lts.Need-returns-2 (nested-calls t) (nested-at t) nested.Post
 nested-returns-2 t c =
-    nested-listed _ _ _ _ (c .before .before .before .before .before .before .before .before .before .before .before .before .before .before .before .before .before .before .args .swap) _ _ _ _ _ _ _ (c .before .before .before .before .before .before .before .before .before .before .before .before .before .before .look .ensures .0) (c .before .before .before .before .before .before .before .before .before .before .before .before .look2 .ensures .0) _ _ (and-are (c .before .before .before .before .before .before .before .before .before .before .before .is-list .ensures) (c .before .before .before .before .before .before .before .before .before .before .is-list2 .ensures) (c .before .before .before .before .before .before .before .before .before .both .ensures) ∙ (c .before .before .before .before .before .before .before .before .if1 .left)) (sym (c .before .before .before .before .before .before .before .both2 .ensures) ∙ (c .before .before .before .before .before .before .if2 .taken)) (sym (c .before .before .before .before .before .is-list-question .ensures) ∙ (c .before .before .before .before .if3 .taken)) (c .before .before .list-struct .ensures)
+    nested-listed _ _ _ _ (c .before .before .before .before .before .before .before .before .before .before .before .before .before .before .before .before .before .before .args .swap) _ _ _ _ _ (c .before .before .before .before .before .before .before .before .before .before .before .before .before .before .kind-at .ensures) (c .before .before .before .before .before .before .before .before .before .before .before .before .kind-at2 .ensures) _ _ (and-are (c .before .before .before .before .before .before .before .before .before .before .before .is-list .ensures) (c .before .before .before .before .before .before .before .before .before .before .is-list2 .ensures) (c .before .before .before .before .before .before .before .before .before .both .ensures) ∙ (c .before .before .before .before .before .before .before .before .if1 .left)) (sym (c .before .before .before .before .before .before .before .both2 .ensures) ∙ (c .before .before .before .before .before .before .if2 .taken)) (sym (c .before .before .before .before .before .is-list-question .ensures) ∙ (c .before .before .before .before .if3 .taken)) (c .before .before .list-struct .ensures)
 
--- src/coerce.rt:328:9
+-- src/coerce.rt:385:9
 nested-struct-rule-requires : (t : ℕ) → nested-lts.Need-struct-rule-requires (nested-calls t) (nested-at t) nested.Post
 nested-struct-rule-requires t c κs =
     (omega (arith, (c .before .before .before .before .before .before .before .before .before .before .before .before .before .before .before .pre .0)), (c .before .before .before .before .before .before .before .before .before .before .before .before .before .before .before .pre .1))
 
--- src/coerce.rt:328:9
+-- src/coerce.rt:385:9
 nested-same-length-3 : (t : ℕ) → nested-lts.Need-same-length-3 (nested-calls t) (nested-at t) nested.Post
 nested-same-length-3 t c =
     search needs
 
--- src/coerce.rt:328:9
+-- src/coerce.rt:385:9
 nested-returns-3 : (t : ℕ) → nested-lts.Need-returns-3 (nested-calls t) (nested-at t) nested.Post
 nested-returns-3 t c =
-    nested-struct _ _ _ _ (c .before .before .before .before .before .before .before .before .before .before .before .before .before .before .before .before .before .before .args .swap) _ _ _ _ _ _ _ (c .before .before .before .before .before .before .before .before .before .before .before .before .before .before .look .ensures .0) (c .before .before .before .before .before .before .before .before .before .before .before .before .look2 .ensures .0) _ _ (and-are (c .before .before .before .before .before .before .before .before .before .before .before .is-list .ensures) (c .before .before .before .before .before .before .before .before .before .before .is-list2 .ensures) (c .before .before .before .before .before .before .before .before .before .both .ensures) ∙ (c .before .before .before .before .before .before .before .before .if1 .left)) (sym (c .before .before .before .before .before .before .before .both2 .ensures) ∙ (c .before .before .before .before .before .before .if2 .taken)) (sym (c .before .before .before .before .before .is-list-question .ensures) ∙ (c .before .before .before .before .if3 .left)) (c .before .before .struct-rule .ensures)
+    nested-struct _ _ _ _ (c .before .before .before .before .before .before .before .before .before .before .before .before .before .before .before .before .before .before .args .swap) _ _ _ _ _ (c .before .before .before .before .before .before .before .before .before .before .before .before .before .before .kind-at .ensures) (c .before .before .before .before .before .before .before .before .before .before .before .before .kind-at2 .ensures) _ _ (and-are (c .before .before .before .before .before .before .before .before .before .before .before .is-list .ensures) (c .before .before .before .before .before .before .before .before .before .before .is-list2 .ensures) (c .before .before .before .before .before .before .before .before .before .both .ensures) ∙ (c .before .before .before .before .before .before .before .before .if1 .left)) (sym (c .before .before .before .before .before .before .before .both2 .ensures) ∙ (c .before .before .before .before .before .before .if2 .taken)) (sym (c .before .before .before .before .before .is-list-question .ensures) ∙ (c .before .before .before .before .if3 .left)) (c .before .before .struct-rule .ensures)
 
--- src/coerce.rt:330:8
+-- src/coerce.rt:387:8
 nested-both-requires-3 : (t : ℕ) → nested-lts.Need-both-requires-3 (nested-calls t) (nested-at t) nested.Post
 nested-both-requires-3 t c κs =
     search needs
 
--- src/coerce.rt:331:9
+-- src/coerce.rt:388:9
 nested-map-rule-requires : (t : ℕ) → nested-lts.Need-map-rule-requires (nested-calls t) (nested-at t) nested.Post
 nested-map-rule-requires t c κs =
     (omega (arith, (c .before .before .before .before .before .before .before .before .before .before .before .before .before .before .before .pre .0)), (c .before .before .before .before .before .before .before .before .before .before .before .before .before .before .before .pre .1))
 
--- src/coerce.rt:331:9
+-- src/coerce.rt:388:9
 nested-same-length-4 : (t : ℕ) → nested-lts.Need-same-length-4 (nested-calls t) (nested-at t) nested.Post
 nested-same-length-4 t c =
     search needs
 
--- src/coerce.rt:331:9
+-- src/coerce.rt:388:9
 nested-returns-4 : (t : ℕ) → nested-lts.Need-returns-4 (nested-calls t) (nested-at t) nested.Post
 nested-returns-4 t c =
-    nested-map _ _ _ _ (c .before .before .before .before .before .before .before .before .before .before .before .before .before .before .before .before .before .before .args .swap) _ _ _ _ _ _ _ (c .before .before .before .before .before .before .before .before .before .before .before .before .before .before .look .ensures .0) (c .before .before .before .before .before .before .before .before .before .before .before .before .look2 .ensures .0) _ _ (and-are (c .before .before .before .before .before .before .before .before .before .before .before .is-list .ensures) (c .before .before .before .before .before .before .before .before .before .before .is-list2 .ensures) (c .before .before .before .before .before .before .before .before .before .both .ensures) ∙ (c .before .before .before .before .before .before .before .before .if1 .left)) (sym (c .before .before .before .before .before .before .before .both2 .ensures) ∙ (c .before .before .before .before .before .before .if2 .left)) (sym (c .before .before .before .before .before .both3 .ensures) ∙ (c .before .before .before .before .if4 .taken)) (c .before .before .map-rule .ensures)
+    nested-map _ _ _ _ (c .before .before .before .before .before .before .before .before .before .before .before .before .before .before .before .before .before .before .args .swap) _ _ _ _ _ (c .before .before .before .before .before .before .before .before .before .before .before .before .before .before .kind-at .ensures) (c .before .before .before .before .before .before .before .before .before .before .before .before .kind-at2 .ensures) _ _ (and-are (c .before .before .before .before .before .before .before .before .before .before .before .is-list .ensures) (c .before .before .before .before .before .before .before .before .before .before .is-list2 .ensures) (c .before .before .before .before .before .before .before .before .before .both .ensures) ∙ (c .before .before .before .before .before .before .before .before .if1 .left)) (sym (c .before .before .before .before .before .before .before .both2 .ensures) ∙ (c .before .before .before .before .before .before .if2 .left)) (sym (c .before .before .before .before .before .both3 .ensures) ∙ (c .before .before .before .before .if4 .taken)) (c .before .before .map-rule .ensures)
 
--- src/coerce.rt:333:40
-nested-plain-requires : (t : ℕ) → nested-lts.Need-plain-requires (nested-calls t) (nested-at t) nested.Post
-nested-plain-requires t c κs =
-    search needs
+-- src/coerce.rt:390:5
+nested-plain-rule-requires : (t : ℕ) → nested-lts.Need-plain-rule-requires (nested-calls t) (nested-at t) nested.Post
+nested-plain-rule-requires t c κs =
+    (c .before .before .before .before .before .before .before .before .before .before .before .before .before .before .before .pre .1)
 
--- src/coerce.rt:333:5
-nested-lay-step-requires : (t : ℕ) → nested-lts.Need-lay-step-requires (nested-calls t) (nested-at t) nested.Post
-nested-lay-step-requires t c κs =
-    (c .before .before .before .before .before .before .before .before .before .before .before .before .before .before .before .before .pre .1)
-
--- src/coerce.rt:302:1
+-- src/coerce.rt:361:1
 nested-same-length-5 : (t : ℕ) → nested-lts.Need-same-length-5 (nested-calls t) (nested-at t) nested.Post
 nested-same-length-5 t c =
     search needs
 
--- src/coerce.rt:302:1
+-- src/coerce.rt:361:1
 nested-returns-5 : (t : ℕ) → nested-lts.Need-returns-5 (nested-calls t) (nested-at t) nested.Post
 nested-returns-5 t c =
-    nested-plain _ _ _ _ (c .before .before .before .before .before .before .before .before .before .before .before .before .before .before .before .before .before .before .before .args .swap) _ _ _ _ _ _ _ (c .before .before .before .before .before .before .before .before .before .before .before .before .before .before .before .look .ensures .0) (c .before .before .before .before .before .before .before .before .before .before .before .before .before .look2 .ensures .0) _ _ (and-are (c .before .before .before .before .before .before .before .before .before .before .before .before .is-list .ensures) (c .before .before .before .before .before .before .before .before .before .before .before .is-list2 .ensures) (c .before .before .before .before .before .before .before .before .before .before .both .ensures) ∙ (c .before .before .before .before .before .before .before .before .before .if1 .left)) (sym (c .before .before .before .before .before .before .before .before .both2 .ensures) ∙ (c .before .before .before .before .before .before .before .if2 .left)) (sym (c .before .before .before .before .before .before .both3 .ensures) ∙ (c .before .before .before .before .before .if4 .left)) _ (c .before .before .before .plain .ensures) (c .before .before .lay-step .ensures)
+    nested-plain _ _ _ _ (c .before .before .before .before .before .before .before .before .before .before .before .before .before .before .before .before .before .before .args .swap) _ _ _ _ _ (c .before .before .before .before .before .before .before .before .before .before .before .before .before .before .kind-at .ensures) (c .before .before .before .before .before .before .before .before .before .before .before .before .kind-at2 .ensures) _ _ (and-are (c .before .before .before .before .before .before .before .before .before .before .before .is-list .ensures) (c .before .before .before .before .before .before .before .before .before .before .is-list2 .ensures) (c .before .before .before .before .before .before .before .before .before .both .ensures) ∙ (c .before .before .before .before .before .before .before .before .if1 .left)) (sym (c .before .before .before .before .before .before .before .both2 .ensures) ∙ (c .before .before .before .before .before .before .if2 .left)) (sym (c .before .before .before .before .before .both3 .ensures) ∙ (c .before .before .before .before .if4 .left)) (c .before .before .plain-rule .ensures)
 
--- src/coerce.rt:92:9
+-- src/coerce.rt:98:9
 resolve-kind-at-requires : (t : ℕ) → resolve-lts.Need-kind-at-requires (resolve-calls t) (resolve-at t) resolve.Post
 resolve-kind-at-requires t c κs =
     search needs
 
--- src/coerce.rt:93:9
+-- src/coerce.rt:99:9
 resolve-kind-at-requires-2 : (t : ℕ) → resolve-lts.Need-kind-at-requires-2 (resolve-calls t) (resolve-at t) resolve.Post
 resolve-kind-at-requires-2 t c κs =
     search needs
 
--- src/coerce.rt:94:8
+-- src/coerce.rt:100:8
 resolve-either-requires : (t : ℕ) → resolve-lts.Need-either-requires (resolve-calls t) (resolve-at t) resolve.Post
 resolve-either-requires t c κs =
     search needs
 
--- src/coerce.rt:95:9
+-- src/coerce.rt:101:9
 resolve-resolve-wrapper-requires : (t : ℕ) → resolve-lts.Need-resolve-wrapper-requires (resolve-calls t) (resolve-at t) resolve.Post
 resolve-resolve-wrapper-requires t c κs =
     (omega (arith, (c .before .before .before .before .before .before .before .before .before .pre .0)), ((c .before .before .before .before .before .before .before .before .before .pre .1), inl refl))
 
--- src/coerce.rt:95:9
+-- src/coerce.rt:101:9
 resolve-same-length : (t : ℕ) → resolve-lts.Need-same-length (resolve-calls t) (resolve-at t) resolve.Post
 resolve-same-length t c =
     search needs
 
--- src/coerce.rt:95:9
+-- src/coerce.rt:101:9
 resolve-returns : (t : ℕ) → resolve-lts.Need-returns (resolve-calls t) (resolve-at t) resolve.Post
 resolve-returns t c =
     resolve-dictionary _ _ _ _ (c .before .before .before .before .before .before .before .before .before .before .before .before .args .swap) _ _ _ _ _ (c .before .before .before .before .before .before .before .before .kind-at .ensures) (c .before .before .before .before .before .before .kind-at2 .ensures) _ _ (sym (c .before .before .before .before .before .either .ensures) ∙ (c .before .before .before .before .if1 .taken)) (c .before .before .resolve-wrapper .ensures)
 
--- src/coerce.rt:97:8
+-- src/coerce.rt:103:8
 resolve-either-requires-2 : (t : ℕ) → resolve-lts.Need-either-requires-2 (resolve-calls t) (resolve-at t) resolve.Post
 resolve-either-requires-2 t c κs =
     search needs
 
--- src/coerce.rt:98:9
+-- src/coerce.rt:104:9
 resolve-resolve-wrapper-requires-2 : (t : ℕ) → resolve-lts.Need-resolve-wrapper-requires-2 (resolve-calls t) (resolve-at t) resolve.Post
 resolve-resolve-wrapper-requires-2 t c κs =
     (omega (arith, (c .before .before .before .before .before .before .before .before .before .before .before .pre .0)), ((c .before .before .before .before .before .before .before .before .before .before .before .pre .1), inr refl))
 
--- src/coerce.rt:98:9
+-- src/coerce.rt:104:9
 resolve-same-length-2 : (t : ℕ) → resolve-lts.Need-same-length-2 (resolve-calls t) (resolve-at t) resolve.Post
 resolve-same-length-2 t c =
     search needs
 
--- src/coerce.rt:98:9
+-- src/coerce.rt:104:9
 resolve-returns-2 : (t : ℕ) → resolve-lts.Need-returns-2 (resolve-calls t) (resolve-at t) resolve.Post
 resolve-returns-2 t c =
     resolve-runs _ _ _ _ (c .before .before .before .before .before .before .before .before .before .before .before .before .before .before .args .swap) _ _ _ _ _ (c .before .before .before .before .before .before .before .before .before .before .kind-at .ensures) (c .before .before .before .before .before .before .before .before .kind-at2 .ensures) _ _ (sym (c .before .before .before .before .before .before .before .either .ensures) ∙ (c .before .before .before .before .before .before .if1 .left)) (sym (c .before .before .before .before .before .either2 .ensures) ∙ (c .before .before .before .before .if2 .taken)) (c .before .before .resolve-wrapper2 .ensures)
 
--- src/coerce.rt:100:5
+-- src/coerce.rt:106:5
 resolve-nested-requires : (t : ℕ) → resolve-lts.Need-nested-requires (resolve-calls t) (resolve-at t) resolve.Post
 resolve-nested-requires t c κs =
     (omega (arith, (c .before .before .before .before .before .before .before .before .before .before .before .pre .0)), (c .before .before .before .before .before .before .before .before .before .before .before .pre .1))
 
--- src/coerce.rt:77:1
+-- src/coerce.rt:83:1
 resolve-same-length-3 : (t : ℕ) → resolve-lts.Need-same-length-3 (resolve-calls t) (resolve-at t) resolve.Post
 resolve-same-length-3 t c =
     search needs
 
--- src/coerce.rt:77:1
+-- src/coerce.rt:83:1
 resolve-returns-3 : (t : ℕ) → resolve-lts.Need-returns-3 (resolve-calls t) (resolve-at t) resolve.Post
 resolve-returns-3 t c =
     resolve-nested _ _ _ _ (c .before .before .before .before .before .before .before .before .before .before .before .before .before .before .args .swap) _ _ _ _ _ (c .before .before .before .before .before .before .before .before .before .before .kind-at .ensures) (c .before .before .before .before .before .before .before .before .kind-at2 .ensures) _ _ (sym (c .before .before .before .before .before .before .before .either .ensures) ∙ (c .before .before .before .before .before .before .if1 .left)) (sym (c .before .before .before .before .before .either2 .ensures) ∙ (c .before .before .before .before .if2 .left)) (c .before .before .nested .ensures)
 
--- src/coerce.rt:121:9
+-- src/coerce.rt:127:9
 resolve-wrapper-kind-at-requires : (t : ℕ) → resolve-wrapper-lts.Need-kind-at-requires (resolve-wrapper-calls t) (resolve-wrapper-at t) resolve-wrapper.Post
 resolve-wrapper-kind-at-requires t c κs =
     search needs
 
--- src/coerce.rt:122:9
+-- src/coerce.rt:128:9
 resolve-wrapper-kind-at-requires-2 : (t : ℕ) → resolve-wrapper-lts.Need-kind-at-requires-2 (resolve-wrapper-calls t) (resolve-wrapper-at t) resolve-wrapper.Post
 resolve-wrapper-kind-at-requires-2 t c κs =
     search needs
 
--- src/coerce.rt:125:13
+-- src/coerce.rt:131:13
 resolve-wrapper-both-parts-requires : (t : ℕ) → resolve-wrapper-lts.Need-both-parts-requires (resolve-wrapper-calls t) (resolve-wrapper-at t) resolve-wrapper.Post
 resolve-wrapper-both-parts-requires t c κs =
     (omega (arith, (c .before .before .before .before .before .before .before .before .before .pre .0)), (c .before .before .before .before .before .before .before .before .before .pre .1 .0))
 
--- src/coerce.rt:125:13
+-- src/coerce.rt:131:13
 resolve-wrapper-same-length : (t : ℕ) → resolve-wrapper-lts.Need-same-length (resolve-wrapper-calls t) (resolve-wrapper-at t) resolve-wrapper.Post
 resolve-wrapper-same-length t c =
     search needs
 
--- src/coerce.rt:125:13
+-- src/coerce.rt:131:13
 resolve-wrapper-returns : (t : ℕ) → resolve-wrapper-lts.Need-returns (resolve-wrapper-calls t) (resolve-wrapper-at t) resolve-wrapper.Post
 resolve-wrapper-returns t c =
     wrap-both _ _ _ (c .before .before .before .before .before .before .before .before .before .before .before .before .args .swap) _ _ _ _ _ (c .before .before .before .before .before .before .before .before .kind-at .ensures) (c .before .before .before .before .before .before .kind-at2 .ensures) (c .before .before .before .before .before .before .before .before .before .before .before .before .pre .1 .1) _ _ (c .before .before .before .before .before .if1 .taken) (c .before .before .before .before .if2 .taken) (c .before .before .both-parts .ensures)
 
--- src/coerce.rt:127:9
+-- src/coerce.rt:133:9
 resolve-wrapper-rewrapped-requires : (t : ℕ) → resolve-wrapper-lts.Need-rewrapped-requires (resolve-wrapper-calls t) (resolve-wrapper-at t) resolve-wrapper.Post
 resolve-wrapper-rewrapped-requires t c κs =
     (omega (arith, (c .before .before .before .before .before .before .before .before .before .pre .0)), ((c .before .before .before .before .before .before .before .before .before .pre .1 .0), ((c .before .before .before .before .before .before .before .before .before .pre .1 .1), sym (c .before .before .before .before .before .kind-at .ensures) ∙ (c .before .before .if1 .taken))))
 
--- src/coerce.rt:127:9
+-- src/coerce.rt:133:9
 resolve-wrapper-same-length-2 : (t : ℕ) → resolve-wrapper-lts.Need-same-length-2 (resolve-wrapper-calls t) (resolve-wrapper-at t) resolve-wrapper.Post
 resolve-wrapper-same-length-2 t c =
     search needs
 
--- src/coerce.rt:127:9
+-- src/coerce.rt:133:9
 resolve-wrapper-returns-2 : (t : ℕ) → resolve-wrapper-lts.Need-returns-2 (resolve-wrapper-calls t) (resolve-wrapper-at t) resolve-wrapper.Post
 resolve-wrapper-returns-2 t c =
     wrap-left _ _ _ (c .before .before .before .before .before .before .before .before .before .before .before .before .args .swap) _ _ _ _ _ (c .before .before .before .before .before .before .before .before .kind-at .ensures) (c .before .before .before .before .before .before .kind-at2 .ensures) (c .before .before .before .before .before .before .before .before .before .before .before .before .pre .1 .1) _ _ (c .before .before .before .before .before .if1 .taken) (c .before .before .before .before .if2 .left) (c .before .before .rewrapped .ensures)
 
--- src/coerce.rt:130:9
+-- src/coerce.rt:148:9
 resolve-wrapper-rewrapped-requires-2 : (t : ℕ) → resolve-wrapper-lts.Need-rewrapped-requires-2 (resolve-wrapper-calls t) (resolve-wrapper-at t) resolve-wrapper.Post
 resolve-wrapper-rewrapped-requires-2 t c κs =
     (omega (arith, (c .before .before .before .before .before .before .before .before .before .pre .0)), ((c .before .before .before .before .before .before .before .before .before .pre .1 .0), ((c .before .before .before .before .before .before .before .before .before .pre .1 .1), sym (c .before .before .before .kind-at2 .ensures) ∙ (c .before .if3 .taken))))
 
--- src/coerce.rt:130:9
+-- src/coerce.rt:148:9
 resolve-wrapper-same-length-3 : (t : ℕ) → resolve-wrapper-lts.Need-same-length-3 (resolve-wrapper-calls t) (resolve-wrapper-at t) resolve-wrapper.Post
 resolve-wrapper-same-length-3 t c =
     search needs
 
--- src/coerce.rt:130:9
+-- src/coerce.rt:148:9
 resolve-wrapper-returns-3 : (t : ℕ) → resolve-wrapper-lts.Need-returns-3 (resolve-wrapper-calls t) (resolve-wrapper-at t) resolve-wrapper.Post
 resolve-wrapper-returns-3 t c =
     wrap-right _ _ _ (c .before .before .before .before .before .before .before .before .before .before .before .before .args .swap) _ _ _ _ _ (c .before .before .before .before .before .before .before .before .kind-at .ensures) (c .before .before .before .before .before .before .kind-at2 .ensures) (c .before .before .before .before .before .before .before .before .before .before .before .before .pre .1 .1) _ _ (c .before .before .before .before .before .if1 .left) (c .before .before .before .before .if3 .taken) (c .before .before .rewrapped2 .ensures)
 
--- src/coerce.rt:104:1
+-- src/coerce.rt:110:1
 resolve-wrapper-same-length-4 : (t : ℕ) → resolve-wrapper-lts.Need-same-length-4 (resolve-wrapper-calls t) (resolve-wrapper-at t) resolve-wrapper.Post
 resolve-wrapper-same-length-4 t c =
     search needs
 
--- src/coerce.rt:104:1
+-- src/coerce.rt:110:1
 resolve-wrapper-returns-4 : (t : ℕ) → resolve-wrapper-lts.Need-returns-4 (resolve-wrapper-calls t) (resolve-wrapper-at t) resolve-wrapper.Post
 resolve-wrapper-returns-4 t c =
     wrap-none _ _ _ (c .before .before .before .before .before .before .before .before .args .swap) _ _ _ _ _ (c .before .before .before .before .kind-at .ensures) (c .before .before .kind-at2 .ensures) (c .before .before .before .before .before .before .before .before .pre .1 .1) (c .before .if1 .left) (c .if3 .left)
 
--- src/coerce.rt:184:9
+-- src/coerce.rt:227:9
 rewrapped-returns : (t : ℕ) → rewrapped-lts.Need-returns (rewrapped-calls t) (rewrapped-at t) rewrapped.Post
 rewrapped-returns t c =
     merges-full _ _ _ _ _ _ _ _ _ (c .if1 .taken)
 
--- src/coerce.rt:186:9
+-- src/coerce.rt:229:9
 rewrapped-look-requires : (t : ℕ) → rewrapped-lts.Need-look-requires (rewrapped-calls t) (rewrapped-at t) rewrapped.Post
 rewrapped-look-requires t c κs =
     search needs
 
--- src/coerce.rt:188:18
+-- src/coerce.rt:231:18
 rewrapped-look-requires-2 : (t : ℕ) → rewrapped-lts.Need-look-requires-2 (rewrapped-calls t) (rewrapped-at t) rewrapped.Post
 rewrapped-look-requires-2 t c κs =
     search needs
 
--- src/coerce.rt:189:11
+-- src/coerce.rt:232:11
 rewrapped-copy-head-requires : (t : ℕ) → rewrapped-lts.Need-copy-head-requires (rewrapped-calls t) (rewrapped-at t) rewrapped.Post
 rewrapped-copy-head-requires t c κs =
     ((c .before .before .before .before .before .before .before .before .before .before .pre .1 .0), ((c .before .before .before .before .before .if1 .left), (omega arith, (c .before .before .before .look .ensures .1))))
 
--- src/coerce.rt:190:19
+-- src/coerce.rt:233:19
 rewrapped-enum-known-a : (t : ℕ) → rewrapped-lts.Need-enum-known-a (rewrapped-calls t) (rewrapped-at t) rewrapped.Post
 rewrapped-enum-known-a t c =
     search needs
 
--- src/coerce.rt:190:31
+-- src/coerce.rt:233:31
 rewrapped-copy-field-requires : (t : ℕ) → rewrapped-lts.Need-copy-field-requires (rewrapped-calls t) (rewrapped-at t) rewrapped.Post
 rewrapped-copy-field-requires t c κs =
     let cp = rw (c .before .before .a .given .1) at (c .before .before .before .before .before .before .copy-head .ensures) in
     (room-kept (cp .kept) (c .before .before .before .before .before .before .before .before .before .before .before .before .before .before .before .before .before .pre .1 .0 .0), cp .passes .0)
 
--- src/coerce.rt:191:23
+-- src/coerce.rt:234:23
 rewrapped-enum-known-b : (t : ℕ) → rewrapped-lts.Need-enum-known-b (rewrapped-calls t) (rewrapped-at t) rewrapped.Post
 rewrapped-enum-known-b t c =
     search needs
 
--- src/coerce.rt:191:35
+-- src/coerce.rt:234:35
 rewrapped-coerce-field-requires : (t : ℕ) → rewrapped-lts.Need-coerce-field-requires (rewrapped-calls t) (rewrapped-at t) rewrapped.Post
 rewrapped-coerce-field-requires t c κs =
     let cp = rw (c .before .before .before .before .before .before .before .before .before .a .given .1) at (c .before .before .before .before .before .before .before .before .before .before .before .before .before .copy-head .ensures) in
     let cf = rw (c .before .before .b .given .1) at (c .before .before .before .before .before .before .copy-field .ensures) in
     (omega (arith, (c .before .before .before .before .before .before .before .before .before .before .before .before .before .before .before .before .before .before .before .before .before .before .before .before .pre .0)), (room-kept (cf .kept) (room-kept (cp .kept) (c .before .before .before .before .before .before .before .before .before .before .before .before .before .before .before .before .before .before .before .before .before .before .before .before .pre .1 .0 .0)), cf .grows .0))
 
--- src/coerce.rt:192:27
+-- src/coerce.rt:246:27
 rewrapped-enum-known-e : (t : ℕ) → rewrapped-lts.Need-enum-known-e (rewrapped-calls t) (rewrapped-at t) rewrapped.Post
 rewrapped-enum-known-e t c =
     search needs
 
--- src/coerce.rt:194:21
+-- src/coerce.rt:248:21
 rewrapped-tie-requires : (t : ℕ) → rewrapped-lts.Need-tie-requires (rewrapped-calls t) (rewrapped-at t) rewrapped.Post
 rewrapped-tie-requires t c κs =
     let cp = rw (c .before .before .before .before .before .before .before .before .before .before .before .before .before .before .before .before .a .given .1) at (c .before .before .before .before .before .before .before .before .before .before .before .before .before .before .before .before .before .before .before .before .copy-head .ensures) in
@@ -1031,7 +1059,7 @@ rewrapped-tie-requires t c κs =
     let mf = rw (c .before .before .e .given .1) at (c .before .before .before .before .before .before .coerce-field .ensures) in
     ((room-kept (mf .kept) (room-kept (cf .kept) (room-kept (cp .kept) (c .before .before .before .before .before .before .before .before .before .before .before .before .before .before .before .before .before .before .before .before .before .before .before .before .before .before .before .before .before .before .before .pre .1 .0 .0)))), (omega (arith, cf .further, cf .grows .0 .records), omega (arith, cf .grows .0 .records, (c .before .before .before .before .before .before .before .before .before .before .before .before .before .before .before .before .before .before .before .before .before .before .before .before .before .before .before .before .before .before .before .pre .1 .0 .0 .few))))
 
--- src/coerce.rt:195:21
+-- src/coerce.rt:249:21
 rewrapped-keep-wrapper-requires : (t : ℕ) → rewrapped-lts.Need-keep-wrapper-requires (rewrapped-calls t) (rewrapped-at t) rewrapped.Post
 rewrapped-keep-wrapper-requires t c κs =
     let cp = rw (c .before .before .before .before .before .before .before .before .before .before .before .before .before .before .before .before .before .before .before .before .a .given .1) at (c .before .before .before .before .before .before .before .before .before .before .before .before .before .before .before .before .before .before .before .before .before .before .before .before .copy-head .ensures) in
@@ -1039,37 +1067,37 @@ rewrapped-keep-wrapper-requires t c κs =
     let mf = rw (c .before .before .before .before .before .before .e .given .1) at (c .before .before .before .before .before .before .before .before .before .before .coerce-field .ensures) in
     (room-kept (tied-kept _ _ _ _ _ (c .before .before .before .tie .ensures) 0 (omega (arith, cf .further, cf .grows .0 .records))) (room-kept (mf .kept) (room-kept (cf .kept) (room-kept (cp .kept) (c .before .before .before .before .before .before .before .before .before .before .before .before .before .before .before .before .before .before .before .before .before .before .before .before .before .before .before .before .before .before .before .before .before .before .before .pre .1 .0 .0)))), (c .before .before .before .before .before .before .before .before .before .before .before .before .before .before .before .before .before .before .before .before .before .before .before .before .before .before .before .before .before .before .before .before .before .before .before .pre .1 .0 .1))
 
--- src/coerce.rt:197:28
+-- src/coerce.rt:251:28
 rewrapped-enum-told : (t : ℕ) → rewrapped-lts.Need-enum-told (rewrapped-calls t) (rewrapped-at t) rewrapped.Post
 rewrapped-enum-told t c =
     search needs
 
--- src/coerce.rt:198:30
+-- src/coerce.rt:252:30
 rewrapped-enum-told-2 : (t : ℕ) → rewrapped-lts.Need-enum-told-2 (rewrapped-calls t) (rewrapped-at t) rewrapped.Post
 rewrapped-enum-told-2 t c =
     search needs
 
--- src/coerce.rt:200:24
+-- src/coerce.rt:254:24
 rewrapped-enum-told-3 : (t : ℕ) → rewrapped-lts.Need-enum-told-3 (rewrapped-calls t) (rewrapped-at t) rewrapped.Post
 rewrapped-enum-told-3 t c =
     search needs
 
--- src/coerce.rt:201:26
+-- src/coerce.rt:255:26
 rewrapped-enum-told-4 : (t : ℕ) → rewrapped-lts.Need-enum-told-4 (rewrapped-calls t) (rewrapped-at t) rewrapped.Post
 rewrapped-enum-told-4 t c =
     search needs
 
--- src/coerce.rt:203:20
+-- src/coerce.rt:257:20
 rewrapped-enum-told-5 : (t : ℕ) → rewrapped-lts.Need-enum-told-5 (rewrapped-calls t) (rewrapped-at t) rewrapped.Post
 rewrapped-enum-told-5 t c =
     search needs
 
--- src/coerce.rt:204:22
+-- src/coerce.rt:258:22
 rewrapped-enum-told-6 : (t : ℕ) → rewrapped-lts.Need-enum-told-6 (rewrapped-calls t) (rewrapped-at t) rewrapped.Post
 rewrapped-enum-told-6 t c =
     search needs
 
--- src/coerce.rt:166:1
+-- src/coerce.rt:209:1
 rewrapped-same-length : (t : ℕ) → rewrapped-lts.Need-same-length (rewrapped-calls t) (rewrapped-at t) rewrapped.Post
 rewrapped-same-length t c =
     let cp = rw (c .before .before .before .before .before .before .before .before .before .before .before .before .before .before .before .before .before .before .before .before .before .before .before .a .given .1) at (c .before .before .before .before .before .before .before .before .before .before .before .before .before .before .before .before .before .before .before .before .before .before .before .before .before .before .before .copy-head .ensures) in
@@ -1077,7 +1105,7 @@ rewrapped-same-length t c =
     let mf = rw (c .before .before .before .before .before .before .before .before .before .e .given .1) at (c .before .before .before .before .before .before .before .before .before .before .before .before .before .coerce-field .ensures) in
     wrapper-on _ _ _ _ _ _ _ _ _ _ (c .before .before .before .before .before .before .before .before .before .before .before .before .before .before .before .before .before .before .before .before .before .before .before .before .before .before .before .before .before .before .before .before .before .before .before .before .before .before .pre .1 .0 .0) (c .before .before .before .before .before .before .before .before .before .before .before .before .before .before .before .before .before .before .before .before .before .before .before .before .before .before .before .before .before .before .before .before .before .before .before .before .before .before .pre .1 .1 .0) _ (c .before .before .before .before .before .before .before .before .before .before .before .before .before .before .before .before .before .before .before .before .before .before .before .before .before .before .before .before .before .before .before .look .ensures .0) (c .before .before .before .before .before .before .before .before .before .before .before .before .before .before .before .before .before .before .before .before .before .before .before .before .before .before .before .before .before .before .before .before .before .before .before .before .before .before .pre .1 .1 .1) _ (c .before .before .before .before .before .before .before .before .before .before .before .before .before .before .before .before .before .before .before .before .before .before .before .before .before .before .before .before .before .look2 .ensures .0) _ _ cp _ _ cf _ _ mf _ (c .before .before .before .before .before .before .tie .ensures) _ _ (c .before .before .keep-wrapper .ensures) .writes .kept .long
 
--- src/coerce.rt:166:1
+-- src/coerce.rt:209:1
 rewrapped-returns-2 : (t : ℕ) → rewrapped-lts.Need-returns-2 (rewrapped-calls t) (rewrapped-at t) rewrapped.Post
 rewrapped-returns-2 t c =
     let cp = rw (c .before .before .before .before .before .before .before .before .before .before .before .before .before .before .before .before .before .before .before .before .before .before .before .a .given .1) at (c .before .before .before .before .before .before .before .before .before .before .before .before .before .before .before .before .before .before .before .before .before .before .before .before .before .before .before .copy-head .ensures) in
@@ -1085,154 +1113,154 @@ rewrapped-returns-2 t c =
     let mf = rw (c .before .before .before .before .before .before .before .before .before .e .given .1) at (c .before .before .before .before .before .before .before .before .before .before .before .before .before .coerce-field .ensures) in
     wrapper-on _ _ _ _ _ _ _ _ _ _ (c .before .before .before .before .before .before .before .before .before .before .before .before .before .before .before .before .before .before .before .before .before .before .before .before .before .before .before .before .before .before .before .before .before .before .before .before .before .before .pre .1 .0 .0) (c .before .before .before .before .before .before .before .before .before .before .before .before .before .before .before .before .before .before .before .before .before .before .before .before .before .before .before .before .before .before .before .before .before .before .before .before .before .before .pre .1 .1 .0) _ (c .before .before .before .before .before .before .before .before .before .before .before .before .before .before .before .before .before .before .before .before .before .before .before .before .before .before .before .before .before .before .before .look .ensures .0) (c .before .before .before .before .before .before .before .before .before .before .before .before .before .before .before .before .before .before .before .before .before .before .before .before .before .before .before .before .before .before .before .before .before .before .before .before .before .before .pre .1 .1 .1) _ (c .before .before .before .before .before .before .before .before .before .before .before .before .before .before .before .before .before .before .before .before .before .before .before .before .before .before .before .before .before .look2 .ensures .0) _ _ cp _ _ cf _ _ mf _ (c .before .before .before .before .before .before .tie .ensures) _ _ (c .before .before .keep-wrapper .ensures)
 
--- src/coerce.rt:166:1
+-- src/coerce.rt:209:1
 rewrapped-same-length-2 : (t : ℕ) → rewrapped-lts.Need-same-length-2 (rewrapped-calls t) (rewrapped-at t) rewrapped.Post
 rewrapped-same-length-2 t c =
     search needs
 
--- src/coerce.rt:166:1
+-- src/coerce.rt:209:1
 rewrapped-returns-3 : (t : ℕ) → rewrapped-lts.Need-returns-3 (rewrapped-calls t) (rewrapped-at t) rewrapped.Post
 rewrapped-returns-3 t c =
     let cp = rw (c .before .before .before .before .before .before .before .before .before .before .before .before .before .before .a .given .1) at (c .before .before .before .before .before .before .before .before .before .before .before .before .before .before .before .before .before .before .copy-head .ensures) in
     let cf = rw (c .before .before .before .before .before .before .before .b .given .1) at (c .before .before .before .before .before .before .before .before .before .before .before .copy-field .ensures) in
     value-none _ _ _ _ _ _ _ _ _ _ (c .before .before .before .before .before .before .before .before .before .before .before .before .before .before .before .before .before .before .before .before .before .before .before .before .before .before .before .before .before .pre .1 .0 .0) (c .before .before .before .before .before .before .before .before .before .before .before .before .before .before .before .before .before .before .before .before .before .before .before .before .before .before .before .before .before .pre .1 .1 .0) _ (c .before .before .before .before .before .before .before .before .before .before .before .before .before .before .before .before .before .before .before .before .before .before .look .ensures .0) (c .before .before .before .before .before .before .before .before .before .before .before .before .before .before .before .before .before .before .before .before .before .before .before .before .before .before .before .before .before .pre .1 .1 .1) _ (c .before .before .before .before .before .before .before .before .before .before .before .before .before .before .before .before .before .before .before .before .look2 .ensures .0) _ _ cp _ _ cf _ (rw (c .enum-told .given .1) at (c .before .before .before .before .coerce-field .ensures))
 
--- src/coerce.rt:166:1
+-- src/coerce.rt:209:1
 rewrapped-same-length-3 : (t : ℕ) → rewrapped-lts.Need-same-length-3 (rewrapped-calls t) (rewrapped-at t) rewrapped.Post
 rewrapped-same-length-3 t c =
     search needs
 
--- src/coerce.rt:166:1
+-- src/coerce.rt:209:1
 rewrapped-returns-4 : (t : ℕ) → rewrapped-lts.Need-returns-4 (rewrapped-calls t) (rewrapped-at t) rewrapped.Post
 rewrapped-returns-4 t c =
     let cp = rw (c .before .before .before .before .before .before .before .before .before .before .before .before .before .before .a .given .1) at (c .before .before .before .before .before .before .before .before .before .before .before .before .before .before .before .before .before .before .copy-head .ensures) in
     let cf = rw (c .before .before .before .before .before .before .before .b .given .1) at (c .before .before .before .before .before .before .before .before .before .before .before .copy-field .ensures) in
     value-full _ _ _ _ _ _ _ _ _ _ (c .before .before .before .before .before .before .before .before .before .before .before .before .before .before .before .before .before .before .before .before .before .before .before .before .before .before .before .before .before .pre .1 .0 .0) (c .before .before .before .before .before .before .before .before .before .before .before .before .before .before .before .before .before .before .before .before .before .before .before .before .before .before .before .before .before .pre .1 .1 .0) _ (c .before .before .before .before .before .before .before .before .before .before .before .before .before .before .before .before .before .before .before .before .before .before .look .ensures .0) (c .before .before .before .before .before .before .before .before .before .before .before .before .before .before .before .before .before .before .before .before .before .before .before .before .before .before .before .before .before .pre .1 .1 .1) _ (c .before .before .before .before .before .before .before .before .before .before .before .before .before .before .before .before .before .before .before .before .look2 .ensures .0) _ _ cp _ _ cf _ (rw (c .enum-told2 .given .1) at (c .before .before .before .before .coerce-field .ensures))
 
--- src/coerce.rt:166:1
+-- src/coerce.rt:209:1
 rewrapped-same-length-4 : (t : ℕ) → rewrapped-lts.Need-same-length-4 (rewrapped-calls t) (rewrapped-at t) rewrapped.Post
 rewrapped-same-length-4 t c =
     search needs
 
--- src/coerce.rt:166:1
+-- src/coerce.rt:209:1
 rewrapped-returns-5 : (t : ℕ) → rewrapped-lts.Need-returns-5 (rewrapped-calls t) (rewrapped-at t) rewrapped.Post
 rewrapped-returns-5 t c =
     let cp = rw (c .before .before .before .before .before .before .before .a .given .1) at (c .before .before .before .before .before .before .before .before .before .before .before .copy-head .ensures) in
     index-none _ _ _ _ _ _ _ _ _ _ (c .before .before .before .before .before .before .before .before .before .before .before .before .before .before .before .before .before .before .before .before .before .before .pre .1 .0 .0) (c .before .before .before .before .before .before .before .before .before .before .before .before .before .before .before .before .before .before .before .before .before .before .pre .1 .1 .0) _ (c .before .before .before .before .before .before .before .before .before .before .before .before .before .before .before .look .ensures .0) (c .before .before .before .before .before .before .before .before .before .before .before .before .before .before .before .before .before .before .before .before .before .before .pre .1 .1 .1) _ (c .before .before .before .before .before .before .before .before .before .before .before .before .before .look2 .ensures .0) _ _ cp _ (rw (c .enum-told3 .given .1) at (c .before .before .before .before .copy-field .ensures))
 
--- src/coerce.rt:166:1
+-- src/coerce.rt:209:1
 rewrapped-same-length-5 : (t : ℕ) → rewrapped-lts.Need-same-length-5 (rewrapped-calls t) (rewrapped-at t) rewrapped.Post
 rewrapped-same-length-5 t c =
     search needs
 
--- src/coerce.rt:166:1
+-- src/coerce.rt:209:1
 rewrapped-returns-6 : (t : ℕ) → rewrapped-lts.Need-returns-6 (rewrapped-calls t) (rewrapped-at t) rewrapped.Post
 rewrapped-returns-6 t c =
     let cp = rw (c .before .before .before .before .before .before .before .a .given .1) at (c .before .before .before .before .before .before .before .before .before .before .before .copy-head .ensures) in
     index-full _ _ _ _ _ _ _ _ _ _ (c .before .before .before .before .before .before .before .before .before .before .before .before .before .before .before .before .before .before .before .before .before .before .pre .1 .0 .0) (c .before .before .before .before .before .before .before .before .before .before .before .before .before .before .before .before .before .before .before .before .before .before .pre .1 .1 .0) _ (c .before .before .before .before .before .before .before .before .before .before .before .before .before .before .before .look .ensures .0) (c .before .before .before .before .before .before .before .before .before .before .before .before .before .before .before .before .before .before .before .before .before .before .pre .1 .1 .1) _ (c .before .before .before .before .before .before .before .before .before .before .before .before .before .look2 .ensures .0) _ _ cp _ (rw (c .enum-told4 .given .1) at (c .before .before .before .before .copy-field .ensures))
 
--- src/coerce.rt:166:1
+-- src/coerce.rt:209:1
 rewrapped-same-length-6 : (t : ℕ) → rewrapped-lts.Need-same-length-6 (rewrapped-calls t) (rewrapped-at t) rewrapped.Post
 rewrapped-same-length-6 t c =
     search needs
 
--- src/coerce.rt:166:1
+-- src/coerce.rt:209:1
 rewrapped-returns-7 : (t : ℕ) → rewrapped-lts.Need-returns-7 (rewrapped-calls t) (rewrapped-at t) rewrapped.Post
 rewrapped-returns-7 t c =
     absurd ((rw (c .enum-told5 .given .1) at (c .before .before .before .before .copy-head .ensures)) .means)
 
--- src/coerce.rt:166:1
+-- src/coerce.rt:209:1
 rewrapped-same-length-7 : (t : ℕ) → rewrapped-lts.Need-same-length-7 (rewrapped-calls t) (rewrapped-at t) rewrapped.Post
 rewrapped-same-length-7 t c =
     search needs
 
--- src/coerce.rt:166:1
+-- src/coerce.rt:209:1
 rewrapped-returns-8 : (t : ℕ) → rewrapped-lts.Need-returns-8 (rewrapped-calls t) (rewrapped-at t) rewrapped.Post
 rewrapped-returns-8 t c =
     head-crowded _ _ _ _ _ _ _ _ _ _ (c .before .before .before .before .before .before .before .before .look .ensures .0) _ (rw (c .enum-told6 .given .1) at (c .before .before .before .before .copy-head .ensures))
 
--- src/coerce.rt:525:9
+-- src/coerce.rt:677:9
 rows-row-end-requires : (t : ℕ) → rows-lts.Need-row-end-requires (rows-calls t) (rows-at t) rows.Post
 rows-row-end-requires t c κs =
     search needs
 
--- src/coerce.rt:525:9
+-- src/coerce.rt:677:9
 rows-returns : (t : ℕ) → rows-lts.Need-returns (rows-calls t) (rows-at t) rows.Post
 rows-returns t c =
     rows-end _ (c .before .before .before .before .args .space) (c .before .before .before .before .args .left) (c .before .before .before .before .args .swap) _ _ (c .before .before .before .before .args .feed) _ _ _ _ _ (c .before .before .before .before .pre .1 .1) (c .before .if1 .taken) (c .row-end .ensures)
 
--- src/coerce.rt:528:9
+-- src/coerce.rt:680:9
 rows-returns-2 : (t : ℕ) → rows-lts.Need-returns-2 (rows-calls t) (rows-at t) rows.Post
 rows-returns-2 t c =
     rows-spent _ (c .before .before .before .before .args .space) (c .before .before .before .before .args .left) (c .before .before .before .before .args .swap) _ _ (c .before .before .before .before .args .feed) _ _ _ _ (c .before .if1 .left) (c .if2 .taken)
 
--- src/coerce.rt:530:9
+-- src/coerce.rt:682:9
 rows-look-requires : (t : ℕ) → rows-lts.Need-look-requires (rows-calls t) (rows-at t) rows.Post
 rows-look-requires t c κs =
     search needs
 
--- src/coerce.rt:531:9
+-- src/coerce.rt:683:9
 rows-row-requires : (t : ℕ) → rows-lts.Need-row-requires (rows-calls t) (rows-at t) rows.Post
 rows-row-requires t c κs =
     (c .before .before .before .before .before .before .before .pre .1 .0 .few)
 
--- src/coerce.rt:538:9
+-- src/coerce.rt:690:9
 rows-same-length : (t : ℕ) → rows-lts.Need-same-length (rows-calls t) (rows-at t) rows.Post
 rows-same-length t c =
     search needs
 
--- src/coerce.rt:538:9
+-- src/coerce.rt:690:9
 rows-returns-3 : (t : ℕ) → rows-lts.Need-returns-3 (rows-calls t) (rows-at t) rows.Post
 rows-returns-3 t c =
     rows-unfed _ (c .before .before .before .before .before .before .before .before .before .args .space) (c .before .before .before .before .before .before .before .before .before .args .left) (c .before .before .before .before .before .before .before .before .before .args .swap) _ _ (c .before .before .before .before .before .before .before .before .before .args .feed) _ _ _ _ _ (c .before .before .before .before .before .before .if1 .left) (c .before .row .ensures) (c .if3 .taken)
 
--- src/coerce.rt:540:9
+-- src/coerce.rt:692:9
 rows-name-field-requires : (t : ℕ) → rows-lts.Need-name-field-requires (rows-calls t) (rows-at t) rows.Post
 rows-name-field-requires t c κs =
     ((c .before .before .before .before .before .before .before .before .before .before .pre .1 .0), ((c .before .before .before .before .before .before .before .before .before .before .pre .1 .1), (c .before .before .before .before .look .ensures .1)))
 
--- src/coerce.rt:541:9
+-- src/coerce.rt:693:9
 rows-same-length-2 : (t : ℕ) → rows-lts.Need-same-length-2 (rows-calls t) (rows-at t) rows.Post
 rows-same-length-2 t c =
     search needs
 
--- src/coerce.rt:541:9
+-- src/coerce.rt:693:9
 rows-returns-4 : (t : ℕ) → rows-lts.Need-returns-4 (rows-calls t) (rows-at t) rows.Post
 rows-returns-4 t c =
     rows-crowded _ (c .before .before .before .before .before .before .before .before .before .before .before .before .before .before .args .space) (c .before .before .before .before .before .before .before .before .before .before .before .before .before .before .args .left) (c .before .before .before .before .before .before .before .before .before .before .before .before .before .before .args .swap) _ _ (c .before .before .before .before .before .before .before .before .before .before .before .before .before .before .args .feed) _ _ _ _ (c .before .before .before .before .before .before .before .before .before .before .before .before .before .before .pre .1 .0) (c .before .before .before .before .before .before .before .before .before .before .before .before .before .before .pre .1 .1) _ (c .before .before .before .before .before .before .before .before .look .ensures .0) (c .before .before .before .before .before .before .before .before .before .before .before .if1 .left) _ (c .before .before .before .before .before .before .row .ensures) (c .before .before .before .before .before .if3 .left) _ _ (c .before .before .before .name-field .ensures) (not-true _ (c .if4 .taken))
 
--- src/coerce.rt:544:11
+-- src/coerce.rt:701:11
 rows-coerce-requires : (t : ℕ) → rows-lts.Need-coerce-requires (rows-calls t) (rows-at t) rows.Post
 rows-coerce-requires t c κs =
     (omega (arith, (c .before .before .before .before .before .before .before .before .before .before .before .before .before .before .before .pre .0)), (room-kept (c .before .before .before .before .name-field .ensures .kept) (c .before .before .before .before .before .before .before .before .before .before .before .before .before .before .before .pre .1 .0), field-ready _ (c .before .before .before .before .before .before .before .before .before .before .before .before .before .before .before .pre .1 .1) (c .before .before .before .before .before .before .before .before .before .look .ensures .1) (not-false _ (c .before .if4 .left)) (c .before .before .before .before .name-field .ensures)))
 
--- src/coerce.rt:545:19
+-- src/coerce.rt:713:19
 rows-enum-known-d : (t : ℕ) → rows-lts.Need-enum-known-d (rows-calls t) (rows-at t) rows.Post
 rows-enum-known-d t c =
     search needs
 
--- src/coerce.rt:545:72
+-- src/coerce.rt:719:13
 rows-sub-rows : (t : ℕ) → rows-lts.Need-sub-rows (rows-calls t) (rows-at t) rows.Post
 rows-sub-rows t c =
     search needs
 
--- src/coerce.rt:545:31
+-- src/coerce.rt:713:31
 rows-rows-requires : (t : ℕ) → rows-lts.Need-rows-requires (rows-calls t) (rows-at t) rows.Post
 rows-rows-requires t c κs =
     let done = rw (c .before .before .d .given .1) at (c .before .before .before .before .before .before .coerce .ensures) in
     (omega (arith, (c .before .before .before .before .before .before .before .before .before .before .before .before .before .before .before .before .before .before .before .before .before .before .pre .0), (c .before .before .before .before .before .before .before .before .before .before .before .before .before .before .before .before .before .before .if2 .left)), (room-kept (done .writes .kept) (room-kept (c .before .before .before .before .before .before .before .before .before .before .before .name-field .ensures .kept) (c .before .before .before .before .before .before .before .before .before .before .before .before .before .before .before .before .before .before .before .before .before .before .pre .1 .0)), done .writes .passes .0))
 
--- src/coerce.rt:546:23
+-- src/coerce.rt:727:23
 rows-enum-known-e : (t : ℕ) → rows-lts.Need-enum-known-e (rows-calls t) (rows-at t) rows.Post
 rows-enum-known-e t c =
     search needs
 
--- src/coerce.rt:547:38
+-- src/coerce.rt:728:38
 rows-next-link-requires : (t : ℕ) → rows-lts.Need-next-link-requires (rows-calls t) (rows-at t) rows.Post
 rows-next-link-requires t c κs =
     search needs
 
--- src/coerce.rt:547:17
+-- src/coerce.rt:728:17
 rows-tie-requires : (t : ℕ) → rows-lts.Need-tie-requires (rows-calls t) (rows-at t) rows.Post
 rows-tie-requires t c κs =
     let done = rw (c .before .before .before .before .before .before .before .before .before .before .d .given .1) at (c .before .before .before .before .before .before .before .before .before .before .before .before .before .before .coerce .ensures) in
@@ -1240,400 +1268,400 @@ rows-tie-requires t c κs =
     let room = room-kept (more .kept) (room-kept (done .writes .kept) (room-kept (c .before .before .before .before .before .before .before .before .before .before .before .before .before .before .before .before .before .before .before .name-field .ensures .kept) (c .before .before .before .before .before .before .before .before .before .before .before .before .before .before .before .before .before .before .before .before .before .before .before .before .before .before .before .before .before .before .pre .1 .0))) in
     (room, (omega (arith, done .writes .passes .1 .0, done .writes .passes .0 .records), omega (arith, (c .next-link .ensures .1), done .writes .passes .0 .records, room .few)))
 
--- src/coerce.rt:550:24
+-- src/coerce.rt:731:24
 rows-enum-told : (t : ℕ) → rows-lts.Need-enum-told (rows-calls t) (rows-at t) rows.Post
 rows-enum-told t c =
     search needs
 
--- src/coerce.rt:551:26
+-- src/coerce.rt:732:26
 rows-enum-told-2 : (t : ℕ) → rows-lts.Need-enum-told-2 (rows-calls t) (rows-at t) rows.Post
 rows-enum-told-2 t c =
     search needs
 
--- src/coerce.rt:553:20
+-- src/coerce.rt:734:20
 rows-enum-told-3 : (t : ℕ) → rows-lts.Need-enum-told-3 (rows-calls t) (rows-at t) rows.Post
 rows-enum-told-3 t c =
     search needs
 
--- src/coerce.rt:554:22
+-- src/coerce.rt:735:22
 rows-enum-told-4 : (t : ℕ) → rows-lts.Need-enum-told-4 (rows-calls t) (rows-at t) rows.Post
 rows-enum-told-4 t c =
     search needs
 
--- src/coerce.rt:507:1
+-- src/coerce.rt:659:1
 rows-same-length-3 : (t : ℕ) → rows-lts.Need-same-length-3 (rows-calls t) (rows-at t) rows.Post
 rows-same-length-3 t c =
     search needs
 
--- src/coerce.rt:507:1
+-- src/coerce.rt:659:1
 rows-returns-5 : (t : ℕ) → rows-lts.Need-returns-5 (rows-calls t) (rows-at t) rows.Post
 rows-returns-5 t c =
     let done = rw (c .before .before .before .before .before .before .before .before .before .before .before .before .before .d .given .1) at (c .before .before .before .before .before .before .before .before .before .before .before .before .before .before .before .before .before .coerce .ensures) in
     let more = rw (c .before .before .before .before .before .before .e .given .1) at (c .before .before .before .before .before .before .before .before .before .before .rows .ensures) in
     rows-done _ (c .before .before .before .before .before .before .before .before .before .before .before .before .before .before .before .before .before .before .before .before .before .before .before .before .before .before .before .before .before .before .before .before .before .args .space) (c .before .before .before .before .before .before .before .before .before .before .before .before .before .before .before .before .before .before .before .before .before .before .before .before .before .before .before .before .before .before .before .before .before .args .left) (c .before .before .before .before .before .before .before .before .before .before .before .before .before .before .before .before .before .before .before .before .before .before .before .before .before .before .before .before .before .before .before .before .before .args .swap) _ _ (c .before .before .before .before .before .before .before .before .before .before .before .before .before .before .before .before .before .before .before .before .before .before .before .before .before .before .before .before .before .before .before .before .before .args .feed) _ _ _ _ (c .before .before .before .before .before .before .before .before .before .before .before .before .before .before .before .before .before .before .before .before .before .before .before .before .before .before .before .before .before .before .before .before .before .pre .1 .0) (c .before .before .before .before .before .before .before .before .before .before .before .before .before .before .before .before .before .before .before .before .before .before .before .before .before .before .before .before .before .before .before .before .before .pre .1 .1) _ (c .before .before .before .before .before .before .before .before .before .before .before .before .before .before .before .before .before .before .before .before .before .before .before .before .before .before .before .look .ensures .0) (c .before .before .before .before .before .before .before .before .before .before .before .before .before .before .before .before .before .before .before .before .before .before .before .before .before .before .before .before .before .before .if1 .left) _ (c .before .before .before .before .before .before .before .before .before .before .before .before .before .before .before .before .before .before .before .before .before .before .before .before .before .row .ensures) (c .before .before .before .before .before .before .before .before .before .before .before .before .before .before .before .before .before .before .before .before .before .before .before .before .if3 .left) _ _ (c .before .before .before .before .before .before .before .before .before .before .before .before .before .before .before .before .before .before .before .before .before .before .name-field .ensures) (not-false _ (c .before .before .before .before .before .before .before .before .before .before .before .before .before .before .before .before .before .before .before .if4 .left)) _ _ done _ _ _ _ more (c .before .before .before .next-link .ensures .0) (c .before .before .tie .ensures)
 
--- src/coerce.rt:507:1
+-- src/coerce.rt:659:1
 rows-same-length-4 : (t : ℕ) → rows-lts.Need-same-length-4 (rows-calls t) (rows-at t) rows.Post
 rows-same-length-4 t c =
     search needs
 
--- src/coerce.rt:507:1
+-- src/coerce.rt:659:1
 rows-returns-6 : (t : ℕ) → rows-lts.Need-returns-6 (rows-calls t) (rows-at t) rows.Post
 rows-returns-6 t c =
     let done = rw (c .before .before .before .before .before .before .before .d .given .1) at (c .before .before .before .before .before .before .before .before .before .before .before .coerce .ensures) in
     let more = rw (c .enum-told .given .1) at (c .before .before .before .before .rows .ensures) in
     rows-rest-none _ (c .before .before .before .before .before .before .before .before .before .before .before .before .before .before .before .before .before .before .before .before .before .before .before .before .before .before .before .args .space) (c .before .before .before .before .before .before .before .before .before .before .before .before .before .before .before .before .before .before .before .before .before .before .before .before .before .before .before .args .left) (c .before .before .before .before .before .before .before .before .before .before .before .before .before .before .before .before .before .before .before .before .before .before .before .before .before .before .before .args .swap) _ _ (c .before .before .before .before .before .before .before .before .before .before .before .before .before .before .before .before .before .before .before .before .before .before .before .before .before .before .before .args .feed) _ _ _ _ (c .before .before .before .before .before .before .before .before .before .before .before .before .before .before .before .before .before .before .before .before .before .before .before .before .before .before .before .pre .1 .0) (c .before .before .before .before .before .before .before .before .before .before .before .before .before .before .before .before .before .before .before .before .before .before .before .before .before .before .before .pre .1 .1) _ (c .before .before .before .before .before .before .before .before .before .before .before .before .before .before .before .before .before .before .before .before .before .look .ensures .0) (c .before .before .before .before .before .before .before .before .before .before .before .before .before .before .before .before .before .before .before .before .before .before .before .before .if1 .left) _ (c .before .before .before .before .before .before .before .before .before .before .before .before .before .before .before .before .before .before .before .row .ensures) (c .before .before .before .before .before .before .before .before .before .before .before .before .before .before .before .before .before .before .if3 .left) _ _ (c .before .before .before .before .before .before .before .before .before .before .before .before .before .before .before .before .name-field .ensures) (not-false _ (c .before .before .before .before .before .before .before .before .before .before .before .before .before .if4 .left)) _ _ done _ more
 
--- src/coerce.rt:507:1
+-- src/coerce.rt:659:1
 rows-same-length-5 : (t : ℕ) → rows-lts.Need-same-length-5 (rows-calls t) (rows-at t) rows.Post
 rows-same-length-5 t c =
     search needs
 
--- src/coerce.rt:507:1
+-- src/coerce.rt:659:1
 rows-returns-7 : (t : ℕ) → rows-lts.Need-returns-7 (rows-calls t) (rows-at t) rows.Post
 rows-returns-7 t c =
     let done = rw (c .before .before .before .before .before .before .before .d .given .1) at (c .before .before .before .before .before .before .before .before .before .before .before .coerce .ensures) in
     let more = rw (c .enum-told2 .given .1) at (c .before .before .before .before .rows .ensures) in
     rows-rest-full _ (c .before .before .before .before .before .before .before .before .before .before .before .before .before .before .before .before .before .before .before .before .before .before .before .before .before .before .before .args .space) (c .before .before .before .before .before .before .before .before .before .before .before .before .before .before .before .before .before .before .before .before .before .before .before .before .before .before .before .args .left) (c .before .before .before .before .before .before .before .before .before .before .before .before .before .before .before .before .before .before .before .before .before .before .before .before .before .before .before .args .swap) _ _ (c .before .before .before .before .before .before .before .before .before .before .before .before .before .before .before .before .before .before .before .before .before .before .before .before .before .before .before .args .feed) _ _ _ _ (c .before .before .before .before .before .before .before .before .before .before .before .before .before .before .before .before .before .before .before .before .before .before .before .before .before .before .before .pre .1 .0) (c .before .before .before .before .before .before .before .before .before .before .before .before .before .before .before .before .before .before .before .before .before .before .before .before .before .before .before .pre .1 .1) _ (c .before .before .before .before .before .before .before .before .before .before .before .before .before .before .before .before .before .before .before .before .before .look .ensures .0) (c .before .before .before .before .before .before .before .before .before .before .before .before .before .before .before .before .before .before .before .before .before .before .before .before .if1 .left) _ (c .before .before .before .before .before .before .before .before .before .before .before .before .before .before .before .before .before .before .before .row .ensures) (c .before .before .before .before .before .before .before .before .before .before .before .before .before .before .before .before .before .before .if3 .left) _ _ (c .before .before .before .before .before .before .before .before .before .before .before .before .before .before .before .before .name-field .ensures) (not-false _ (c .before .before .before .before .before .before .before .before .before .before .before .before .before .if4 .left)) _ _ done _ more
 
--- src/coerce.rt:507:1
+-- src/coerce.rt:659:1
 rows-same-length-6 : (t : ℕ) → rows-lts.Need-same-length-6 (rows-calls t) (rows-at t) rows.Post
 rows-same-length-6 t c =
     search needs
 
--- src/coerce.rt:507:1
+-- src/coerce.rt:659:1
 rows-returns-8 : (t : ℕ) → rows-lts.Need-returns-8 (rows-calls t) (rows-at t) rows.Post
 rows-returns-8 t c =
     let one = rw (c .enum-told3 .given .1) at (c .before .before .before .before .coerce .ensures) in
     rows-none _ (c .before .before .before .before .before .before .before .before .before .before .before .before .before .before .before .before .before .before .before .before .args .space) (c .before .before .before .before .before .before .before .before .before .before .before .before .before .before .before .before .before .before .before .before .args .left) (c .before .before .before .before .before .before .before .before .before .before .before .before .before .before .before .before .before .before .before .before .args .swap) _ _ (c .before .before .before .before .before .before .before .before .before .before .before .before .before .before .before .before .before .before .before .before .args .feed) _ _ _ _ (c .before .before .before .before .before .before .before .before .before .before .before .before .before .before .before .before .before .before .before .before .pre .1 .0) (c .before .before .before .before .before .before .before .before .before .before .before .before .before .before .before .before .before .before .before .before .pre .1 .1) _ (c .before .before .before .before .before .before .before .before .before .before .before .before .before .before .look .ensures .0) (c .before .before .before .before .before .before .before .before .before .before .before .before .before .before .before .before .before .if1 .left) _ (c .before .before .before .before .before .before .before .before .before .before .before .before .row .ensures) (c .before .before .before .before .before .before .before .before .before .before .before .if3 .left) _ _ (c .before .before .before .before .before .before .before .before .before .name-field .ensures) (not-false _ (c .before .before .before .before .before .before .if4 .left)) _ one
 
--- src/coerce.rt:507:1
+-- src/coerce.rt:659:1
 rows-same-length-7 : (t : ℕ) → rows-lts.Need-same-length-7 (rows-calls t) (rows-at t) rows.Post
 rows-same-length-7 t c =
     search needs
 
--- src/coerce.rt:507:1
+-- src/coerce.rt:659:1
 rows-returns-9 : (t : ℕ) → rows-lts.Need-returns-9 (rows-calls t) (rows-at t) rows.Post
 rows-returns-9 t c =
     let one = rw (c .enum-told4 .given .1) at (c .before .before .before .before .coerce .ensures) in
     rows-full _ (c .before .before .before .before .before .before .before .before .before .before .before .before .before .before .before .before .before .before .before .before .args .space) (c .before .before .before .before .before .before .before .before .before .before .before .before .before .before .before .before .before .before .before .before .args .left) (c .before .before .before .before .before .before .before .before .before .before .before .before .before .before .before .before .before .before .before .before .args .swap) _ _ (c .before .before .before .before .before .before .before .before .before .before .before .before .before .before .before .before .before .before .before .before .args .feed) _ _ _ _ (c .before .before .before .before .before .before .before .before .before .before .before .before .before .before .before .before .before .before .before .before .pre .1 .0) (c .before .before .before .before .before .before .before .before .before .before .before .before .before .before .before .before .before .before .before .before .pre .1 .1) _ (c .before .before .before .before .before .before .before .before .before .before .before .before .before .before .look .ensures .0) (c .before .before .before .before .before .before .before .before .before .before .before .before .before .before .before .before .before .if1 .left) _ (c .before .before .before .before .before .before .before .before .before .before .before .before .row .ensures) (c .before .before .before .before .before .before .before .before .before .before .before .if3 .left) _ _ (c .before .before .before .before .before .before .before .before .before .name-field .ensures) (not-false _ (c .before .before .before .before .before .before .if4 .left)) _ one
 
--- src/coerce.rt:406:9
+-- src/coerce.rt:491:9
 struct-rule-look-requires : (t : ℕ) → struct-rule-lts.Need-look-requires (struct-rule-calls t) (struct-rule-at t) struct-rule.Post
 struct-rule-look-requires t c κs =
     search needs
 
--- src/coerce.rt:407:9
+-- src/coerce.rt:492:9
 struct-rule-look-requires-2 : (t : ℕ) → struct-rule-lts.Need-look-requires-2 (struct-rule-calls t) (struct-rule-at t) struct-rule.Post
 struct-rule-look-requires-2 t c κs =
     search needs
 
--- src/coerce.rt:410:13
+-- src/coerce.rt:496:9
 struct-rule-both-requires : (t : ℕ) → struct-rule-lts.Need-both-requires (struct-rule-calls t) (struct-rule-at t) struct-rule.Post
 struct-rule-both-requires t c κs =
     search needs
 
--- src/coerce.rt:410:47
+-- src/coerce.rt:497:9
 struct-rule-same-arity-requires : (t : ℕ) → struct-rule-lts.Need-same-arity-requires (struct-rule-calls t) (struct-rule-at t) struct-rule.Post
 struct-rule-same-arity-requires t c κs =
     search needs
 
--- src/coerce.rt:410:8
+-- src/coerce.rt:495:8
 struct-rule-both-requires-2 : (t : ℕ) → struct-rule-lts.Need-both-requires-2 (struct-rule-calls t) (struct-rule-at t) struct-rule.Post
 struct-rule-both-requires-2 t c κs =
     search needs
 
--- src/coerce.rt:411:12
+-- src/coerce.rt:499:12
 struct-rule-have-same-names-requires : (t : ℕ) → struct-rule-lts.Need-have-same-names-requires (struct-rule-calls t) (struct-rule-at t) struct-rule.Post
 struct-rule-have-same-names-requires t c κs =
     (c .before .before .before .before .before .before .before .before .before .before .before .before .before .before .pre .1 .0 .few)
 
--- src/coerce.rt:412:13
+-- src/coerce.rt:500:13
 struct-rule-under-requires : (t : ℕ) → struct-rule-lts.Need-under-requires (struct-rule-calls t) (struct-rule-at t) struct-rule.Post
 struct-rule-under-requires t c κs =
     (omega (arith, (c .before .before .before .before .before .before .before .before .before .before .before .before .before .before .before .before .before .pre .0)), ((c .before .before .before .before .before .before .before .before .before .before .before .before .before .before .before .before .before .pre .1), omega arith))
 
--- src/coerce.rt:412:13
+-- src/coerce.rt:500:13
 struct-rule-same-length : (t : ℕ) → struct-rule-lts.Need-same-length (struct-rule-calls t) (struct-rule-at t) struct-rule.Post
 struct-rule-same-length t c =
     search needs
 
--- src/coerce.rt:412:13
+-- src/coerce.rt:500:13
 struct-rule-returns : (t : ℕ) → struct-rule-lts.Need-returns (struct-rule-calls t) (struct-rule-at t) struct-rule.Post
 struct-rule-returns t c =
     struct-named _ _ _ (c .before .before .before .before .before .before .before .before .before .before .before .before .before .before .before .before .before .before .before .before .args .swap) _ _ _ _ _ _ _ (c .before .before .before .before .before .before .before .before .before .before .before .before .before .before .before .before .look .ensures .0) (c .before .before .before .before .before .before .before .before .before .before .before .before .before .before .look2 .ensures .0) (c .before .before .before .before .before .before .before .before .before .same-arity .ensures) (c .before .before .before .before .before .have-same-names .ensures) (and-are (c .before .before .before .before .before .before .before .before .before .before .before .both .ensures) refl (c .before .before .before .before .before .before .before .before .both2 .ensures) ∙ (c .before .before .before .before .before .before .before .if1 .taken)) _ _ (c .before .before .before .before .if2 .taken) (omega (arith, (c .before .before .before .before .before .before .before .before .before .before .before .before .before .before .before .before .before .before .before .before .pre .1 .1 .some), (c .before .before .before .before .before .before .before .before .before .before .before .before .before .before .before .before .before .before .before .before .pre .1 .1 .records))) (c .before .before .under .ensures)
 
--- src/coerce.rt:414:9
+-- src/coerce.rt:517:9
 struct-rule-under-requires-2 : (t : ℕ) → struct-rule-lts.Need-under-requires-2 (struct-rule-calls t) (struct-rule-at t) struct-rule.Post
 struct-rule-under-requires-2 t c κs =
     (omega (arith, (c .before .before .before .before .before .before .before .before .before .before .before .before .before .before .before .before .before .pre .0)), ((c .before .before .before .before .before .before .before .before .before .before .before .before .before .before .before .before .before .pre .1), omega arith))
 
--- src/coerce.rt:414:9
+-- src/coerce.rt:517:9
 struct-rule-same-length-2 : (t : ℕ) → struct-rule-lts.Need-same-length-2 (struct-rule-calls t) (struct-rule-at t) struct-rule.Post
 struct-rule-same-length-2 t c =
     search needs
 
--- src/coerce.rt:414:9
+-- src/coerce.rt:517:9
 struct-rule-returns-2 : (t : ℕ) → struct-rule-lts.Need-returns-2 (struct-rule-calls t) (struct-rule-at t) struct-rule.Post
 struct-rule-returns-2 t c =
     struct-placed _ _ _ (c .before .before .before .before .before .before .before .before .before .before .before .before .before .before .before .before .before .before .before .before .args .swap) _ _ _ _ _ _ _ (c .before .before .before .before .before .before .before .before .before .before .before .before .before .before .before .before .look .ensures .0) (c .before .before .before .before .before .before .before .before .before .before .before .before .before .before .look2 .ensures .0) (c .before .before .before .before .before .before .before .before .before .same-arity .ensures) (c .before .before .before .before .before .have-same-names .ensures) (and-are (c .before .before .before .before .before .before .before .before .before .before .before .both .ensures) refl (c .before .before .before .before .before .before .before .before .both2 .ensures) ∙ (c .before .before .before .before .before .before .before .if1 .taken)) _ _ (c .before .before .before .before .if2 .left) (c .before .before .under2 .ensures)
 
--- src/coerce.rt:391:1
+-- src/coerce.rt:476:1
 struct-rule-same-length-3 : (t : ℕ) → struct-rule-lts.Need-same-length-3 (struct-rule-calls t) (struct-rule-at t) struct-rule.Post
 struct-rule-same-length-3 t c =
     search needs
 
--- src/coerce.rt:391:1
+-- src/coerce.rt:476:1
 struct-rule-returns-3 : (t : ℕ) → struct-rule-lts.Need-returns-3 (struct-rule-calls t) (struct-rule-at t) struct-rule.Post
 struct-rule-returns-3 t c =
     struct-none _ _ _ (c .before .before .before .before .before .before .before .before .before .before .before .before .before .args .swap) _ _ _ _ _ _ _ (c .before .before .before .before .before .before .before .before .before .look .ensures .0) (c .before .before .before .before .before .before .before .look2 .ensures .0) (c .before .before .same-arity .ensures) (and-are (c .before .before .before .before .both .ensures) refl (c .before .both2 .ensures) ∙ (c .if1 .left))
 
--- src/coerce.rt:357:17
+-- src/coerce.rt:414:17
 under-add-label : (t : ℕ) → under-lts.Need-add-label (under-calls t) (under-at t) under.Post
 under-add-label t c =
     search needs
 
--- src/coerce.rt:359:9
+-- src/coerce.rt:416:9
 under-returns : (t : ℕ) → under-lts.Need-returns (under-calls t) (under-at t) under.Post
 under-returns t c =
     under-full _ _ _ _ _ _ _ _ _ _ _ _ (c .if1 .taken)
 
--- src/coerce.rt:361:50
+-- src/coerce.rt:418:50
 under-first-link-requires : (t : ℕ) → under-lts.Need-first-link-requires (under-calls t) (under-at t) under.Post
 under-first-link-requires t c κs =
     search needs
 
--- src/coerce.rt:361:5
+-- src/coerce.rt:418:5
 under-lay-requires : (t : ℕ) → under-lts.Need-lay-requires (under-calls t) (under-at t) under.Post
 under-lay-requires t c κs =
     ((c .before .before .before .before .before .before .before .pre .1 .0), ((c .before .before .if1 .left), ((c .before .before .before .before .before .before .before .pre .1 .1), (c .first-link .ensures .1))))
 
--- src/coerce.rt:362:84
+-- src/coerce.rt:431:20
 under-add-t21 : (t : ℕ) → under-lts.Need-add-t21 (under-calls t) (under-at t) under.Post
 under-add-t21 t c =
     search needs
 
--- src/coerce.rt:362:5
+-- src/coerce.rt:419:5
 under-rows-requires : (t : ℕ) → under-lts.Need-rows-requires (under-calls t) (under-at t) under.Post
 under-rows-requires t c κs =
     (omega (arith, (c .before .before .before .before .before .before .before .before .before .before .before .pre .0)), (room-kept ((c .before .before .before .lay .ensures .kept)) (c .before .before .before .before .before .before .before .before .before .before .before .pre .1 .0 .0), after-passes _ (c .before .before .before .before .before .before .before .before .before .before .before .pre .1 .0 .1) (c .before .before .before .before .before .before .if1 .left) .0))
 
--- src/coerce.rt:337:1
+-- src/coerce.rt:394:1
 under-same-length : (t : ℕ) → under-lts.Need-same-length (under-calls t) (under-at t) under.Post
 under-same-length t c =
     search needs
 
--- src/coerce.rt:337:1
+-- src/coerce.rt:394:1
 under-returns-2 : (t : ℕ) → under-lts.Need-returns-2 (under-calls t) (under-at t) under.Post
 under-returns-2 t c =
     under-on _ _ _ _ _ _ _ _ _ _ _ _ _ _ (c .before .before .before .before .before .before .before .before .before .before .before .before .before .before .pre .1 .0 .0) (c .before .before .before .before .before .before .before .before .before .before .before .before .before .before .pre .1 .0 .1) (c .before .before .before .before .before .before .before .before .before .if1 .left) (c .before .before .before .before .before .before .before .first-link .ensures .0) (c .before .before .before .before .before .before .lay .ensures) (c .before .before .rows .ensures)
 
--- src/coerce.rt:250:11
+-- src/coerce.rt:309:11
 unwrap-wrapper-requires : (t : ℕ) → unwrap-lts.Need-wrapper-requires (unwrap-calls t) (unwrap-at t) unwrap.Post
 unwrap-wrapper-requires t c κs =
     (omega (arith, (c .before .before .before .pre .0)), ((c .before .before .before .pre .1), inl refl))
 
--- src/coerce.rt:251:19
+-- src/coerce.rt:310:19
 unwrap-enum-known-d : (t : ℕ) → unwrap-lts.Need-enum-known-d (unwrap-calls t) (unwrap-at t) unwrap.Post
 unwrap-enum-known-d t c =
     search needs
 
--- src/coerce.rt:252:41
+-- src/coerce.rt:311:41
 unwrap-enum-told : (t : ℕ) → unwrap-lts.Need-enum-told (unwrap-calls t) (unwrap-at t) unwrap.Post
 unwrap-enum-told t c =
     search needs
 
--- src/coerce.rt:252:26
+-- src/coerce.rt:311:26
 unwrap-wrapper-requires-2 : (t : ℕ) → unwrap-lts.Need-wrapper-requires-2 (unwrap-calls t) (unwrap-at t) unwrap.Post
 unwrap-wrapper-requires-2 t c κs =
     (omega (arith, (c .before .before .before .before .before .before .before .before .before .pre .0)), ((room-kept (c .before .before .before .before .before .wrapper .ensures .writes .kept) (c .before .before .before .before .before .before .before .before .before .pre .1 .0), (c .before .before .before .before .before .before .before .before .before .pre .1 .1)), inr refl))
 
--- src/coerce.rt:253:23
+-- src/coerce.rt:312:23
 unwrap-enum-known-d-2 : (t : ℕ) → unwrap-lts.Need-enum-known-d-2 (unwrap-calls t) (unwrap-at t) unwrap.Post
 unwrap-enum-known-d-2 t c =
     search needs
 
--- src/coerce.rt:254:38
+-- src/coerce.rt:313:38
 unwrap-enum-told-2 : (t : ℕ) → unwrap-lts.Need-enum-told-2 (unwrap-calls t) (unwrap-at t) unwrap.Post
 unwrap-enum-told-2 t c =
     search needs
 
--- src/coerce.rt:254:24
+-- src/coerce.rt:313:24
 unwrap-nested-requires : (t : ℕ) → unwrap-lts.Need-nested-requires (unwrap-calls t) (unwrap-at t) unwrap.Post
 unwrap-nested-requires t c κs =
     (omega (arith, (c .before .before .before .before .before .before .before .before .before .before .before .before .before .before .before .pre .0)), (room-kept (c .before .before .before .before .before .wrapper2 .ensures .writes .kept) (room-kept (c .before .before .before .before .before .before .before .before .before .before .before .wrapper .ensures .writes .kept) (c .before .before .before .before .before .before .before .before .before .before .before .before .before .before .before .pre .1 .0)), (c .before .before .before .before .before .before .before .before .before .before .before .before .before .before .before .pre .1 .1)))
 
--- src/coerce.rt:255:26
+-- src/coerce.rt:314:26
 unwrap-enum-told-3 : (t : ℕ) → unwrap-lts.Need-enum-told-3 (unwrap-calls t) (unwrap-at t) unwrap.Post
 unwrap-enum-told-3 t c =
     search needs
 
--- src/coerce.rt:257:22
+-- src/coerce.rt:316:22
 unwrap-enum-told-4 : (t : ℕ) → unwrap-lts.Need-enum-told-4 (unwrap-calls t) (unwrap-at t) unwrap.Post
 unwrap-enum-told-4 t c =
     search needs
 
--- src/coerce.rt:235:1
+-- src/coerce.rt:294:1
 unwrap-same-length : (t : ℕ) → unwrap-lts.Need-same-length (unwrap-calls t) (unwrap-at t) unwrap.Post
 unwrap-same-length t c =
     search needs
 
--- src/coerce.rt:235:1
+-- src/coerce.rt:294:1
 unwrap-returns : (t : ℕ) → unwrap-lts.Need-returns (unwrap-calls t) (unwrap-at t) unwrap.Post
 unwrap-returns t c =
     unwrap-first _ _ _ _ (c .before .before .before .before .before .before .before .before .before .args .swap) _ _ _ _ _ _ _ (rw (c .before .d .given .1) at (c .before .before .before .before .before .wrapper .ensures))
 
--- src/coerce.rt:235:1
+-- src/coerce.rt:294:1
 unwrap-same-length-2 : (t : ℕ) → unwrap-lts.Need-same-length-2 (unwrap-calls t) (unwrap-at t) unwrap.Post
 unwrap-same-length-2 t c =
     search needs
 
--- src/coerce.rt:235:1
+-- src/coerce.rt:294:1
 unwrap-returns-2 : (t : ℕ) → unwrap-lts.Need-returns-2 (unwrap-calls t) (unwrap-at t) unwrap.Post
 unwrap-returns-2 t c =
     unwrap-second _ _ _ _ (c .before .before .before .before .before .before .before .before .before .before .before .before .before .before .before .args .swap) _ _ _ _ _ _ (c .before .before .before .before .before .before .before .before .before .before .before .before .before .before .before .pre .1 .0) (rw (c .before .before .before .before .before .before .before .enum-told .given .1) at (c .before .before .before .before .before .before .before .before .before .before .before .wrapper .ensures)) _ _ (rw (c .before .d2 .given .1) at (c .before .before .before .before .before .wrapper2 .ensures))
 
--- src/coerce.rt:235:1
+-- src/coerce.rt:294:1
 unwrap-same-length-3 : (t : ℕ) → unwrap-lts.Need-same-length-3 (unwrap-calls t) (unwrap-at t) unwrap.Post
 unwrap-same-length-3 t c =
     search needs
 
--- src/coerce.rt:235:1
+-- src/coerce.rt:294:1
 unwrap-returns-3 : (t : ℕ) → unwrap-lts.Need-returns-3 (unwrap-calls t) (unwrap-at t) unwrap.Post
 unwrap-returns-3 t c =
     unwrap-nested _ _ _ _ (c .before .before .before .before .before .before .before .before .before .before .before .before .before .before .before .before .before .before .args .swap) _ _ _ _ _ _ (c .before .before .before .before .before .before .before .before .before .before .before .before .before .before .before .before .before .before .pre .1 .0) (rw (c .before .before .before .before .before .before .before .before .before .before .enum-told .given .1) at (c .before .before .before .before .before .before .before .before .before .before .before .before .before .before .wrapper .ensures)) _ _ _ (rw (c .before .before .before .before .enum-told2 .given .1) at (c .before .before .before .before .before .before .before .before .wrapper2 .ensures)) (c .before .before .nested .ensures)
 
--- src/coerce.rt:235:1
+-- src/coerce.rt:294:1
 unwrap-same-length-4 : (t : ℕ) → unwrap-lts.Need-same-length-4 (unwrap-calls t) (unwrap-at t) unwrap.Post
 unwrap-same-length-4 t c =
     search needs
 
--- src/coerce.rt:235:1
+-- src/coerce.rt:294:1
 unwrap-returns-4 : (t : ℕ) → unwrap-lts.Need-returns-4 (unwrap-calls t) (unwrap-at t) unwrap.Post
 unwrap-returns-4 t c =
     unwrap-second-full _ _ _ _ (c .before .before .before .before .before .before .before .before .before .before .before .before .before .before .args .swap) _ _ _ _ _ _ (c .before .before .before .before .before .before .before .before .before .before .before .before .before .before .pre .1 .0) (rw (c .before .before .before .before .before .before .enum-told .given .1) at (c .before .before .before .before .before .before .before .before .before .before .wrapper .ensures)) _ (rw (c .enum-told3 .given .1) at (c .before .before .before .before .wrapper2 .ensures))
 
--- src/coerce.rt:235:1
+-- src/coerce.rt:294:1
 unwrap-same-length-5 : (t : ℕ) → unwrap-lts.Need-same-length-5 (unwrap-calls t) (unwrap-at t) unwrap.Post
 unwrap-same-length-5 t c =
     search needs
 
--- src/coerce.rt:235:1
+-- src/coerce.rt:294:1
 unwrap-returns-5 : (t : ℕ) → unwrap-lts.Need-returns-5 (unwrap-calls t) (unwrap-at t) unwrap.Post
 unwrap-returns-5 t c =
     unwrap-full _ _ _ _ (c .before .before .before .before .before .before .before .before .args .swap) _ _ _ _ _ _ (rw (c .enum-told4 .given .1) at (c .before .before .before .before .wrapper .ensures))
 
--- src/coerce.rt:279:9
+-- src/coerce.rt:338:9
 wrapper-kind-at-requires : (t : ℕ) → wrapper-lts.Need-kind-at-requires (wrapper-calls t) (wrapper-at t) wrapper.Post
 wrapper-kind-at-requires t c κs =
     search needs
 
--- src/coerce.rt:280:9
+-- src/coerce.rt:339:9
 wrapper-kind-at-requires-2 : (t : ℕ) → wrapper-lts.Need-kind-at-requires-2 (wrapper-calls t) (wrapper-at t) wrapper.Post
 wrapper-kind-at-requires-2 t c κs =
     search needs
 
--- src/coerce.rt:281:9
+-- src/coerce.rt:340:9
 wrapper-value-at-requires : (t : ℕ) → wrapper-lts.Need-value-at-requires (wrapper-calls t) (wrapper-at t) wrapper.Post
 wrapper-value-at-requires t c κs =
     search needs
 
--- src/coerce.rt:282:9
+-- src/coerce.rt:341:9
 wrapper-value-at-requires-2 : (t : ℕ) → wrapper-lts.Need-value-at-requires-2 (wrapper-calls t) (wrapper-at t) wrapper.Post
 wrapper-value-at-requires-2 t c κs =
     search needs
 
--- src/coerce.rt:285:13
+-- src/coerce.rt:344:13
 wrapper-coerce-requires : (t : ℕ) → wrapper-lts.Need-coerce-requires (wrapper-calls t) (wrapper-at t) wrapper.Post
 wrapper-coerce-requires t c κs =
     (omega (arith, (c .before .before .before .before .before .before .before .before .before .before .before .before .before .pre .0)), (c .before .before .before .before .before .before .before .before .before .before .before .before .before .pre .1 .0))
 
--- src/coerce.rt:285:13
+-- src/coerce.rt:344:13
 wrapper-same-length : (t : ℕ) → wrapper-lts.Need-same-length (wrapper-calls t) (wrapper-at t) wrapper.Post
 wrapper-same-length t c =
     search needs
 
--- src/coerce.rt:285:13
+-- src/coerce.rt:344:13
 wrapper-returns : (t : ℕ) → wrapper-lts.Need-returns (wrapper-calls t) (wrapper-at t) wrapper.Post
 wrapper-returns t c =
     wrapper-both _ _ _ (c .before .before .before .before .before .before .before .before .before .before .before .before .before .before .before .before .args .swap) _ _ _ _ _ (c .before .before .before .before .before .before .before .before .before .before .before .before .kind-at .ensures) (c .before .before .before .before .before .before .before .before .before .before .kind-at2 .ensures) (c .before .before .before .before .before .before .before .before .before .before .before .before .before .before .before .before .pre .1 .1) _ _ (c .before .before .before .before .before .before .before .before .value-at .ensures) (c .before .before .before .before .before .before .value-at2 .ensures) (c .before .before .before .before .before .if1 .taken) (c .before .before .before .before .if2 .taken) (c .before .before .coerce .ensures)
 
--- src/coerce.rt:287:12
+-- src/coerce.rt:346:12
 wrapper-same-sides-requires : (t : ℕ) → wrapper-lts.Need-same-sides-requires (wrapper-calls t) (wrapper-at t) wrapper.Post
 wrapper-same-sides-requires t c κs =
     search needs
 
--- src/coerce.rt:288:13
+-- src/coerce.rt:347:13
 wrapper-copy-type-requires : (t : ℕ) → wrapper-lts.Need-copy-type-requires (wrapper-calls t) (wrapper-at t) wrapper.Post
 wrapper-copy-type-requires t c κs =
     (c .before .before .before .before .before .before .before .before .before .before .before .before .before .before .before .before .pre .1 .0)
 
--- src/coerce.rt:288:13
+-- src/coerce.rt:347:13
 wrapper-same-length-2 : (t : ℕ) → wrapper-lts.Need-same-length-2 (wrapper-calls t) (wrapper-at t) wrapper.Post
 wrapper-same-length-2 t c =
     search needs
 
--- src/coerce.rt:288:13
+-- src/coerce.rt:347:13
 wrapper-returns-2 : (t : ℕ) → wrapper-lts.Need-returns-2 (wrapper-calls t) (wrapper-at t) wrapper.Post
 wrapper-returns-2 t c =
     wrapper-left-same _ _ _ (c .before .before .before .before .before .before .before .before .before .before .before .before .before .before .before .before .before .before .before .args .swap) _ _ _ _ _ (c .before .before .before .before .before .before .before .before .before .before .before .before .before .before .before .kind-at .ensures) (c .before .before .before .before .before .before .before .before .before .before .before .before .before .kind-at2 .ensures) (c .before .before .before .before .before .before .before .before .before .before .before .before .before .before .before .before .before .before .before .pre .1 .1) _ _ (c .before .before .before .before .before .before .before .before .if1 .taken) (c .before .before .before .before .before .before .before .if2 .left) (c .before .before .before .before .before .before .before .before .before .before .before .value-at .ensures) (c .before .before .before .before .before .same-sides .ensures) (c .before .before .before .before .if3 .taken) (c .before .before .copy-type .ensures)
 
--- src/coerce.rt:290:9
+-- src/coerce.rt:349:9
 wrapper-coerce-requires-2 : (t : ℕ) → wrapper-lts.Need-coerce-requires-2 (wrapper-calls t) (wrapper-at t) wrapper.Post
 wrapper-coerce-requires-2 t c κs =
     (omega (arith, (c .before .before .before .before .before .before .before .before .before .before .before .before .before .before .before .before .pre .0)), (c .before .before .before .before .before .before .before .before .before .before .before .before .before .before .before .before .pre .1 .0))
 
--- src/coerce.rt:290:9
+-- src/coerce.rt:349:9
 wrapper-same-length-3 : (t : ℕ) → wrapper-lts.Need-same-length-3 (wrapper-calls t) (wrapper-at t) wrapper.Post
 wrapper-same-length-3 t c =
     search needs
 
--- src/coerce.rt:290:9
+-- src/coerce.rt:349:9
 wrapper-returns-3 : (t : ℕ) → wrapper-lts.Need-returns-3 (wrapper-calls t) (wrapper-at t) wrapper.Post
 wrapper-returns-3 t c =
     wrapper-left _ _ _ (c .before .before .before .before .before .before .before .before .before .before .before .before .before .before .before .before .before .before .before .args .swap) _ _ _ _ _ (c .before .before .before .before .before .before .before .before .before .before .before .before .before .before .before .kind-at .ensures) (c .before .before .before .before .before .before .before .before .before .before .before .before .before .kind-at2 .ensures) (c .before .before .before .before .before .before .before .before .before .before .before .before .before .before .before .before .before .before .before .pre .1 .1) _ _ (c .before .before .before .before .before .before .before .before .if1 .taken) (c .before .before .before .before .before .before .before .if2 .left) (c .before .before .before .before .before .before .before .before .before .before .before .value-at .ensures) (c .before .before .before .before .before .same-sides .ensures) (c .before .before .before .before .if3 .left) (c .before .before .coerce2 .ensures)
 
--- src/coerce.rt:293:12
+-- src/coerce.rt:352:12
 wrapper-same-sides-requires-2 : (t : ℕ) → wrapper-lts.Need-same-sides-requires-2 (wrapper-calls t) (wrapper-at t) wrapper.Post
 wrapper-same-sides-requires-2 t c κs =
     search needs
 
--- src/coerce.rt:294:13
+-- src/coerce.rt:353:13
 wrapper-copy-type-requires-2 : (t : ℕ) → wrapper-lts.Need-copy-type-requires-2 (wrapper-calls t) (wrapper-at t) wrapper.Post
 wrapper-copy-type-requires-2 t c κs =
     (c .before .before .before .before .before .before .before .before .before .before .before .before .before .before .before .before .pre .1 .0)
 
--- src/coerce.rt:294:13
+-- src/coerce.rt:353:13
 wrapper-same-length-4 : (t : ℕ) → wrapper-lts.Need-same-length-4 (wrapper-calls t) (wrapper-at t) wrapper.Post
 wrapper-same-length-4 t c =
     search needs
 
--- src/coerce.rt:294:13
+-- src/coerce.rt:353:13
 wrapper-returns-4 : (t : ℕ) → wrapper-lts.Need-returns-4 (wrapper-calls t) (wrapper-at t) wrapper.Post
 wrapper-returns-4 t c =
     wrapper-right-same _ _ _ (c .before .before .before .before .before .before .before .before .before .before .before .before .before .before .before .before .before .before .before .args .swap) _ _ _ _ _ (c .before .before .before .before .before .before .before .before .before .before .before .before .before .before .before .kind-at .ensures) (c .before .before .before .before .before .before .before .before .before .before .before .before .before .kind-at2 .ensures) (c .before .before .before .before .before .before .before .before .before .before .before .before .before .before .before .before .before .before .before .pre .1 .1) _ _ (c .before .before .before .before .before .before .before .before .if1 .left) (c .before .before .before .before .before .before .before .if4 .taken) (c .before .before .before .before .before .before .before .before .before .value-at2 .ensures) (c .before .before .before .before .before .same-sides2 .ensures) (c .before .before .before .before .if5 .taken) (c .before .before .copy-type2 .ensures)
 
--- src/coerce.rt:296:9
+-- src/coerce.rt:355:9
 wrapper-coerce-requires-3 : (t : ℕ) → wrapper-lts.Need-coerce-requires-3 (wrapper-calls t) (wrapper-at t) wrapper.Post
 wrapper-coerce-requires-3 t c κs =
     (omega (arith, (c .before .before .before .before .before .before .before .before .before .before .before .before .before .before .before .before .pre .0)), (c .before .before .before .before .before .before .before .before .before .before .before .before .before .before .before .before .pre .1 .0))
 
--- src/coerce.rt:296:9
+-- src/coerce.rt:355:9
 wrapper-same-length-5 : (t : ℕ) → wrapper-lts.Need-same-length-5 (wrapper-calls t) (wrapper-at t) wrapper.Post
 wrapper-same-length-5 t c =
     search needs
 
--- src/coerce.rt:296:9
+-- src/coerce.rt:355:9
 wrapper-returns-5 : (t : ℕ) → wrapper-lts.Need-returns-5 (wrapper-calls t) (wrapper-at t) wrapper.Post
 wrapper-returns-5 t c =
     wrapper-right _ _ _ (c .before .before .before .before .before .before .before .before .before .before .before .before .before .before .before .before .before .before .before .args .swap) _ _ _ _ _ (c .before .before .before .before .before .before .before .before .before .before .before .before .before .before .before .kind-at .ensures) (c .before .before .before .before .before .before .before .before .before .before .before .before .before .kind-at2 .ensures) (c .before .before .before .before .before .before .before .before .before .before .before .before .before .before .before .before .before .before .before .pre .1 .1) _ _ (c .before .before .before .before .before .before .before .before .if1 .left) (c .before .before .before .before .before .before .before .if4 .taken) (c .before .before .before .before .before .before .before .before .before .value-at2 .ensures) (c .before .before .before .before .before .same-sides2 .ensures) (c .before .before .before .before .if5 .left) (c .before .before .coerce3 .ensures)
 
--- src/coerce.rt:262:1
+-- src/coerce.rt:321:1
 wrapper-same-length-6 : (t : ℕ) → wrapper-lts.Need-same-length-6 (wrapper-calls t) (wrapper-at t) wrapper.Post
 wrapper-same-length-6 t c =
     search needs
 
--- src/coerce.rt:262:1
+-- src/coerce.rt:321:1
 wrapper-returns-6 : (t : ℕ) → wrapper-lts.Need-returns-6 (wrapper-calls t) (wrapper-at t) wrapper.Post
 wrapper-returns-6 t c =
     wrapper-none _ _ _ (c .before .before .before .before .before .before .before .before .before .before .before .before .args .swap) _ _ _ _ _ (c .before .before .before .before .before .before .before .before .kind-at .ensures) (c .before .before .before .before .before .before .kind-at2 .ensures) (c .before .before .before .before .before .before .before .before .before .before .before .before .pre .1 .1) (c .before .if1 .left) (c .if4 .left)
@@ -1684,14 +1712,20 @@ pub +both-parts+coerce+coerce-field+entry+list-rule+list-struct+map-rule+nested+
     (coerce-copy-type-requires t)
     (coerce-same-length t)
     (coerce-returns-2 t)
-    (coerce-sub-resolve t)
-    (coerce-resolve-requires t)
+    (coerce-kind-at-requires t)
+    (coerce-kind-at-requires-2 t)
+    (coerce-both-requires t)
+    (coerce-plain-rule-requires t)
     (coerce-same-length-2 t)
     (coerce-returns-3 t)
+    (coerce-sub-resolve t)
+    (coerce-resolve-requires t)
+    (coerce-same-length-3 t)
+    (coerce-returns-4 t)
     (coerce-sub-unwrap t)
     (coerce-unwrap-requires t)
-    (coerce-same-length-3 t)
-    (coerce-returns-4 t))
+    (coerce-same-length-4 t)
+    (coerce-returns-5 t))
     (λ t. coerce-field-lts.spec (coerce-field-calls t)
     (coerce-field-at t)
     coerce-field.Post
@@ -1758,8 +1792,8 @@ pub +both-parts+coerce+coerce-field+entry+list-rule+list-struct+map-rule+nested+
     (λ t. nested-lts.spec (nested-calls t)
     (nested-at t)
     nested.Post
-    (nested-look-requires t)
-    (nested-look-requires-2 t)
+    (nested-kind-at-requires t)
+    (nested-kind-at-requires-2 t)
     (nested-is-list-requires t)
     (nested-is-list-requires-2 t)
     (nested-both-requires t)
@@ -1778,8 +1812,7 @@ pub +both-parts+coerce+coerce-field+entry+list-rule+list-struct+map-rule+nested+
     (nested-map-rule-requires t)
     (nested-same-length-4 t)
     (nested-returns-4 t)
-    (nested-plain-requires t)
-    (nested-lay-step-requires t)
+    (nested-plain-rule-requires t)
     (nested-same-length-5 t)
     (nested-returns-5 t))
     (λ t. resolve-lts.spec (resolve-calls t)
