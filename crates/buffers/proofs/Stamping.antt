@@ -16,9 +16,9 @@ use Rattle.sheet.specs.declared.Head.{Head}
 use Rattle.sheet.proofs.Bytewise.{cut-part}
 use Rattle.coercion.specs.Data.{DataType, Rules, size, ofUnit, zoned}
 use Rattle.coercion.specs.Times.{zoneCoercion}
-use Rattle.coercion.specs.Zones as Zones
+use Rattle.rules.specs.Zones as Zones
 use Rattle.coercion.specs.declared.Figures.{Figures}
-use Rattle.coercion.specs.declared.zone.Place.{Place}
+use Rattle.rules.specs.declared.zone.Place.{Place}
 use Rattle.buffers.specs.Writes.{side}
 use Rattle.buffers.specs.Goal.{letters, Means, LaidPlain, LaidZoned, CopiedType, shapeFor}
 use Rattle.buffers.specs.Plain.{plainRules}

@@ -21,7 +21,7 @@ use Rattle.coercion.specs.Nested.{shapeOfKind, listShape}
 use Rattle.coercion.specs.Answers.{ofKindType}
 use Rattle.coercion.proofs.Maybe.{cond-is}
 use Rattle.coercion.proofs.Ranked.{kind-from}
-use Rattle.coercion.proofs.Moments.{left-string, right-string, no-string}
+use Rattle.rules.proofs.Moments.{left-string, right-string, no-string}
 use Rattle.buffers.specs.Goal.{shapeFor}
 use Rattle.buffers.specs.Plain.{isListQuestion, stringTime}
 use Rattle.buffers.specs.Steps.{Reads, KeepsZone, listKind, listSize}

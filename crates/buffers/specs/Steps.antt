@@ -14,7 +14,7 @@ use Rattle.sheet.specs.declared.Head.{Head}
 use Rattle.coercion.specs.Data.{DataType, ofUnit, zoned, plain}
 use Rattle.coercion.specs.Times.{zoneCoercion}
 use Rattle.coercion.specs.declared.Figures.{Figures}
-use Rattle.coercion.specs.declared.zone.Place.{Place}
+use Rattle.rules.specs.declared.zone.Place.{Place}
 use Rattle.buffers.specs.declared.Step.{Step}
 use Rattle.buffers.specs.declared.Step.the-variants as Step
 

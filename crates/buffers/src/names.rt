@@ -19,7 +19,7 @@ use crate::Row;
 use crate::Space;
 use crate::copy::is_nullable;
 use crate::write::look;
-use coercion::tests::either;
+use kinds::tests::either;
 use sheet::Head;
 use sheet::label::same_name;
 

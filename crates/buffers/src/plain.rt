@@ -17,17 +17,17 @@ use coercion::Figures;
 use coercion::Found;
 use coercion::Moment;
 use coercion::Side;
-use coercion::numbers::binary_numeric_coercion;
-use coercion::sides::null_coercion;
-use coercion::sides::string_numeric_coercion;
-use coercion::sides::string_numeric_union_coercion;
-use coercion::sides::string_temporal_coercion;
-use coercion::strings::binary_coercion;
-use coercion::strings::string_coercion;
-use coercion::tests::both;
-use coercion::tests::either;
-use coercion::times::temporal_coercion;
-use coercion::times::timeunit_coercion;
+use numeric::numbers::binary_numeric_coercion;
+use rules::sides::null_coercion;
+use rules::sides::string_numeric_coercion;
+use rules::sides::string_numeric_union_coercion;
+use rules::sides::string_temporal_coercion;
+use rules::strings::binary_coercion;
+use rules::strings::string_coercion;
+use kinds::tests::both;
+use kinds::tests::either;
+use rules::times::temporal_coercion;
+use rules::times::timeunit_coercion;
 use sheet::Head;
 
 pub fn is_list_question(question: Question) -> bool

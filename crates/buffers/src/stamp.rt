@@ -20,9 +20,9 @@ use crate::lay::lay_plain;
 use crate::lay::lay_zoned;
 use crate::plain::plain;
 use crate::write::look;
-use coercion::tests::either;
-use coercion::zone::Place;
-use coercion::zone::zone_coercion;
+use kinds::tests::either;
+use rules::zone::Place;
+use rules::zone::zone_coercion;
 use sheet::Head;
 use sheet::label::fill;
 

@@ -25,7 +25,3 @@ pub mod Feeding
 pub mod Words
 pub mod Layouts
 pub mod DecimalRule
-pub mod Chain
-pub mod Moments
-pub mod Categories
-pub mod Cores

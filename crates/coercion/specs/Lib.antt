@@ -11,4 +11,3 @@ pub mod Nested
 pub mod Answers
 pub mod Families
 pub mod Meaning
-pub mod Zones

@@ -1,11 +1,4 @@
 // The coercion rules of the source on types: the plain rules, which look at kinds and figures alone.
-pub mod category;
-pub mod numbers;
-pub mod sides;
-pub mod strings;
-pub mod tests;
-pub mod times;
-pub mod zone;
 
 // What the rules for plain types look at: a kind, a decimal's precision or a unit, and a scale as it is stored.
 pub struct Figures {

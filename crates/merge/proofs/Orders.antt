@@ -23,7 +23,7 @@ use Rattle.coercion.specs.Wrappers.{isOf, wrapperCoercion}
 use Rattle.coercion.specs.Nested.{listCoercion, structCoercion, mapCoercion}
 use Rattle.coercion.specs.Answers.{ofKindType, stringNumber, listStruct, listRules, resolutionCoercion, pairRules, ask}
 use Rattle.coercion.proofs.Ranked.{kind-from}
-use Rattle.coercion.proofs.Moments.{above}
+use Rattle.rules.proofs.Moments.{above}
 use Rattle.coercion.proofs.Words.{or-none, rulesFor}
 use Rattle.buffers.specs.Plain.{isListQuestion, stringTime, plainRules}
 use Rattle.merge.specs.Turns.{structRule, nestedOf, eitherWrapped, resolved, unwrapped, turnsFor, turnsOf}

@@ -41,9 +41,9 @@ use buffers::stamp::plain_rule;
 use buffers::write::kind_at;
 use buffers::write::look;
 use buffers::write::value_at;
-use coercion::tests::both;
-use coercion::tests::either;
-use coercion::tests::is_list;
+use kinds::tests::both;
+use kinds::tests::either;
+use kinds::tests::is_list;
 
 // The common type of two types, or none.
 pub fn coerce(

@@ -14,12 +14,12 @@ use crate::plain::same;
 use crate::rules::binary;
 use crate::rules::common;
 use crate::rules::string_temporal;
-use coercion::category::is_mixed;
-use coercion::category::is_supported;
-use coercion::category::with_category;
-use coercion::sides::string_numeric_coercion;
-use coercion::sides::string_numeric_union_coercion;
-use coercion::tests::both;
+use rules::category::is_mixed;
+use rules::category::is_supported;
+use rules::category::with_category;
+use rules::sides::string_numeric_coercion;
+use rules::sides::string_numeric_union_coercion;
+use kinds::tests::both;
 use sheet::figure::within;
 
 pub const LIST: u8 = 1;

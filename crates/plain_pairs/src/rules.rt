@@ -18,14 +18,14 @@ use crate::plain::of_moment;
 use crate::plain::of_side;
 use crate::plain::same;
 use crate::plain::timestamp;
-use coercion::numbers::binary_numeric_coercion;
-use coercion::sides::null_coercion;
-use coercion::sides::string_temporal_coercion;
-use coercion::strings::binary_coercion;
-use coercion::strings::string_coercion;
-use coercion::tests::both;
-use coercion::times::temporal_coercion;
-use coercion::times::timeunit_coercion;
+use numeric::numbers::binary_numeric_coercion;
+use rules::sides::null_coercion;
+use rules::sides::string_temporal_coercion;
+use rules::strings::binary_coercion;
+use rules::strings::string_coercion;
+use kinds::tests::both;
+use rules::times::temporal_coercion;
+use rules::times::timeunit_coercion;
 
 // Null may become every kind, 1 to 38.
 const FULL: u64 = 549755813886;

@@ -17,7 +17,7 @@ use Rattle.coercion.specs.Data.{DataType, typesOf}
 use Rattle.coercion.specs.Rules.{isNull}
 use Rattle.coercion.specs.Answers.{Category, array, boolean, numeric, dateTime, composite, unknown, notSupported, ownCategory, categoryOf, isCategory, hasCategory, asNumber, categoriesIn, allEqual}
 use Rattle.coercion.specs.Meaning.{categoryBit, isSupported}
-use Rattle.coercion.proofs.Cores.{Found}
+use Rattle.rules.proofs.Cores.{Found}
 use Rattle.buffers.specs.Source.{SameTypes}
 use Rattle.buffers.specs.Typed.{Typed}
 use Rattle.buffers.specs.declared.Space.{Space}

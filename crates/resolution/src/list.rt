@@ -8,10 +8,10 @@ ghost use Rattle.buffers.specs.Typed.{Typed};
 ghost use Rattle.resolution.specs.Reached.{Listed, categoryBits, fitting};
 use buffers::Space;
 use buffers::alike::same_type;
-use coercion::category::core_kind;
-use coercion::category::is_mixed;
-use coercion::category::is_supported;
-use coercion::category::with_category;
+use rules::category::core_kind;
+use rules::category::is_mixed;
+use rules::category::is_supported;
+use rules::category::with_category;
 use sheet::record::head_at;
 
 // Whether the types at a link, past floor, are all the same as that of record `first`.

@@ -5,7 +5,7 @@ use Rattle.buffers.proofs.names.row_of.Statement.{statement}
 use Rattle.buffers.proofs.names.row_of.Tie as tie
 use Rattle.buffers.proofs.names.row_of.Reads as reads
 use Rattle.buffers.proofs.names.row_of.Lts as lts
-use Rattle.coercion.proofs.tests.either.Reads as either-reads
+use Rattle.kinds.proofs.tests.either.Reads as either-reads
 use Rattle.buffers.proofs.copy.is_nullable.Reads as is-nullable-reads
 
 -- src/names.rt:124:26

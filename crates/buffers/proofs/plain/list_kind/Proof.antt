@@ -5,8 +5,8 @@ use Rattle.buffers.proofs.plain.list_kind.Statement.{statement}
 use Rattle.buffers.proofs.plain.list_kind.Tie as tie
 use Rattle.buffers.proofs.plain.list_kind.Reads as reads
 use Rattle.buffers.proofs.plain.list_kind.Lts as lts
-use Rattle.coercion.proofs.tests.both.Reads as both-reads
-use Rattle.coercion.proofs.tests.either.Reads as either-reads
+use Rattle.kinds.proofs.tests.both.Reads as both-reads
+use Rattle.kinds.proofs.tests.either.Reads as either-reads
 
 -- src/plain.rt:47:8
 both-requires : tie.Need-both-requires

@@ -5,7 +5,7 @@ use Rattle.buffers.proofs.plain.list_size.Statement.{statement}
 use Rattle.buffers.proofs.plain.list_size.Tie as tie
 use Rattle.buffers.proofs.plain.list_size.Reads as reads
 use Rattle.buffers.proofs.plain.list_size.Lts as lts
-use Rattle.coercion.proofs.tests.both.Reads as both-reads
+use Rattle.kinds.proofs.tests.both.Reads as both-reads
 
 -- src/plain.rt:61:8
 both-requires : tie.Need-both-requires

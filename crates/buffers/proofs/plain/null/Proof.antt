@@ -6,7 +6,7 @@ use Rattle.buffers.proofs.plain.null.Statement.{statement}
 use Rattle.buffers.proofs.plain.null.Tie as tie
 use Rattle.buffers.proofs.plain.null.Reads as reads
 use Rattle.buffers.proofs.plain.null.Lts as lts
-use Rattle.coercion.proofs.sides.null_coercion.Reads as null-coercion-reads
+use Rattle.rules.proofs.sides.null_coercion.Reads as null-coercion-reads
 use Rattle.buffers.proofs.plain.of_side.Reads as of-side-reads
 
 -- src/plain.rt:156:9

@@ -7,7 +7,7 @@ use Rattle.buffers.proofs.plain.numeric.Statement.{statement}
 use Rattle.buffers.proofs.plain.numeric.Tie as tie
 use Rattle.buffers.proofs.plain.numeric.Reads as reads
 use Rattle.buffers.proofs.plain.numeric.Lts as lts
-use Rattle.coercion.proofs.numbers.binary_numeric_coercion.Reads as binary-numeric-coercion-reads
+use Rattle.numeric.proofs.numbers.binary_numeric_coercion.Reads as binary-numeric-coercion-reads
 use Rattle.buffers.proofs.plain.figures.Reads as figures-reads
 use Rattle.buffers.proofs.plain.of_common.Reads as of-common-reads
 

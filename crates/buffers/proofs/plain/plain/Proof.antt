@@ -9,8 +9,8 @@ use Rattle.buffers.proofs.plain.plain.Statement.{statement}
 use Rattle.buffers.proofs.plain.plain.Tie as tie
 use Rattle.buffers.proofs.plain.plain.Reads as reads
 use Rattle.buffers.proofs.plain.plain.Lts as lts
-use Rattle.coercion.proofs.strings.binary_coercion.Reads as binary-coercion-reads
-use Rattle.coercion.proofs.strings.string_coercion.Reads as string-coercion-reads
+use Rattle.rules.proofs.strings.binary_coercion.Reads as binary-coercion-reads
+use Rattle.rules.proofs.strings.string_coercion.Reads as string-coercion-reads
 use Rattle.buffers.proofs.plain.null.Reads as null-reads
 use Rattle.buffers.proofs.plain.numeric.Reads as numeric-reads
 use Rattle.buffers.proofs.plain.of_found.Reads as of-found-reads

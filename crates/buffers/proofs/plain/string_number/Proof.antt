@@ -4,8 +4,8 @@ use Rattle.buffers.proofs.plain.string_number.Statement.{statement}
 use Rattle.buffers.proofs.plain.string_number.Tie as tie
 use Rattle.buffers.proofs.plain.string_number.Reads as reads
 use Rattle.buffers.proofs.plain.string_number.Lts as lts
-use Rattle.coercion.proofs.sides.string_numeric_coercion.Reads as string-numeric-coercion-reads
-use Rattle.coercion.proofs.sides.string_numeric_union_coercion.Reads as string-numeric-union-coercion-reads
+use Rattle.rules.proofs.sides.string_numeric_coercion.Reads as string-numeric-coercion-reads
+use Rattle.rules.proofs.sides.string_numeric_union_coercion.Reads as string-numeric-union-coercion-reads
 use Rattle.buffers.proofs.plain.of_side.Reads as of-side-reads
 
 -- src/plain.rt:168:35

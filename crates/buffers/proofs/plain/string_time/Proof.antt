@@ -6,7 +6,7 @@ use Rattle.buffers.proofs.plain.string_time.Statement.{statement}
 use Rattle.buffers.proofs.plain.string_time.Tie as tie
 use Rattle.buffers.proofs.plain.string_time.Reads as reads
 use Rattle.buffers.proofs.plain.string_time.Lts as lts
-use Rattle.coercion.proofs.sides.string_temporal_coercion.Reads as string-temporal-coercion-reads
+use Rattle.rules.proofs.sides.string_temporal_coercion.Reads as string-temporal-coercion-reads
 use Rattle.buffers.proofs.plain.is_list_question.Reads as is-list-question-reads
 use Rattle.buffers.proofs.plain.of_moment.Reads as of-moment-reads
 

@@ -7,9 +7,9 @@ use Rattle.buffers.proofs.plain.temporal.Statement.{statement}
 use Rattle.buffers.proofs.plain.temporal.Tie as tie
 use Rattle.buffers.proofs.plain.temporal.Reads as reads
 use Rattle.buffers.proofs.plain.temporal.Lts as lts
-use Rattle.coercion.proofs.tests.both.Reads as both-reads
-use Rattle.coercion.proofs.times.temporal_coercion.Reads as temporal-coercion-reads
-use Rattle.coercion.proofs.times.timeunit_coercion.Reads as timeunit-coercion-reads
+use Rattle.kinds.proofs.tests.both.Reads as both-reads
+use Rattle.rules.proofs.times.temporal_coercion.Reads as temporal-coercion-reads
+use Rattle.rules.proofs.times.timeunit_coercion.Reads as timeunit-coercion-reads
 use Rattle.buffers.proofs.plain.of_common.Reads as of-common-reads
 
 -- src/plain.rt:146:8

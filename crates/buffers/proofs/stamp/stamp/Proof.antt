@@ -7,7 +7,7 @@ use Rattle.buffers.proofs.stamp.stamp.Statement.{statement}
 use Rattle.buffers.proofs.stamp.stamp.Tie as tie
 use Rattle.buffers.proofs.stamp.stamp.Reads as reads
 use Rattle.buffers.proofs.stamp.stamp.Lts as lts
-use Rattle.coercion.proofs.tests.either.Reads as either-reads
+use Rattle.kinds.proofs.tests.either.Reads as either-reads
 use Rattle.buffers.proofs.alike.is_zoned.Reads as is-zoned-reads
 use Rattle.buffers.proofs.lay.lay_plain.Reads as lay-plain-reads
 use Rattle.buffers.proofs.lay.lay_zoned.Reads as lay-zoned-reads

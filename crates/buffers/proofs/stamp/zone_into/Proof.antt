@@ -6,7 +6,7 @@ use Rattle.buffers.proofs.stamp.zone_into.Statement.{statement}
 use Rattle.buffers.proofs.stamp.zone_into.Tie as tie
 use Rattle.buffers.proofs.stamp.zone_into.Reads as reads
 use Rattle.buffers.proofs.stamp.zone_into.Lts as lts
-use Rattle.coercion.proofs.zone.zone_coercion.Reads as zone-coercion-reads
+use Rattle.rules.proofs.zone.zone_coercion.Reads as zone-coercion-reads
 use Rattle.buffers.proofs.stamp.side_length.Reads as side-length-reads
 use Rattle.buffers.proofs.stamp.zone_place.Reads as zone-place-reads
 use Rattle.sheet.proofs.label.fill.Reads as fill-reads

@@ -87,9 +87,9 @@ use Rattle.buffers.proofs.stamp.plain_rule.Reads as plain-rule-reads
 use Rattle.buffers.proofs.write.kind_at.Reads as kind-at-reads
 use Rattle.buffers.proofs.write.look.Reads as look-reads
 use Rattle.buffers.proofs.write.value_at.Reads as value-at-reads
-use Rattle.coercion.proofs.tests.both.Reads as both-reads
-use Rattle.coercion.proofs.tests.either.Reads as either-reads
-use Rattle.coercion.proofs.tests.is_list.Reads as is-list-reads
+use Rattle.kinds.proofs.tests.both.Reads as both-reads
+use Rattle.kinds.proofs.tests.either.Reads as either-reads
+use Rattle.kinds.proofs.tests.is_list.Reads as is-list-reads
 use Rattle.merge.proofs.coerce.+both_parts+coerce+coerce_field+entry+list_rule+list_struct+map_rule+nested+resolve+resolve_wrapper+rewrapped+rows+struct_rule+under+unwrap+wrapper.{
   statement,
 }

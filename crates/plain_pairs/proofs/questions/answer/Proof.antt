@@ -8,7 +8,7 @@ use Rattle.plain_pairs.proofs.questions.answer.Statement.{statement}
 use Rattle.plain_pairs.proofs.questions.answer.Tie as tie
 use Rattle.plain_pairs.proofs.questions.answer.Reads as reads
 use Rattle.plain_pairs.proofs.questions.answer.Lts as lts
-use Rattle.coercion.proofs.tests.both.Reads as both-reads
+use Rattle.kinds.proofs.tests.both.Reads as both-reads
 use Rattle.plain_pairs.proofs.plain.nothing.Reads as nothing-reads
 use Rattle.plain_pairs.proofs.questions.compare.Reads as compare-reads
 use Rattle.plain_pairs.proofs.questions.list.Reads as list-reads

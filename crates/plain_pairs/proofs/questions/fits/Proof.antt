@@ -13,10 +13,10 @@ use Rattle.plain_pairs.proofs.questions.fits.Statement.{statement}
 use Rattle.plain_pairs.proofs.questions.fits.Tie as tie
 use Rattle.plain_pairs.proofs.questions.fits.Reads as reads
 use Rattle.plain_pairs.proofs.questions.fits.Lts as lts
-use Rattle.coercion.proofs.category.is_mixed.Reads as is-mixed-reads
-use Rattle.coercion.proofs.category.is_supported.Reads as is-supported-reads
-use Rattle.coercion.proofs.category.with_category.Reads as with-category-reads
-use Rattle.coercion.proofs.tests.both.Reads as both-reads
+use Rattle.rules.proofs.category.is_mixed.Reads as is-mixed-reads
+use Rattle.rules.proofs.category.is_supported.Reads as is-supported-reads
+use Rattle.rules.proofs.category.with_category.Reads as with-category-reads
+use Rattle.kinds.proofs.tests.both.Reads as both-reads
 
 -- src/questions.rt:75:14
 is-supported-requires : tie.Need-is-supported-requires

@@ -6,7 +6,7 @@ use Rattle.plain_pairs.proofs.questions.string_numeric.Statement.{state
 use Rattle.plain_pairs.proofs.questions.string_numeric.Tie as tie
 use Rattle.plain_pairs.proofs.questions.string_numeric.Reads as reads
 use Rattle.plain_pairs.proofs.questions.string_numeric.Lts as lts
-use Rattle.coercion.proofs.sides.string_numeric_coercion.Reads as string-numeric-coercion-reads
+use Rattle.rules.proofs.sides.string_numeric_coercion.Reads as string-numeric-coercion-reads
 use Rattle.plain_pairs.proofs.plain.of_side.Reads as of-side-reads
 
 -- src/questions.rt:34:13

@@ -6,7 +6,7 @@ use Rattle.plain_pairs.proofs.questions.string_numeric_union.Statement.
 use Rattle.plain_pairs.proofs.questions.string_numeric_union.Tie as tie
 use Rattle.plain_pairs.proofs.questions.string_numeric_union.Reads as reads
 use Rattle.plain_pairs.proofs.questions.string_numeric_union.Lts as lts
-use Rattle.coercion.proofs.sides.string_numeric_union_coercion.Reads as string-numeric-union-coercion-reads
+use Rattle.rules.proofs.sides.string_numeric_union_coercion.Reads as string-numeric-union-coercion-reads
 use Rattle.plain_pairs.proofs.plain.of_side.Reads as of-side-reads
 
 -- src/questions.rt:40:13

@@ -5,7 +5,7 @@ use Rattle.plain_pairs.proofs.rules.binary.Statement.{statement}
 use Rattle.plain_pairs.proofs.rules.binary.Tie as tie
 use Rattle.plain_pairs.proofs.rules.binary.Reads as reads
 use Rattle.plain_pairs.proofs.rules.binary.Lts as lts
-use Rattle.coercion.proofs.strings.binary_coercion.Reads as binary-coercion-reads
+use Rattle.rules.proofs.strings.binary_coercion.Reads as binary-coercion-reads
 use Rattle.plain_pairs.proofs.plain.of_found.Reads as of-found-reads
 
 -- src/rules.rt:100:14

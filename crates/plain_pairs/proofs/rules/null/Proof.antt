@@ -7,7 +7,7 @@ use Rattle.plain_pairs.proofs.rules.null.Statement.{statement}
 use Rattle.plain_pairs.proofs.rules.null.Tie as tie
 use Rattle.plain_pairs.proofs.rules.null.Reads as reads
 use Rattle.plain_pairs.proofs.rules.null.Lts as lts
-use Rattle.coercion.proofs.sides.null_coercion.Reads as null-coercion-reads
+use Rattle.rules.proofs.sides.null_coercion.Reads as null-coercion-reads
 use Rattle.plain_pairs.proofs.plain.of_side.Reads as of-side-reads
 
 -- src/rules.rt:73:13

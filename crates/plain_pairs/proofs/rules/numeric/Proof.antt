@@ -7,7 +7,7 @@ use Rattle.plain_pairs.proofs.rules.numeric.Statement.{statement}
 use Rattle.plain_pairs.proofs.rules.numeric.Tie as tie
 use Rattle.plain_pairs.proofs.rules.numeric.Reads as reads
 use Rattle.plain_pairs.proofs.rules.numeric.Lts as lts
-use Rattle.coercion.proofs.numbers.binary_numeric_coercion.Reads as binary-numeric-coercion-reads
+use Rattle.numeric.proofs.numbers.binary_numeric_coercion.Reads as binary-numeric-coercion-reads
 use Rattle.plain_pairs.proofs.plain.figures.Reads as figures-reads
 use Rattle.plain_pairs.proofs.plain.of_common.Reads as of-common-reads
 

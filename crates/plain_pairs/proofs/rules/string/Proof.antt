@@ -8,7 +8,7 @@ use Rattle.plain_pairs.proofs.rules.string.Statement.{statement}
 use Rattle.plain_pairs.proofs.rules.string.Tie as tie
 use Rattle.plain_pairs.proofs.rules.string.Reads as reads
 use Rattle.plain_pairs.proofs.rules.string.Lts as lts
-use Rattle.coercion.proofs.strings.string_coercion.Reads as string-coercion-reads
+use Rattle.rules.proofs.strings.string_coercion.Reads as string-coercion-reads
 use Rattle.plain_pairs.proofs.plain.of_found.Reads as of-found-reads
 
 -- src/rules.rt:66:14

@@ -6,7 +6,7 @@ use Rattle.plain_pairs.proofs.rules.string_temporal.Statement.{statemen
 use Rattle.plain_pairs.proofs.rules.string_temporal.Tie as tie
 use Rattle.plain_pairs.proofs.rules.string_temporal.Reads as reads
 use Rattle.plain_pairs.proofs.rules.string_temporal.Lts as lts
-use Rattle.coercion.proofs.sides.string_temporal_coercion.Reads as string-temporal-coercion-reads
+use Rattle.rules.proofs.sides.string_temporal_coercion.Reads as string-temporal-coercion-reads
 use Rattle.plain_pairs.proofs.plain.of_moment.Reads as of-moment-reads
 
 -- src/rules.rt:91:9

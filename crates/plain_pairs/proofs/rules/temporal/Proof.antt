@@ -5,9 +5,9 @@ use Rattle.plain_pairs.proofs.rules.temporal.Statement.{statement}
 use Rattle.plain_pairs.proofs.rules.temporal.Tie as tie
 use Rattle.plain_pairs.proofs.rules.temporal.Reads as reads
 use Rattle.plain_pairs.proofs.rules.temporal.Lts as lts
-use Rattle.coercion.proofs.tests.both.Reads as both-reads
-use Rattle.coercion.proofs.times.temporal_coercion.Reads as temporal-coercion-reads
-use Rattle.coercion.proofs.times.timeunit_coercion.Reads as timeunit-coercion-reads
+use Rattle.kinds.proofs.tests.both.Reads as both-reads
+use Rattle.rules.proofs.times.temporal_coercion.Reads as temporal-coercion-reads
+use Rattle.rules.proofs.times.timeunit_coercion.Reads as timeunit-coercion-reads
 use Rattle.plain_pairs.proofs.plain.of_common.Reads as of-common-reads
 use Rattle.plain_pairs.proofs.plain.timestamp.Reads as timestamp-reads
 use Rattle.plain_pairs.proofs.rules.either_zone.Reads as either-zone-reads

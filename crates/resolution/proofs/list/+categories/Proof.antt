@@ -9,8 +9,8 @@ use borrow.Fn.PlainCycle.{Measures, is, falls, and}
 use Rattle.resolution.proofs.list.categories.Reads as categories
 use Rattle.resolution.proofs.list.categories.Kinds as categories-kinds
 use Rattle.resolution.proofs.list.+categories.Lts-categories as categories-lts
-use Rattle.coercion.proofs.category.core_kind.Reads as core-kind-reads
-use Rattle.coercion.proofs.category.with_category.Reads as with-category-reads
+use Rattle.rules.proofs.category.core_kind.Reads as core-kind-reads
+use Rattle.rules.proofs.category.with_category.Reads as with-category-reads
 use Rattle.sheet.proofs.record.head_at.Reads as head-at-reads
 use Rattle.resolution.proofs.list.+categories.{statement}
 use Rattle.resolution.proofs.list.+categories.Tie.{close}

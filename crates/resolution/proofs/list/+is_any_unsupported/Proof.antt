@@ -9,8 +9,8 @@ use borrow.Fn.PlainCycle.{Measures, is, falls, and}
 use Rattle.resolution.proofs.list.is_any_unsupported.Reads as is-any-unsupported
 use Rattle.resolution.proofs.list.is_any_unsupported.Kinds as is-any-unsupported-kinds
 use Rattle.resolution.proofs.list.+is_any_unsupported.Lts-is_any_unsupported as is-any-unsupported-lts
-use Rattle.coercion.proofs.category.core_kind.Reads as core-kind-reads
-use Rattle.coercion.proofs.category.is_supported.Reads as is-supported-reads
+use Rattle.rules.proofs.category.core_kind.Reads as core-kind-reads
+use Rattle.rules.proofs.category.is_supported.Reads as is-supported-reads
 use Rattle.sheet.proofs.record.head_at.Reads as head-at-reads
 use Rattle.resolution.proofs.list.+is_any_unsupported.{statement}
 use Rattle.resolution.proofs.list.+is_any_unsupported.Tie.{close}

@@ -4,7 +4,7 @@ use Rattle.resolution.proofs.list.is_fitting.Statement.{statement}
 use Rattle.resolution.proofs.list.is_fitting.Tie as tie
 use Rattle.resolution.proofs.list.is_fitting.Reads as reads
 use Rattle.resolution.proofs.list.is_fitting.Lts as lts
-use Rattle.coercion.proofs.category.is_mixed.Reads as is-mixed-reads
+use Rattle.rules.proofs.category.is_mixed.Reads as is-mixed-reads
 use Rattle.resolution.proofs.list.categories.Reads as categories-reads
 use Rattle.resolution.proofs.list.is_any_unsupported.Reads as is-any-unsupported-reads
 

@@ -1,0 +1,2 @@
+// Tests on kinds.
+pub mod tests;

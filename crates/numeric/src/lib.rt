@@ -1,0 +1,2 @@
+// The rules for numbers: integers, floats and decimals.
+pub mod numbers;
