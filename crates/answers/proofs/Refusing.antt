@@ -17,6 +17,7 @@ use Rattle.sheet.specs.Refusals as Sheet
 use Rattle.sheet.specs.declared.Head.{Head}
 use Rattle.sheet.specs.declared.Refusal.{Refusal}
 use Rattle.sheet.specs.declared.Refusal.the-variants as Refusal
+use Rattle.sheet.proofs.Reading.{start-leads}
 use Rattle.sheet.proofs.Accepted.{accepted-holds, accepted-carried, accepted-n, accepted-m, accepted-length}
 use Rattle.coercion.specs.Data.{Question}
 use Rattle.buffers.specs.declared.Space.{Space}
@@ -67,11 +68,6 @@ pair-two s n h g some e nz f (field name nullable shape parts (field name₂ nul
     (ap (λ (x : Head). x .next) (f ∙ ap (headAt s) k ∙ l .holds .1 .1 .0 .head))
 
 -- what is known of an accepted sheet
-start-leads : (n : ℕ) (t : Fields) → n ≡ 1 + count t → start n ≡ linkTo 1 t
-unfolding count
-start-leads n end e = rw (le-ltb 1 n (omega arith))
-start-leads n (field name nullable shape parts rest) e = rw (lt-ltb 1 n (omega arith))
-
 module _ (s : List ℕ) (space : Space) (plain : Plain s) (measured : Measured s space) where
   pub measured-n : space .n ≡ 1 + count (read s)
   measured-n = measured .records ∙ accepted-n s plain (measured .unrefused)

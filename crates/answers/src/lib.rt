@@ -15,10 +15,10 @@ use buffers::Space;
 use buffers::Spot;
 use emit::clear;
 use emit::write_type;
+use refusals::check;
 use refuse::number_of;
 use refuse::refused;
 use sheet::Checked;
-use sheet::check;
 
 // What a call reports: a refusal number; no type; or a type, with the byte length of its one-type sheet, which is at the front of the output.
 pub enum Answer {

@@ -17,6 +17,8 @@ use coercion::Figures;
 use coercion::Found;
 use coercion::Moment;
 use coercion::Side;
+use kinds::tests::both;
+use kinds::tests::either;
 use numeric::numbers::binary_numeric_coercion;
 use rules::sides::null_coercion;
 use rules::sides::string_numeric_coercion;
@@ -24,8 +26,6 @@ use rules::sides::string_numeric_union_coercion;
 use rules::sides::string_temporal_coercion;
 use rules::strings::binary_coercion;
 use rules::strings::string_coercion;
-use kinds::tests::both;
-use kinds::tests::either;
 use rules::times::temporal_coercion;
 use rules::times::timeunit_coercion;
 use sheet::Head;
@@ -185,7 +185,7 @@ fn string_time(question: Question, x: Head, y: Head) -> Step
 }
 
 // The rules for types without parts, in the source's order.
-pub fn plain(question: Question, mask: u64, x: Head, y: Head) -> Step
+pub(crate) fn plain(question: Question, mask: u64, x: Head, y: Head) -> Step
     ensures { λ o. ⌜ ((l r : DataType) → Reads x l → Reads y r → stepOf o l r ≡ plainRules (rulesOf question mask) l r) ⌝ }
 {
     let k = x.kind;

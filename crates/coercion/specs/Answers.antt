@@ -173,6 +173,10 @@ categoriesIn ts =
     + (asNumber (hasCategory boolean ts)
     + (asNumber (hasCategory numeric ts) + (asNumber (hasCategory dateTime ts) + asNumber (hasCategory composite ts))))
 
+-- whether the categories of a list allow an answer
+abbrev pub categoriesFit : List DataType → Bool
+categoriesFit ts = cond (hasCategory notSupported ts) false (Rattle.sheet.specs.Tests.between 0 1 (categoriesIn ts))
+
 abbrev pub allEqual : DataType → List DataType → Bool
 allEqual t [] = true
 allEqual t (u ∷ us) = equal u t && allEqual t us

@@ -3,7 +3,7 @@ use mathlib.Core.Path.{_≡_, refl, ap, sym, subst, subst₂, _∙_}
 use mathlib.Core.Bool.{Bool, true, false, cond, not, _||_}
 use mathlib.Core.List.{List, [], _++_}
 use mathlib.Core.Logic.{_⊎_, inl, inr, ⊎-elim}
-use mathlib.Core.Option.{Option, none, some}
+use mathlib.Core.Option.{Option, none, some, Option·some-injective}
 use Prim.Native.Nat.{ℕ, suc, _+_, _*_, _-_, _<_, _≤_}
 use native.Mathlib.Omega.{arith}
 use lib.ListN.{length, length-append}
@@ -38,13 +38,6 @@ use Rattle.merge.proofs.Merging.{chain-side, typed-side, chain-some, co
 use Rattle.buffers.proofs.Rows.{chain-link, chain-typed, chain-next}
 use Rattle.buffers.proofs.Fielding.{name-length}
 
-some-one : {A : Type 0} {a b : A} → some a ≡ some b → a ≡ b
-some-one {A} {a} {b} e = ap (λ (o : Option A). value o) e
-  where
-    value : Option A → A
-    value none = a
-    value (some x) = x
-
 -- the rows after the last field of the left, by what is left of the right at its place
 abbrev closed : Fields → Option Fields
 closed end = some end
@@ -56,7 +49,7 @@ end-joined c Feed.Place rf end tf nf f = rw (f .0) (rw (f .1) refl)
 end-joined c Feed.Place rf (field name nullable shape parts rest) tf nf f = rw (f .0) (rw (f .1) refl)
 end-joined c Feed.Own rf end tf nf f = rw (f .0) (rw (f .1) refl)
 end-joined c Feed.Own rf (field name nullable shape parts rest) tf nf f = rw (f .0) (rw (f .1) refl)
-end-joined c Feed.Name rf end tf nf f = rw (f .1 .0) (rw (sym (some-one (f .0))) refl)
+end-joined c Feed.Name rf end tf nf f = rw (f .1 .0) (rw (sym (Option·some-injective _ _ (f .0))) refl)
 end-joined c Feed.Name rf (field name nullable shape parts rest) tf nf f = absurd (never (f .1 .1))
   where
     never : field name nullable shape parts rest ≡ end → ⊥
@@ -65,8 +58,8 @@ end-joined c Feed.Name rf (field name nullable shape parts rest) tf nf f = absur
         tell : Fields → ℕ
         tell end = 0
         tell (field n b sh p q) = 1
-end-joined c Feed.NameThenPlace rf end tf nf f = rw (f .1) (rw (sym (some-one (f .0))) refl)
-end-joined c Feed.NameThenPlace rf (field name nullable shape parts rest) tf nf f = rw (f .1) (rw (sym (some-one (f .0))) refl)
+end-joined c Feed.NameThenPlace rf end tf nf f = rw (f .1) (rw (sym (Option·some-injective _ _ (f .0))) refl)
+end-joined c Feed.NameThenPlace rf (field name nullable shape parts rest) tf nf f = rw (f .1) (rw (sym (Option·some-injective _ _ (f .0))) refl)
 
 -- a field that nothing feeds
 join-short : (c : DataType → DataType → Option DataType) (name : List ℕ) (nullable : Bool) (shape : Shape) (parts rest tf nf : Fields) → Unfed tf nf

@@ -24,14 +24,14 @@ use Rattle.coercion.specs.Rules.{isNull, nullCoercion, stringNumericCoercion, s
 use Rattle.coercion.specs.Data.{mayBecome}
 use Rattle.coercion.specs.Wrappers.{wrapperCoercion}
 use Rattle.coercion.specs.Nested.{structCoercion, listCoercion, mapCoercion}
-use Rattle.coercion.specs.Answers.{ofKindType, stringNumber, ask, coercion, Category, array, boolean, numeric, dateTime, composite, unknown, notSupported, ownCategory, categoryOf, isCategory, hasCategory, asNumber, categoriesIn, foldFrom, foldTypes, typeUnionResolution}
+use Rattle.coercion.specs.Answers.{ofKindType, stringNumber, ask, coercion, Category, array, boolean, numeric, dateTime, composite, unknown, notSupported, ownCategory, categoryOf, isCategory, hasCategory, asNumber, categoriesIn, categoriesFit, foldFrom, foldTypes, typeUnionResolution}
 use Rattle.coercion.specs.Meaning.{categoryBit, isSupported}
 use Rattle.coercion.specs.declared.Figures.{Figures}
 use Rattle.coercion.proofs.Maybe.{If, done, _also_, if-first, if-cond, if-else, if-then, if-weak, cond-is}
 use Rattle.coercion.proofs.NumbersRight.{Fits, numerical-fits}
 use Rattle.coercion.proofs.Fuel.{coercion-asks}
 use Rattle.plain_pairs.specs.Plain as Plainly
-use Rattle.plain_pairs.specs.Typed.{isPlain, typeIn, plainOf, everyKind, equalRule, numberRule, stringRule, commonRules, rulesOf, fitsIn, answerTo}
+use Rattle.plain_pairs.specs.Typed.{isPlain, typeIn, plainOf, everyKind, equalRule, numberRule, stringRule, commonRules, rulesOf, answerTo}
 use Rattle.plain_pairs.specs.declared.plain.Plain.{Plain}
 use Rattle.plain_pairs.proofs.Bytes.{low, Real, pick}
 
@@ -458,7 +458,7 @@ counted notSupported composite = refl
 counted notSupported unknown = refl
 counted notSupported notSupported = refl
 
-pub fitting : (l r : Plain) → isPlain (l .kind) ≡ true → isPlain (r .kind) ≡ true → fitsIn (typeIn l ∷ typeIn r ∷ [])
+pub fitting : (l r : Plain) → isPlain (l .kind) ≡ true → isPlain (r .kind) ≡ true → categoriesFit (typeIn l ∷ typeIn r ∷ [])
     ≡ ((isSupported (ownCategory (l .kind)) && isSupported (ownCategory (r .kind)))
     && not (ltb 1 (ones (bitOr (bitOr 0 (categoryBit (ownCategory (l .kind)))) (categoryBit (ownCategory (r .kind)))))))
 unfolding categoriesIn
@@ -495,7 +495,7 @@ module _ (rules : Rules) (l r : Plain) where
   fold-both e f = rw (e, f) (then-some (coercion rules (typeIn r) (typeIn l)))
 
   resolved : typeUnionResolution rules (typeIn l ∷ typeIn r ∷ [])
-      ≡ cond (equal (typeIn r) (typeIn l)) (some (typeIn l)) (cond (fitsIn (typeIn l ∷ typeIn r ∷ [])) (foldTypes rules (typeIn l ∷ typeIn r ∷ [])) none)
+      ≡ cond (equal (typeIn r) (typeIn l)) (some (typeIn l)) (cond (categoriesFit (typeIn l ∷ typeIn r ∷ [])) (foldTypes rules (typeIn l ∷ typeIn r ∷ [])) none)
   unfolding typeUnionResolution
   resolved =
       rw (and-true (equal (typeIn r) (typeIn l)))
@@ -508,9 +508,9 @@ module _ (rules : Rules) (l r : Plain) where
   pub list-equal : equal (typeIn r) (typeIn l) ≡ true → typeUnionResolution rules (typeIn l ∷ typeIn r ∷ []) ≡ some (typeIn l)
   list-equal e = resolved ∙ rw e
 
-  pub list-mixed : equal (typeIn r) (typeIn l) ≡ false → fitsIn (typeIn l ∷ typeIn r ∷ []) ≡ false → typeUnionResolution rules (typeIn l ∷ typeIn r ∷ []) ≡ none
+  pub list-mixed : equal (typeIn r) (typeIn l) ≡ false → categoriesFit (typeIn l ∷ typeIn r ∷ []) ≡ false → typeUnionResolution rules (typeIn l ∷ typeIn r ∷ []) ≡ none
   list-mixed e f = resolved ∙ rw (e, f)
 
-  pub list-folds : equal (typeIn r) (typeIn l) ≡ false → fitsIn (typeIn l ∷ typeIn r ∷ []) ≡ true
+  pub list-folds : equal (typeIn r) (typeIn l) ≡ false → categoriesFit (typeIn l ∷ typeIn r ∷ []) ≡ true
       → typeUnionResolution rules (typeIn l ∷ typeIn r ∷ []) ≡ foldTypes rules (typeIn l ∷ typeIn r ∷ [])
   list-folds e f = resolved ∙ rw (e, f)

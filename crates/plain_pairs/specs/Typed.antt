@@ -13,7 +13,7 @@ use Rattle.coercion.specs.Numbers.{binaryNumericCoercion}
 use Rattle.coercion.specs.Times.{temporalCoercionNonstrictTimezone}
 use Rattle.coercion.specs.Strings.{stringCoercion}
 use Rattle.coercion.specs.Rules.{nullCoercion}
-use Rattle.coercion.specs.Answers.{ofKindType, notSupported, hasCategory, categoriesIn, answerOf}
+use Rattle.coercion.specs.Answers.{ofKindType, answerOf}
 use Rattle.plain_pairs.specs.Plain.{noType}
 use Rattle.plain_pairs.specs.declared.plain.Plain.{Plain}
 
@@ -80,10 +80,6 @@ questionIn q = cond (eqb q 1) list (cond (eqb q 2) union compare)
 
 abbrev pub rulesOf : Question → Rules
 rulesOf q = record { question = q; mask = everyKind }
-
--- the test of `type_union_resolution` on the categories of a list
-abbrev pub fitsIn : List DataType → Bool
-fitsIn ts = cond (hasCategory notSupported ts) false (between 0 1 (categoriesIn ts))
 
 -- the answer of the coercion rules to a question on two types
 abbrev pub answerTo : Question → Plain → Plain → Plain

@@ -2,9 +2,9 @@
 //
 // The file: the number of types, in two bytes; the types; and for each left and each right the answers to list, union and compare.
 // A type or an answer is four bytes, and four zeros are none. oracle/README.md says how they were made (`plain`).
+pub mod pairs;
 pub mod plain;
 pub mod questions;
-pub mod rules;
 
 ghost use mathlib.Core.Path.{_≡_};
 ghost use Prim.Native.Nat.{_+_, _*_, _^_, _<_, _≤_};

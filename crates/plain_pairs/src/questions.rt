@@ -4,22 +4,22 @@ ghost use mathlib.Core.Bool.{true};
 ghost use mathlib.Core.List.{[], _∷_};
 ghost use Rattle.coercion.specs.Data.{list, union, compare};
 ghost use Rattle.coercion.specs.Rules.{stringNumericCoercion, stringNumericUnionCoercion};
-ghost use Rattle.coercion.specs.Answers.{coercion, foldTypes};
-ghost use Rattle.plain_pairs.specs.Typed.{isPlain, typeIn, plainOf, fitsIn, rulesOf, answerTo, answerIn};
+ghost use Rattle.coercion.specs.Answers.{coercion, categoriesFit, foldTypes};
+ghost use Rattle.plain_pairs.specs.Typed.{isPlain, typeIn, plainOf, rulesOf, answerTo, answerIn};
+use crate::pairs::binary;
+use crate::pairs::common;
+use crate::pairs::string_temporal;
 use crate::plain::Plain;
 use crate::plain::first_of;
 use crate::plain::nothing;
 use crate::plain::of_side;
 use crate::plain::same;
-use crate::rules::binary;
-use crate::rules::common;
-use crate::rules::string_temporal;
+use kinds::tests::both;
 use rules::category::is_mixed;
 use rules::category::is_supported;
 use rules::category::with_category;
 use rules::sides::string_numeric_coercion;
 use rules::sides::string_numeric_union_coercion;
-use kinds::tests::both;
 use sheet::figure::within;
 
 pub const LIST: u8 = 1;
@@ -70,7 +70,7 @@ fn step(new: Plain, candidate: Plain) -> Plain
 // Both have a category, and no two categories besides Unknown. Null is supported and has no bit.
 fn fits(l: Plain, r: Plain) -> bool
     requires { ⌜ (isPlain (l .kind) ≡ true) × (isPlain (r .kind) ≡ true) ⌝ }
-    ensures { λ o. ⌜ o ≡ fitsIn (typeIn l ∷ typeIn r ∷ []) ⌝ }
+    ensures { λ o. ⌜ o ≡ categoriesFit (typeIn l ∷ typeIn r ∷ []) ⌝ }
 {
     if !both(is_supported(l.kind), is_supported(r.kind)) {
         return false;

@@ -16,7 +16,7 @@ use Rattle.sheet.specs.Head.{headAt}
 use Rattle.sheet.specs.declared.Head.{Head}
 use Rattle.sheet.proofs.Spans.{span-nil}
 use Rattle.coercion.specs.Data.{DataType, Rules, size, single, typesOf, andThen}
-use Rattle.coercion.specs.Answers.{coercion, foldFrom, foldTypes, typeUnionResolution, pairAnswer, allEqual, hasCategory, categoriesIn, notSupported}
+use Rattle.coercion.specs.Answers.{coercion, foldFrom, foldTypes, typeUnionResolution, pairAnswer, allEqual, hasCategory, categoriesIn, categoriesFit, notSupported}
 use Rattle.coercion.proofs.AnswersRight.{TypeRight, sound-right, coercion-right}
 use Rattle.coercion.proofs.PlainRight.{own-right}
 use Rattle.coercion.proofs.Shorter.{coercion-smaller, coercion-shorter}
@@ -31,8 +31,9 @@ use Rattle.buffers.specs.declared.Out.the-variants.{Done, No, Full}
 use Rattle.buffers.proofs.Sources.{source-none, link-inside}
 use Rattle.buffers.proofs.Chained.{held-next, labels-sum}
 use Rattle.merge.proofs.Merging.{typed-kind, type-differ, single-letters}
-use Rattle.resolution.specs.Reached.{front, Listed, Fits, AnswerIs, Enclosed, Within, Reached, Candidate, Shifted, fitting, Steps, Folds}
+use Rattle.resolution.specs.Reached.{front, Listed, Fits, AnswerIs, Enclosed, Within, Reached, Candidate, Shifted, Steps, Folds}
 use Rattle.resolution.proofs.Shifting.{candidate-typed}
+use Rattle.resolution.proofs.Listing.{listed-typed, listed-next}
 
 -- the goal at the front
 abbrev pub foremost : Goal
@@ -105,14 +106,8 @@ module _ {space : Space} {s : List ℕ} {floor link : ℕ} {name : List ℕ} {nu
   listed-chain : Chain space s link (field name nullable shape parts rest)
   listed-chain = record { floor = floor; at = a .at; label = a .label; up = 0; held = a .held }
 
-  listed-typed : Typed space s link (typeOf shape parts)
-  listed-typed = record { name = name; nullable = nullable; rest = rest; chain = listed-chain }
-
   listed-plain : field name nullable shape parts end ≡ single (typeOf shape parts)
   listed-plain = plain-field name nullable shape parts (a .held .source .right .0)
-
-  listed-next : (h : Head) → h ≡ headAt s link → Listed space s link (h .next) rest
-  listed-next h e = record { at = _; label = _; held = held-next (a .held) h e }
 
 module _ {space : Space} {records bytes : ℕ} (name : List ℕ) (nullable : Bool) (shape : Shape) (parts rest : Fields)
     (f : Fits space records bytes (field name nullable shape parts rest)) where
@@ -351,7 +346,7 @@ module _ (rules : Rules) (space : Space) {s w : List ℕ} {link : ℕ} (past : 0
           }
 
 -- `type_union_resolution` by its two tests
-by-tests : (rules : Rules) (t : DataType) (ts : List DataType) (same fit : Bool) → same ≡ allEqual t ts → fit ≡ fitting (t ∷ ts)
+by-tests : (rules : Rules) (t : DataType) (ts : List DataType) (same fit : Bool) → same ≡ allEqual t ts → fit ≡ categoriesFit (t ∷ ts)
     → typeUnionResolution rules (t ∷ ts) ≡ cond same (some t) (cond fit (foldTypes rules (t ∷ ts)) none)
 unfolding typeUnionResolution
 by-tests rules t ts same fit p q =
@@ -376,10 +371,10 @@ module _ (rules : Rules) (space : Space) {s : List ℕ} {link : ℕ} (past : 0 <
       go end a f = absurd (some-listed past a)
       go (field name nullable shape parts rest) a f =
           let t = typeOf shape parts in
-          subst (AnswerIs space v o) (sym (by-tests rules t (typesOf rest) true (fitting (t ∷ typesOf rest)) (sym q ∙ compared t rest (listed-typed a) (listed-next a h e)) refl))
+          subst (AnswerIs space v o) (sym (by-tests rules t (typesOf rest) true (categoriesFit (t ∷ typesOf rest)) (sym q ∙ compared t rest (listed-typed a) (listed-next a h e)) refl))
           (copied o name nullable shape parts rest m a f)
 
-  module _ (differ : same ≡ false) (fit : Bool) (fits : (ts : Fields) → Listed space s 0 link ts → fit ≡ fitting (typesOf ts)) where
+  module _ (differ : same ≡ false) (fit : Bool) (fits : (ts : Fields) → Listed space s 0 link ts → fit ≡ categoriesFit (typesOf ts)) where
     told : (types : Fields) → Listed space s 0 link types → typeUnionResolution rules (typesOf types) ≡ cond fit (foldTypes rules (typesOf types)) none
     unfolding typesOf
     told end a = absurd (some-listed past a)

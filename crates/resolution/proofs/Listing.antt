@@ -15,7 +15,7 @@ use Rattle.sheet.specs.declared.Head.{Head}
 use Rattle.sheet.proofs.Tests.{and-fst, and-snd}
 use Rattle.coercion.specs.Data.{DataType, typesOf}
 use Rattle.coercion.specs.Rules.{isNull}
-use Rattle.coercion.specs.Answers.{Category, array, boolean, numeric, dateTime, composite, unknown, notSupported, ownCategory, categoryOf, isCategory, hasCategory, asNumber, categoriesIn, allEqual}
+use Rattle.coercion.specs.Answers.{Category, array, boolean, numeric, dateTime, composite, unknown, notSupported, ownCategory, categoryOf, isCategory, hasCategory, asNumber, categoriesIn, categoriesFit, allEqual}
 use Rattle.coercion.specs.Meaning.{categoryBit, isSupported}
 use Rattle.rules.proofs.Cores.{Found}
 use Rattle.buffers.specs.Source.{SameTypes}
@@ -24,7 +24,7 @@ use Rattle.buffers.specs.declared.Space.{Space}
 use Rattle.buffers.proofs.Sources.{link-inside}
 use Rattle.buffers.proofs.Chained.{held-next}
 use Rattle.merge.proofs.Merging.{typed-same}
-use Rattle.resolution.specs.Reached.{Listed, categoryBits, fitting}
+use Rattle.resolution.specs.Reached.{Listed, categoryBits}
 
 -- the answer to a question on whatever types stand at a link past floor
 abbrev pub Tells : {A : Type 0} → (List DataType → A) → Space → List ℕ → ℕ → ℕ → A → Type 0
@@ -224,10 +224,10 @@ one-at-most (suc (suc n)) = rw (lt-ltb 1 (suc (suc n)) (omega arith), lt-leb (su
 
 -- whether the categories allow an answer
 module _ (space : Space) (s : List ℕ) (link : ℕ) {u : Bool} (un : Tells (hasCategory notSupported) space s 0 link u) where
-  pub fitting-not : u ≡ true → Tells fitting space s 0 link false
+  pub fitting-not : u ≡ true → Tells categoriesFit space s 0 link false
   fitting-not z ts l = rw (sym (un ts l) ∙ z)
 
-  pub fitting-by : u ≡ false → (bits : ℕ) → Tells (categoryBits 0) space s 0 link bits → (m : Bool) → m ≡ ltb 1 (ones bits) → Tells fitting space s 0 link (not m)
+  pub fitting-by : u ≡ false → (bits : ℕ) → Tells (categoryBits 0) space s 0 link bits → (m : Bool) → m ≡ ltb 1 (ones bits) → Tells categoriesFit space s 0 link (not m)
   fitting-by z bits g m em ts l =
       ap not (em ∙ ap (λ (x : ℕ). ltb 1 (ones x)) (g ts l))
       ∙ ap (λ (x : ℕ). not (ltb 1 x)) (ones-are (typesOf ts))

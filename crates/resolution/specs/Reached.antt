@@ -1,7 +1,7 @@
 -- An answer that was reached in work space, whatever types a sheet lists.
 use mathlib.Core.Path.{_≡_}
 use Prim.Native.Nat.{ℕ, _+_, _*_, _<_, _≤_}
-use mathlib.Core.Bool.{Bool, true, false, cond}
+use mathlib.Core.Bool.{Bool, true, false}
 use mathlib.Core.List.{List, [], _∷_}
 use mathlib.Core.Option.{Option, none, some}
 use lib.ListN.{length, getD}
@@ -9,9 +9,8 @@ use lib.Bits.{bitOr}
 use Rattle.sheet.specs.Types.{Fields, count, labels}
 use Rattle.sheet.specs.Names.{namesDiffer}
 use Rattle.sheet.specs.Carried.{FieldsRight}
-use Rattle.sheet.specs.Tests.{between}
 use Rattle.coercion.specs.Data.{DataType, size, single, typesOf}
-use Rattle.coercion.specs.Answers.{notSupported, categoryOf, hasCategory, categoriesIn}
+use Rattle.coercion.specs.Answers.{categoryOf}
 use Rattle.coercion.specs.Meaning.{categoryBit}
 use Rattle.buffers.specs.Region.{Held, Inside, Wrote}
 use Rattle.buffers.specs.Typed.{Typed}
@@ -77,10 +76,6 @@ pub record Shifted (space : Space) (w v : List ℕ) (d : Spot) : Type 0 where
 unfoldable pub categoryBits : ℕ → List DataType → ℕ
 categoryBits bits [] = bits
 categoryBits bits (t ∷ ts) = categoryBits (bitOr bits (categoryBit (categoryOf (t .shape) (t .parts)))) ts
-
--- whether the categories of a list allow an answer
-abbrev pub fitting : List DataType → Bool
-fitting ts = cond (hasCategory notSupported ts) false (between 0 1 (categoriesIn ts))
 
 -- bytes were moved to another place, and nothing else has changed
 pub record Moved (w v : List ℕ) (from to len : ℕ) : Type 0 where

@@ -3,9 +3,9 @@ ghost use mathlib.Core.Path.{_≡_};
 ghost use Prim.Native.Nat.{_≤_};
 ghost use Rattle.sheet.specs.Types.{Fields};
 ghost use Rattle.coercion.specs.Data.{DataType, typesOf};
-ghost use Rattle.coercion.specs.Answers.{allEqual, notSupported, hasCategory};
+ghost use Rattle.coercion.specs.Answers.{allEqual, notSupported, hasCategory, categoriesFit};
 ghost use Rattle.buffers.specs.Typed.{Typed};
-ghost use Rattle.resolution.specs.Reached.{Listed, categoryBits, fitting};
+ghost use Rattle.resolution.specs.Reached.{Listed, categoryBits};
 use buffers::Space;
 use buffers::alike::same_type;
 use rules::category::core_kind;
@@ -77,7 +77,7 @@ fn categories(sheet: &[u8], space: Space, floor: usize, link: usize, bits: u8) -
 // Whether the categories of the types at a link allow an answer.
 pub(crate) fn is_fitting(sheet: &[u8], space: Space, link: usize) -> bool
     requires { ⌜ space .n ≤ 1024 ⌝ }
-    ensures { λ b. ⌜ ((ts : Fields) → Listed space (now (sheet .entry)) 0 link ts → b ≡ fitting (typesOf ts)) ⌝ }
+    ensures { λ b. ⌜ ((ts : Fields) → Listed space (now (sheet .entry)) 0 link ts → b ≡ categoriesFit (typesOf ts)) ⌝ }
 {
     if is_any_unsupported(sheet, space, 0, link) {
         return false;

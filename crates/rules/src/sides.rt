@@ -4,6 +4,7 @@ ghost use Prim.Native.Nat.{_<_};
 ghost use Rattle.coercion.specs.Data.{DataType, mayBecome};
 ghost use Rattle.coercion.specs.Rules.{nullCoercion, stringNumericCoercion, stringNumericUnionCoercion, stringTemporalCoercion};
 ghost use Rattle.coercion.specs.Meaning.{sideOf, momentOf};
+use crate::times::is_time_with_valid_unit;
 use coercion::Moment;
 use coercion::Side;
 use kinds::tests::both;
@@ -11,7 +12,6 @@ use kinds::tests::is_date;
 use kinds::tests::is_numeric;
 use kinds::tests::is_string;
 use kinds::tests::is_time;
-use crate::times::is_time_with_valid_unit;
 
 // Whether Null may become a kind.
 fn may_become(mask: u64, k: u8) -> bool

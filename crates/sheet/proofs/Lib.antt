@@ -8,9 +8,6 @@ pub mod Accepting
 pub mod Accepted
 pub mod Bytewise
 pub mod Figures
-pub mod Walking
 pub mod Repeating
-pub mod Scans
-pub mod Verdicts
 pub mod Lowest
 pub mod Capped

@@ -6,19 +6,25 @@ use Prim.Native.Nat.{ℕ, zero, suc, _+_, _*_, _/_, _%_, _<_, _≤_}
 use native.Mathlib.Omega.{arith}
 use lib.ListN.{length, getD, take, drop, length-append}
 use lib.Dec.{eqb, ltb}
-use borrow.Author.Tests.{eq-eqb, ne-eqb, lt-ltb, eqb-true}
+use borrow.Author.Tests.{eq-eqb, ne-eqb, lt-ltb, le-ltb, eqb-true}
 use Rattle.sheet.specs.Kind as Kind
 use Rattle.sheet.specs.Kind.{sized}
 use Rattle.sheet.specs.Types.{Zone, absent, present, Shape, Fields, end, field, count, zoneBytes, ownLabels, labels}
 use Rattle.sheet.specs.Head.{headAt, nullableIn, sortedIn, zonedIn, sizeIn, zoneAt, zoneLen}
 use Rattle.sheet.specs.Encode.{linkTo, offset, bit, zoneBit, flagsOf, quadOf, headOf}
-use Rattle.sheet.specs.Read.{labelAt, zoneOf, shapeOf, fieldOf, walkFrom}
+use Rattle.sheet.specs.Read.{start, labelAt, zoneOf, shapeOf, fieldOf, walkFrom}
 use Rattle.sheet.specs.Refusals.{figuresRight, sizeRight}
 use Rattle.sheet.specs.Carried.{Label, FieldRight, FieldsRight, isZoned}
 use Rattle.sheet.specs.Holds.{Span, Stands, Holds}
 use Rattle.sheet.specs.declared.Head.{Head}
 use Rattle.sheet.proofs.Tests.{all-at, never}
 use Rattle.sheet.proofs.Spans.{span-left, span-right, span-move}
+
+-- the link to the listed types
+pub start-leads : (n : ℕ) (t : Fields) → n ≡ 1 + count t → start n ≡ linkTo 1 t
+unfolding count
+start-leads n end e = rw (le-ltb 1 n (omega arith))
+start-leads n (field name nullable shape parts rest) e = rw (lt-ltb 1 n (omega arith))
 
 -- byte 1 says what it was made of
 pub flag-nullable : (a b : Bool) (z : Zone) → eqb (flagsOf a b z % 2) 1 ≡ a

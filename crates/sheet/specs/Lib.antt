@@ -9,7 +9,4 @@ pub mod Carried
 pub mod Names
 pub mod Holds
 pub mod Bounds
-pub mod Walk
-pub mod Limits
-pub mod Found
 pub mod Caps

@@ -39,7 +39,7 @@ pub fn within(lo: u8, hi: u8, k: u8) -> bool
     if lo <= k { k <= hi } else { false }
 }
 
-pub(crate) fn is_kind(k: u8) -> bool
+pub fn is_kind(k: u8) -> bool
     ensures { λ r. ⌜ r ≡ isKind k ⌝ }
 {
     within(1, 38, k)
@@ -58,7 +58,7 @@ fn names_parts(k: u8) -> bool
 }
 
 // Whether a record of kind k may have n parts.
-pub(crate) fn parts_right(k: u8, n: usize) -> bool
+pub fn parts_right(k: u8, n: usize) -> bool
     ensures { λ r. ⌜ r ≡ partsRight k n ⌝ }
 {
     if within(32, 34, k) {
@@ -142,7 +142,7 @@ pub fn size_in(zoned: bool, quad: usize) -> usize
 }
 
 // Whether a record that is a part of one of kind up has nothing of refusal 4.
-pub(crate) fn record_right(h: Head, up: u8) -> bool
+pub fn record_right(h: Head, up: u8) -> bool
     ensures { λ r. ⌜ r ≡ recordRight h up ⌝ }
 {
     let flags = h.flags;
@@ -172,7 +172,7 @@ fn is_placed(o: usize, at: usize, len: usize) -> bool
 }
 
 // Whether the labels of a record that is a part of one of kind up are right, and begin at o.
-pub(crate) fn label_right(h: Head, up: u8, o: usize) -> bool
+pub fn label_right(h: Head, up: u8, o: usize) -> bool
     requires { ⌜ (o < 1000000) × Bounded h ⌝ }
     ensures { λ r. ⌜ r ≡ labelRight h up o ⌝ }
 {

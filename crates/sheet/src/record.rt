@@ -13,7 +13,7 @@ fn wide(x: u8) -> usize
 }
 
 // Two bytes, the lower first.
-pub(crate) fn word_at(s: &[u8], i: usize) -> usize
+pub fn word_at(s: &[u8], i: usize) -> usize
     requires { ⌜ i + 1 < length (now s) ⌝ }
     ensures { λ r. ⌜ (r ≡ word (now (s .entry)) i) × (r < 65536) ⌝ }
 {

@@ -1,4 +1,4 @@
-// Runs the stored sheets of data/sheets through `sheet::check` and compares what it answers.
+// Runs the stored sheets of data/sheets through `refusals::check` and compares what it answers.
 //
 // An entry is 12 bytes, integers little-endian, and then the sheet: byte 0 the refusal number, 0 for an accepted one,
 // bytes 2-3 n and 4-5 m of an accepted one, bytes 8-11 the sheet's length. vectors/README.md says how they were made.
@@ -55,7 +55,7 @@ fn number_of(r: Refusal) -> u8 {
 }
 
 fn answer(s: &[u8]) -> Verdict {
-    match sheet::check(s) {
+    match refusals::check(s) {
         Checked::Refused(r) => Verdict {
             number: number_of(r),
             n: 0,

@@ -8,7 +8,7 @@ use Rattle.answers.proofs.call.Reads as reads
 use Rattle.answers.proofs.call.Lts as lts
 use Rattle.answers.proofs.call_accepted.Reads as call-accepted-reads
 use Rattle.answers.proofs.refuse.number_of.Reads as number-of-reads
-use Rattle.sheet.proofs.check.Reads as check-reads
+use Rattle.refusals.proofs.check.Reads as check-reads
 
 -- src/lib.rt:55:11
 check-requires : tie.Need-check-requires

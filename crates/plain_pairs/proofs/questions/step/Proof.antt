@@ -8,8 +8,8 @@ use Rattle.plain_pairs.proofs.questions.step.Reads as reads
 use Rattle.plain_pairs.proofs.questions.step.Lts as lts
 use Rattle.plain_pairs.proofs.plain.first_of.Reads as first-of-reads
 use Rattle.plain_pairs.proofs.questions.string_numeric.Reads as string-numeric-reads
-use Rattle.plain_pairs.proofs.rules.binary.Reads as binary-reads
-use Rattle.plain_pairs.proofs.rules.common.Reads as common-reads
+use Rattle.plain_pairs.proofs.pairs.binary.Reads as binary-reads
+use Rattle.plain_pairs.proofs.pairs.common.Reads as common-reads
 
 -- src/questions.rt:66:22
 common-requires : tie.Need-common-requires

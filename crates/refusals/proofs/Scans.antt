@@ -1,0 +1,86 @@
+-- The loops over a sheet's header and records, and the returns of `limits`. Assumes nothing.
+use mathlib.Core.Path.{_≡_, refl, ap, ap₂, sym, subst, _∙_}
+use mathlib.Core.Bool.{Bool, true, false, not, _||_, _&&_}
+use mathlib.Core.List.{List, [], _∷_}
+use Prim.Native.Nat.{ℕ, zero, suc, _+_, _*_, _-_, _<_, _≤_}
+use native.Mathlib.Omega.{arith}
+use native.Mathlib.Numerals.{add-one}
+use lib.ListN.{length, getD, take, drop, drop-of-length-le}
+use lib.Seq.{drop-cons}
+use lib.Dec.{eqb, ltb}
+use borrow.Author.Tests.{eq-eqb, ne-eqb, lt-ltb, le-ltb}
+use Rattle.sheet.specs.Tests.{oneOf}
+use Rattle.sheet.specs.Read.{recordsOf, labelsOf}
+use Rattle.sheet.specs.Refusals.{allZero, anyFrom, torn}
+use Rattle.refusals.specs.Limits.{Fits}
+use Rattle.sheet.proofs.Tests.{one-is, one-cons, one-nil, not-of}
+
+zero-step : (s : List ℕ) (i : ℕ) → i < length s → allZero (drop i s) ≡ (eqb (getD s i 0) 0 && allZero (drop (i + 1) s))
+zero-step s i h = ap allZero (drop-cons s i 0 h) ∙ rw (add-one i)
+
+pub zero-next : (s : List ℕ) (i : ℕ) → i < length s → getD s i 0 ≡ 0 → allZero (drop i s) ≡ allZero s → allZero (drop (i + 1) s) ≡ allZero s
+zero-next s i h e v = ap (λ (b : Bool). b && allZero (drop (i + 1) s)) (sym (eq-eqb (getD s i 0) 0 e)) ∙ sym (zero-step s i h) ∙ v
+
+pub zero-not : (s : List ℕ) (i : ℕ) → i < length s → ¬ (getD s i 0 ≡ 0) → allZero (drop i s) ≡ allZero s → false ≡ allZero s
+zero-not s i h e v = ap (λ (b : Bool). b && allZero (drop (i + 1) s)) (sym (ne-eqb (getD s i 0) 0 e)) ∙ sym (zero-step s i h) ∙ v
+
+pub zero-done : (s : List ℕ) (i : ℕ) → length s ≤ i → allZero (drop i s) ≡ allZero s → true ≡ allZero s
+zero-done s i h v = sym (ap allZero (drop-of-length-le s {i = i} h)) ∙ v
+
+any-step : (test : ℕ → Bool) (n r : ℕ) → r < n → anyFrom test r (n - r) ≡ (test r || anyFrom test (r + 1) (n - (r + 1)))
+any-step test n r h = let e : n - r ≡ suc (n - (r + 1)) = omega arith in ap (anyFrom test r) e
+
+-- a record that fails the test, and one that passes it
+pub any-next : (test : ℕ → Bool) (n r : ℕ) (w : Bool) → r < n → test r ≡ false → anyFrom test r (n - r) ≡ w → anyFrom test (r + 1) (n - (r + 1)) ≡ w
+any-next test n r w h e v = ap (λ (b : Bool). b || anyFrom test (r + 1) (n - (r + 1))) (sym e) ∙ sym (any-step test n r h) ∙ v
+
+pub any-here : (test : ℕ → Bool) (n r : ℕ) (w : Bool) → r < n → test r ≡ true → anyFrom test r (n - r) ≡ w → true ≡ w
+any-here test n r w h e v = ap (λ (b : Bool). b || anyFrom test (r + 1) (n - (r + 1))) (sym e) ∙ sym (any-step test n r h) ∙ v
+
+pub any-done : (test : ℕ → Bool) (n r : ℕ) (w : Bool) → n ≤ r → anyFrom test r (n - r) ≡ w → false ≡ w
+any-done test n r w h v = let e : n - r ≡ 0 = omega arith in sym (ap (anyFrom test r) e) ∙ v
+
+module _ (s : List ℕ) where
+  pub torn-short : length s < 16 → torn s ≡ true
+  unfolding torn
+  torn-short h = one-is _ 0 (lt-ltb (length s) 16 h)
+
+  module _ (n m : ℕ) (en : n ≡ recordsOf s) (em : m ≡ labelsOf s) where
+    pub torn-none : n < 1 → torn s ≡ true
+    unfolding torn
+    torn-none h = one-is _ 1 (lt-ltb (recordsOf s) 1 (omega arith))
+
+    pub torn-many : 1024 < n → torn s ≡ true
+    unfolding torn
+    torn-many h = one-is _ 2 (lt-ltb 1024 (recordsOf s) (omega arith))
+
+    pub torn-labels : 16384 < m → torn s ≡ true
+    unfolding torn
+    torn-labels h = one-is _ 3 (lt-ltb 16384 (labelsOf s) (omega arith))
+
+    pub torn-length : ¬ (length s ≡ 16 * n + m) → torn s ≡ true
+    unfolding torn
+    torn-length h = one-is _ 4 (ap not (ne-eqb (length s) (16 * recordsOf s + labelsOf s) (λ e. h (omega arith))))
+
+    pub torn-rest : {b : Bool} → b ≡ allZero (take 12 (drop 4 s)) → b ≡ false → torn s ≡ true
+    unfolding torn
+    torn-rest e h = one-is _ 5 (ap not (sym e ∙ h))
+
+    pub not-torn : {b : Bool} → 16 ≤ length s → 1 ≤ n → n ≤ 1024 → m ≤ 16384 → length s ≡ 16 * n + m → b ≡ allZero (take 12 (drop 4 s)) → b ≡ true → Fits s n m
+    unfolding torn
+    not-torn least some few short long e z =
+        record {
+          whole =
+              one-cons _ (le-ltb (length s) 16 least)
+              (one-cons _ (le-ltb (recordsOf s) 1 (omega arith))
+              (one-cons _ (le-ltb 1024 (recordsOf s) (omega arith))
+              (one-cons _ (le-ltb 16384 (labelsOf s) (omega arith))
+              (one-cons _ (not-of (eq-eqb (length s) (16 * recordsOf s + labelsOf s) (omega arith)))
+              (one-cons _ (not-of (sym e ∙ z)) one-nil)))));
+          records = en;
+          labels = em;
+          some = some;
+          few = few;
+          short = short;
+          long = long;
+        }

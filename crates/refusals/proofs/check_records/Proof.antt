@@ -1,0 +1,72 @@
+use native.Mathlib.Omega.{arith}
+use borrow.Author.Needs.{needs}
+use Prim.Native.Nat.{ℕ, _-_, _+_, _*_, _≤_}
+use mathlib.Core.Path.{_≡_, refl, sym, _∙_, ap, ap₂}
+use mathlib.Core.Bool.{Bool, true, false, not, _&&_}
+use borrow.Author.Tests.{eq-eqb, ne-eqb, lt-ltb, le-ltb}
+use Rattle.sheet.specs.Refusals.{badKind, anyFrom}
+use Rattle.sheet.specs.Kind.{isKind}
+use Rattle.sheet.specs.Head.{headAt}
+use Rattle.refusals.proofs.Verdicts.{says-torn, says-kind, chain-lost, chain-found, found-short, found-figure, found-label, found-end, found-twins, found-sheet, odd-kinds}
+use borrow.Author.Needs.{needs}
+use Rattle.refusals.proofs.check_records.Statement.{statement}
+use Rattle.refusals.proofs.check_records.Tie as tie
+use Rattle.refusals.proofs.check_records.Reads as reads
+use Rattle.refusals.proofs.check_records.Lts as lts
+use Rattle.refusals.proofs.check_found.Reads as check-found-reads
+use Rattle.refusals.proofs.header.odd_kind.Reads as odd-kind-reads
+use Rattle.refusals.proofs.start_link.Reads as start-link-reads
+use Rattle.refusals.proofs.walk.walk.Reads as walk-reads
+
+-- src/lib.rt:88:8
+odd-kind-requires : tie.Need-odd-kind-requires
+odd-kind-requires c κs = search needs
+
+-- src/lib.rt:89:9
+returns : tie.Need-returns
+returns c =
+    says-kind _ ((c .before .before .before .pre .whole)) (odd-kinds _ _ ((c .before .before .before .pre .records)) (c .before .odd-kind .ensures) (c .if1 .taken))
+
+-- src/lib.rt:91:9
+start-link-requires : tie.Need-start-link-requires
+start-link-requires c κs = search needs
+
+-- src/lib.rt:93:11
+walk-requires : tie.Need-walk-requires
+walk-requires c κs = search needs
+
+-- src/lib.rt:94:22
+enum-known-p : tie.Need-enum-known-p
+enum-known-p c = search needs
+
+-- src/lib.rt:94:31
+check-found-requires : tie.Need-check-found-requires
+check-found-requires c κs =
+    chain-found _ _ _ (c .before .before .before .before .before .before .before .before .pre) (odd-kinds _ _ ((c .before .before .before .before .before .before .before .before .pre .records)) (c .before .before .before .before .before .before .odd-kind .ensures) (c .before .before .before .before .before .if1 .left)) _ (c .before .before .before .before .start-link .ensures) _ _ (rw (c .before .p .given .1) at (c .before .before .before .walk .ensures))
+
+-- src/lib.rt:95:42
+enum-told : tie.Need-enum-told
+enum-told c = search needs
+
+-- src/lib.rt:84:1
+returns-2 : tie.Need-returns-2
+returns-2 c = search needs
+
+-- src/lib.rt:84:1
+returns-3 : tie.Need-returns-3
+returns-3 c =
+    chain-lost _ _ _ (c .before .before .before .before .before .before .before .pre) (odd-kinds _ _ ((c .before .before .before .before .before .before .before .pre .records)) (c .before .before .before .before .before .odd-kind .ensures) (c .before .before .before .before .if1 .left)) _ (c .before .before .before .start-link .ensures) (rw (c .enum-told .given .1) at (c .before .before .walk .ensures))
+
+pub check-records-spec : {M : Type 1} → statement M
+check-records-spec =
+    tie.close
+    (tie.spec
+    odd-kind-requires
+    returns
+    start-link-requires
+    walk-requires
+    enum-known-p
+    check-found-requires
+    enum-told
+    returns-2
+    returns-3)
