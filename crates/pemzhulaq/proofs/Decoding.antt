@@ -14,7 +14,7 @@ use Rattle.sheet.specs.Refusals.{Condition, firstMet}
 use Rattle.sheet.proofs.Chains.{encode-length}
 use Rattle.coercion.specs.Data.{DataType, single}
 use Rattle.answers.specs.Call.{Call, conditions, refusal, Reply, refused, nothing, written, Outcome, settled, answer, outcome}
-use Rattle.pemzhulaq.specs.Number.{numberOf, replyOfNumber, Ranged}
+use Rattle.pemzhulaq.specs.Number.{numberOf, shortest, Ranged, replyOfNumber}
 
 -- conditions whose numbers are at most 8
 abbrev Low : List Condition → Type 0
@@ -36,7 +36,7 @@ refusal-low c =
     (omega arith, (omega arith, (omega arith, (omega arith, (omega arith, (omega arith, (omega arith, (omega arith, tt))))))))
 
 -- a header and at least one record
-pub sheet-long : (t : DataType) → 32 ≤ length (encode (single t))
+pub sheet-long : (t : DataType) → shortest ≤ length (encode (single t))
 unfolding count
 sheet-long t = omega (arith, encode-length (single t))
 
@@ -52,9 +52,9 @@ ranged c = go (eqb (refusal c) 0) refl (answer c)
     go false e a = (omega (arith, eqb-false (refusal c) 0 e), refusal-low c)
 
 decodes-ranged : (r : Reply) → Ranged r → replyOfNumber (numberOf r) ≡ r
-decodes-ranged (refused k) h = rw (ne-eqb k 0 (λ z. omega (arith, h .0)), lt-ltb k 32 (omega (arith, h .1)))
+decodes-ranged (refused k) h = rw (ne-eqb k 0 (λ z. omega (arith, h .0)), lt-ltb k shortest (omega (arith, h .1)))
 decodes-ranged nothing h = refl
-decodes-ranged (written k) h = rw (ne-eqb k 0 (λ z. omega arith), le-ltb k 32 h)
+decodes-ranged (written k) h = rw (ne-eqb k 0 (λ z. omega arith), le-ltb k shortest h)
 
 -- whatever the call, its number says what it replied
 pub decodes : (c : Call) → replyOfNumber (numberOf (outcome c .reply)) ≡ outcome c .reply

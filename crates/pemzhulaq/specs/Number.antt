@@ -21,12 +21,16 @@ pub record Seen : Type 0 where
 abbrev pub exported : Outcome → Seen
 exported o = record { number = numberOf (o .reply); output = o .output; work = o .work }
 
--- the numbers of each case: refusals are 1 to 8, and no one-type sheet is shorter than its header and one record
+-- "a one-type sheet has at least 32 bytes": its header and one record
+abbrev pub shortest : ℕ
+shortest = 32
+
+-- the numbers of each case, which have none in common
 abbrev pub Ranged : Reply → Type 0
 Ranged (refused k) = (1 ≤ k) × (k ≤ 8)
 Ranged nothing = Unit
-Ranged (written k) = 32 ≤ k
+Ranged (written k) = shortest ≤ k
 
 -- the reply that a number stands for: "0 none, 1 to 31 a refusal number, from 32 on the byte length"
 abbrev pub replyOfNumber : ℕ → Reply
-replyOfNumber k = cond (eqb k 0) nothing (cond (ltb k 32) (refused k) (written k))
+replyOfNumber k = cond (eqb k 0) nothing (cond (ltb k shortest) (refused k) (written k))
