@@ -1,0 +1,13 @@
+//! Two types in, the common type out.
+
+use pemzhulaq::{coerce, DataType, Mask};
+
+fn main() -> Result<(), Box<dyn std::error::Error>> {
+    let ours: DataType = "Struct(cases: Int64, loose: Int64)".parse()?;
+    let till: DataType = "Struct(pieces: Decimal128(7, 2), cases: nullable Int32)".parse()?;
+    match coerce::union(&ours, &till, Mask::ALL)? {
+        Some(common) => println!("{common}"),
+        None => println!("none"),
+    }
+    Ok(())
+}
