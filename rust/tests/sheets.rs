@@ -70,6 +70,48 @@ fn damage_is_refused_alike() {
     assert!(seen.iter().all(|&count| count > 500), "refusals 0 to 5 were met {seen:?} times");
 }
 
+/// Every change of one byte of a sheet that has every kind, a label in each place, and two names
+/// that differ in one byte.
+#[test]
+fn every_change_of_one_byte() {
+    let mut rng = Rng(9);
+    let mut types: Vec<DataType> = Kind::all().map(|kind| any_of_kind(&mut rng, kind, 1)).collect();
+    types.push("Struct(a: Timestamp(s, \"UTC\"), b: Timestamp(s, \"\"))".parse().unwrap());
+    let mut bytes = sheet::encode(&types).unwrap();
+    for at in 0..bytes.len() {
+        let before = bytes[at];
+        for byte in 0..=255 {
+            bytes[at] = byte;
+            agrees(&bytes);
+        }
+        bytes[at] = before;
+    }
+}
+
+#[test]
+fn equal_names_are_refused() {
+    let data_type: DataType = "Struct(a: Int8, b: List(a: Int8), c: Int8)".parse().unwrap();
+    let mut bytes = sheet::encode(&[data_type]).unwrap();
+    assert!(agrees(&bytes));
+    *bytes.last_mut().unwrap() = b'a';
+    assert_eq!(sheet::decode(&bytes), Err(Refusal::Label));
+    assert!(!agrees(&bytes));
+}
+
+#[test]
+fn limits_of_the_header() {
+    for n in [0, 1, 2, 1024, 1025, 65535] {
+        for m in [0, 1, 16384, 16385, 65535usize] {
+            for length in [16 * n + m, 16 * n + m + 1, (16 * n + m).saturating_sub(1)] {
+                let mut bytes = vec![0; length];
+                let counts = [n as u8, (n >> 8) as u8, m as u8, (m >> 8) as u8];
+                bytes.iter_mut().zip(counts).for_each(|(byte, count)| *byte = count);
+                agrees(&bytes);
+            }
+        }
+    }
+}
+
 #[test]
 fn noise_is_refused_alike() {
     let mut rng = Rng(4);
