@@ -3,8 +3,8 @@
 use pemzhulaq::{coerce, DataType, Mask};
 
 fn main() -> Result<(), Box<dyn std::error::Error>> {
-    let ours: DataType = "Struct(cases: Int64, loose: Int64)".parse()?;
-    let till: DataType = "Struct(pieces: Decimal128(7, 2), cases: nullable Int32)".parse()?;
+    let ours: DataType = "Int64".parse()?;
+    let till: DataType = "Decimal128(7, 2)".parse()?;
     match coerce::union(&ours, &till, Mask::ALL)? {
         Some(common) => println!("{common}"),
         None => println!("none"),

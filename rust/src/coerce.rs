@@ -48,10 +48,23 @@ impl Question {
 
     /// Asks it of some types.
     pub fn ask_types(self, types: &[DataType], mask: Mask) -> Result<Option<DataType>, Error> {
-        let Some(answer) = self.ask(&sheet::encode(types)?, mask)? else {
-            return Ok(None);
-        };
-        Ok(sheet::decode(&answer)?.pop())
+        self.ask_encoded(&sheet::encode(types)?, mask)
+    }
+
+    fn ask_two(
+        self,
+        left: &DataType,
+        right: &DataType,
+        mask: Mask,
+    ) -> Result<Option<DataType>, Error> {
+        self.ask_encoded(&sheet::encode_all([left, right].into_iter())?, mask)
+    }
+
+    fn ask_encoded(self, sheet: &[u8], mask: Mask) -> Result<Option<DataType>, Error> {
+        match self.ask(sheet, mask)? {
+            Some(answer) => Ok(sheet::decode(&answer)?.pop()),
+            None => Ok(None),
+        }
     }
 }
 
@@ -100,10 +113,10 @@ pub fn list(types: &[DataType], mask: Mask) -> Result<Option<DataType>, Error> {
 
 /// The common type of two types in a union, or nothing where there is none.
 pub fn union(left: &DataType, right: &DataType, mask: Mask) -> Result<Option<DataType>, Error> {
-    Question::Union.ask_types(&[left.clone(), right.clone()], mask)
+    Question::Union.ask_two(left, right, mask)
 }
 
 /// The type that two types are compared as, or nothing where there is none.
 pub fn compare(left: &DataType, right: &DataType, mask: Mask) -> Result<Option<DataType>, Error> {
-    Question::Compare.ask_types(&[left.clone(), right.clone()], mask)
+    Question::Compare.ask_two(left, right, mask)
 }

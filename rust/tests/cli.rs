@@ -93,10 +93,13 @@ fn types_from_files() {
     assert_eq!(run_with(&["--file=-", "--question=list"], b"").1, "list     none\n");
     let (status, stdout, stderr) = run_with(&["--file", "-"], b"Int8\nList(Foo)\n");
     assert_eq!((status, stdout.as_str()), (2, ""));
-    assert_eq!(stderr, "pemzhulaq: -, line 2, column 6: unknown type Foo\n  List(Foo)\n       ^\n");
+    assert_eq!(
+        stderr,
+        "pemzhulaq: standard input, line 2, column 6: unknown type Foo\n  List(Foo)\n       ^\n"
+    );
     let (status, _, stderr) = run_with(&["--file", "-"], b"Int8\n\xFF\n");
     assert_eq!(status, 2);
-    assert!(stderr.contains("-, line 2: not UTF-8"), "{stderr}");
+    assert!(stderr.contains("standard input, line 2: not UTF-8"), "{stderr}");
 }
 
 #[test]
@@ -160,6 +163,16 @@ fn wrong_arguments() {
     fails(&["--file", "/nowhere/types"], 2, "/nowhere/types: No such file");
     fails(&["Int8", "List(Int8"], 2, "type 2, line 1, column 10: expected ')'");
     fails(&["--", "--hex"], 2, "type 1, line 1, column 1");
+}
+
+#[cfg(unix)]
+#[test]
+fn arguments_that_are_no_text() {
+    use std::os::unix::ffi::OsStrExt;
+    let mut command = Command::new(env!("CARGO_BIN_EXE_pemzhulaq"));
+    let output = command.arg(std::ffi::OsStr::from_bytes(b"Int\xFF")).output().unwrap();
+    assert_eq!((output.status.code(), output.stdout.len()), (Some(2), 0));
+    assert!(String::from_utf8(output.stderr).unwrap().contains("is not UTF-8"));
 }
 
 #[test]

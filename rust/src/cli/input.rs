@@ -32,7 +32,7 @@ fn parse_arguments(texts: &[String]) -> Result<Vec<DataType>, Failure> {
 }
 
 fn parse_file(path: &Path) -> Result<Vec<DataType>, Failure> {
-    let name = path.display();
+    let name = name_of(path);
     let bytes = read(path, MAX_TEXT + 1)?;
     if bytes.len() as u64 > MAX_TEXT {
         return Err(Failure::wrong(format!("{name}: more than {MAX_TEXT} bytes of text")));
@@ -53,6 +53,13 @@ fn read(path: &Path, limit: u64) -> Result<Vec<u8>, Failure> {
     } else {
         File::open(path).and_then(|file| file.take(limit).read_to_end(&mut bytes))
     };
-    read.map_err(|error| Failure::wrong(format!("{}: {error}", path.display())))?;
+    read.map_err(|error| Failure::wrong(format!("{}: {error}", name_of(path))))?;
     Ok(bytes)
+}
+
+fn name_of(path: &Path) -> String {
+    match path.to_str() {
+        Some("-") => "standard input".to_string(),
+        _ => path.display().to_string(),
+    }
 }

@@ -37,6 +37,7 @@
 //! RunEndEncoded. A field is not nullable unless it says so.
 
 mod error;
+mod figures;
 mod parse;
 mod print;
 mod tokens;

@@ -1,7 +1,7 @@
 //! Reading a type.
 
 use super::tokens::{short, Token, Tokens};
-use super::{default_name, ParseError, INTERVALS, UNITS};
+use super::{default_name, figures, ParseError};
 use crate::head::Head;
 use crate::sheet::{MAX_LABEL, MAX_RECORDS};
 use crate::{DataType, Field, Kind, Label};
@@ -63,13 +63,13 @@ impl<'a> Parser<'a> {
         loop {
             let (front, mut head) = self.field_front()?;
             if head.kind.part_count() != Some(0) {
-                self.parts_front(&mut head)?;
+                figures::before_parts(&mut self.tokens, &mut head)?;
                 self.open.push(Open { head, front, parts: Vec::new() });
                 if !self.is_empty_struct() {
                     continue;
                 }
             } else {
-                let zone = self.figures(&mut head)?;
+                let zone = figures::read(&mut self.tokens, &mut head)?;
                 let data_type = self.build(head, zone, Vec::new())?;
                 if let Some(whole) = self.add(front, data_type) {
                     return Ok(whole);
@@ -82,15 +82,11 @@ impl<'a> Parser<'a> {
     }
 
     fn is_empty_struct(&self) -> bool {
-        self.open_kind() == Some(Kind::Struct) && self.is_ahead(')')
+        self.open_kind() == Some(Kind::Struct) && self.tokens.is_ahead(')')
     }
 
     fn open_kind(&self) -> Option<Kind> {
         self.open.last().map(|open| open.head.kind)
-    }
-
-    fn is_ahead(&self, sign: char) -> bool {
-        *self.tokens.peek() == Token::Sign(sign)
     }
 
     /// Closes each open type whose last part was read; gives the whole if that closes all.
@@ -101,10 +97,10 @@ impl<'a> Parser<'a> {
                 return Ok(None);
             }
             if open.head.kind == Kind::Map {
-                self.sign(',')?;
-                open.head.sorted = self.choice(&["unsorted", "sorted"])? == 1;
+                self.tokens.sign(',')?;
+                open.head.sorted = self.tokens.choice(&["unsorted", "sorted"])? == 1;
             }
-            self.sign(')')?;
+            self.tokens.sign(')')?;
             let data_type = self.build(open.head, None, open.parts)?;
             if let Some(whole) = self.add(open.front, data_type) {
                 return Ok(Some(whole));
@@ -117,11 +113,11 @@ impl<'a> Parser<'a> {
     fn has_more(&mut self, open: &Open) -> Result<bool, ParseError> {
         match open.head.kind.part_count() {
             Some(count) if open.parts.len() == count => return Ok(false),
-            None if self.is_ahead(')') => return Ok(false),
-            None if !self.is_ahead(',') => return Err(self.tokens.expected("',' or ')'")),
+            None if self.tokens.is_ahead(')') => return Ok(false),
+            None if !self.tokens.is_ahead(',') => return Err(self.tokens.expected("',' or ')'")),
             _ => {}
         }
-        self.sign(',')?;
+        self.tokens.sign(',')?;
         Ok(true)
     }
 
@@ -149,9 +145,9 @@ impl<'a> Parser<'a> {
         let start = self.tokens.place();
         let mut token = self.tokens.next()?;
         let mut name = None;
-        if self.is_ahead(':') && matches!(token, Token::Word(_) | Token::Quoted(_)) {
+        if self.tokens.is_ahead(':') && matches!(token, Token::Word(_) | Token::Quoted(_)) {
             name = Some(self.name(start, token)?);
-            self.sign(':')?;
+            self.tokens.sign(':')?;
             token = self.tokens.next()?;
         }
         let nullable = token == Token::Word("nullable");
@@ -228,111 +224,6 @@ impl<'a> Parser<'a> {
         }
         Ok(Head::new(kind))
     }
-
-    /// Reads up to the first part.
-    fn parts_front(&mut self, head: &mut Head) -> Result<(), ParseError> {
-        self.sign('(')?;
-        if head.kind == Kind::FixedSizeList {
-            head.size = self.number("a size", 0, i32::MAX)?;
-            self.choice(&["x"])?;
-        }
-        Ok(())
-    }
-
-    /// Reads the figures and the zone of a type without parts.
-    fn figures(&mut self, head: &mut Head) -> Result<Option<Label>, ParseError> {
-        let mut zone = None;
-        if !has_figures(head.kind) {
-            return Ok(zone);
-        }
-        self.sign('(')?;
-        match head.kind {
-            Kind::Interval => head.figure = self.choice(&INTERVALS)?,
-            Kind::FixedSizeBinary => head.size = self.number("a size", 0, i32::MAX)?,
-            Kind::Timestamp => {
-                head.figure = self.unit()?;
-                zone = self.zone()?;
-            }
-            kind => match kind.precision_cap() {
-                Some(cap) => self.decimal(head, cap)?,
-                None => head.figure = self.unit()?,
-            },
-        }
-        self.sign(')')?;
-        Ok(zone)
-    }
-
-    fn decimal(&mut self, head: &mut Head, cap: u8) -> Result<(), ParseError> {
-        let what = format!("the precision of {}", head.kind);
-        let precision = self.number(&what, 1, i32::from(cap))?;
-        self.sign(',')?;
-        let what = format!("the scale at precision {precision}");
-        let scale = self.number(&what, precision - 127, precision)?;
-        (head.figure, head.scale) = (precision as u8, scale as i8);
-        Ok(())
-    }
-
-    fn unit(&mut self) -> Result<u8, ParseError> {
-        // Easier to type, and the Greek letter that looks the same.
-        if let Token::Word("us" | "\u{3bc}s") = self.tokens.peek() {
-            self.tokens.next()?;
-            return Ok(2);
-        }
-        self.choice(&UNITS)
-    }
-
-    fn zone(&mut self) -> Result<Option<Label>, ParseError> {
-        if !self.is_ahead(',') {
-            return Ok(None);
-        }
-        self.sign(',')?;
-        if !matches!(self.tokens.peek(), Token::Quoted(_)) {
-            return Err(self.tokens.expected("a zone in quotes"));
-        }
-        match self.tokens.next()? {
-            Token::Quoted(zone) if zone.len() <= MAX_LABEL => Ok(Some(zone.into())),
-            _ => {
-                let message = format!("a zone of more than {MAX_LABEL} bytes");
-                Err(self.tokens.error(self.tokens.taken(), message))
-            }
-        }
-    }
-
-    fn sign(&mut self, sign: char) -> Result<(), ParseError> {
-        if !self.is_ahead(sign) {
-            return Err(self.tokens.expected(&format!("'{sign}'")));
-        }
-        self.tokens.next().map(|_| ())
-    }
-
-    /// The number of the word that is ahead.
-    fn choice(&mut self, words: &[&str]) -> Result<u8, ParseError> {
-        let is_ahead = |word: &&str| *self.tokens.peek() == Token::Word(word);
-        let Some(number) = words.iter().position(is_ahead) else {
-            return Err(self.tokens.expected(&words.join(" or ")));
-        };
-        self.tokens.next()?;
-        Ok(number as u8)
-    }
-
-    fn number(&mut self, what: &str, least: i32, greatest: i32) -> Result<i32, ParseError> {
-        let Token::Number(digits) = *self.tokens.peek() else {
-            return Err(self.tokens.expected("a number"));
-        };
-        match digits.parse().ok().filter(|number| (least..=greatest).contains(number)) {
-            Some(number) => self.tokens.next().map(|_| number),
-            None => {
-                let message = format!("{what} is {least} to {greatest}, not {}", short(digits));
-                Err(self.tokens.error(self.tokens.place(), message))
-            }
-        }
-    }
-}
-
-fn has_figures(kind: Kind) -> bool {
-    use Kind::*;
-    kind.precision_cap().is_some()
-        || matches!(kind, Time32 | Time64 | Timestamp | Interval | Duration | FixedSizeBinary)
 }
 
 fn unknown(word: &str) -> String {

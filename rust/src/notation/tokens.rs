@@ -93,6 +93,42 @@ impl<'a> Tokens<'a> {
         Ok(std::mem::replace(&mut self.ahead, token))
     }
 
+    pub fn is_ahead(&self, sign: char) -> bool {
+        self.ahead == Token::Sign(sign)
+    }
+
+    /// Takes a sign.
+    pub fn sign(&mut self, sign: char) -> Result<(), ParseError> {
+        if !self.is_ahead(sign) {
+            return Err(self.expected(&format!("'{sign}'")));
+        }
+        self.next().map(|_| ())
+    }
+
+    /// Takes one of some words, and gives its place among them.
+    pub fn choice(&mut self, words: &[&str]) -> Result<u8, ParseError> {
+        let is_ahead = |word: &&str| self.ahead == Token::Word(word);
+        let Some(number) = words.iter().position(is_ahead) else {
+            return Err(self.expected(&words.join(" or ")));
+        };
+        self.next()?;
+        Ok(number as u8)
+    }
+
+    /// Takes a number between two others.
+    pub fn number(&mut self, what: &str, least: i32, greatest: i32) -> Result<i32, ParseError> {
+        let Token::Number(digits) = self.ahead else {
+            return Err(self.expected("a number"));
+        };
+        match digits.parse().ok().filter(|number| (least..=greatest).contains(number)) {
+            Some(number) => self.next().map(|_| number),
+            None => {
+                let message = format!("{what} is {least} to {greatest}, not {}", short(digits));
+                Err(self.error(self.start, message))
+            }
+        }
+    }
+
     /// A label in quotes at the front of a text, and the bytes that it takes.
     fn quoted(&self, text: &'a str) -> Result<(Token<'a>, usize), ParseError> {
         let mut label = Vec::new();

@@ -52,8 +52,15 @@ impl From<BadFigure> for EncodeError {
 
 /// The sheet of these types, in this order.
 pub fn encode(types: &[DataType]) -> Result<Vec<u8>, EncodeError> {
+    encode_all(types.iter())
+}
+
+/// The sheet of types that stand in different places.
+pub(crate) fn encode_all<'a>(
+    types: impl Iterator<Item = &'a DataType>,
+) -> Result<Vec<u8>, EncodeError> {
     let mut writer = Writer { records: vec![[0; RECORD]], labels: Vec::new() };
-    writer.chains(types)?;
+    writer.chains(types.map(Part::bare).collect())?;
     let (n, m) = (writer.records.len(), writer.labels.len());
     set_pair(&mut writer.records[0], 0, n);
     set_pair(&mut writer.records[0], 2, m);
@@ -76,8 +83,7 @@ struct Chain<'a> {
 impl Writer {
     /// Writes a record, then its parts, then its next. Open chains are kept in a list and not on
     /// the stack, so that a type of any depth ends in an error and not in an overflow.
-    fn chains(&mut self, types: &[DataType]) -> Result<(), EncodeError> {
-        let listed: Vec<Part> = types.iter().map(Part::bare).collect();
+    fn chains(&mut self, listed: Vec<Part>) -> Result<(), EncodeError> {
         let mut open = vec![Chain { rest: listed.into_iter(), link: None }];
         while let Some(chain) = open.last_mut() {
             let Some(part) = chain.rest.next() else {

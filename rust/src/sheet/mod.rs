@@ -19,6 +19,7 @@ mod view;
 
 pub use crate::head::BadFigure;
 pub use decode::decode;
+pub(crate) use encode::encode_all;
 pub use encode::{encode, EncodeError};
 
 /// The bytes of a record.
