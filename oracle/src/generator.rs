@@ -44,7 +44,7 @@ fn large(rng: &mut Rng) -> Call {
     good_call(rng, question, &pair)
 }
 
-fn deep_pair(rng: &mut Rng) -> [DataType; 2] {
+pub fn deep_pair(rng: &mut Rng) -> [DataType; 2] {
     let left = any_plain(rng);
     let mut pair = [related(rng, &left), left];
     for _ in 0..1 + rng.below(400) {
@@ -60,7 +60,7 @@ fn deep_pair(rng: &mut Rng) -> [DataType; 2] {
     pair
 }
 
-fn wide_pair(rng: &mut Rng) -> [DataType; 2] {
+pub fn wide_pair(rng: &mut Rng) -> [DataType; 2] {
     let count = 1 + rng.below(150);
     let types: Vec<DataType> = (0..count).map(|_| any_plain(rng)).collect();
     let mut other: Vec<(String, DataType, bool)> = Vec::new();
@@ -78,12 +78,12 @@ fn wide_pair(rng: &mut Rng) -> [DataType; 2] {
     [one, DataType::Struct(other.collect::<Vec<_>>().into())]
 }
 
-fn any_type_of_some_size(rng: &mut Rng) -> DataType {
+pub fn any_type_of_some_size(rng: &mut Rng) -> DataType {
     let records = if rng.once_in(6) { 40 } else { 12 };
     any_type(rng, records)
 }
 
-fn related_types(rng: &mut Rng) -> Vec<DataType> {
+pub fn related_types(rng: &mut Rng) -> Vec<DataType> {
     let mut types = vec![any_type_of_some_size(rng)];
     for _ in 0..1 + rng.below(6) {
         let base = rng.pick(&types).clone();

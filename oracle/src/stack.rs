@@ -4,7 +4,7 @@ use std::io;
 use std::process::ExitCode;
 use std::thread::{Builder, JoinHandle};
 
-const SIZE: usize = 256 << 20;
+pub const SIZE: usize = 256 << 20;
 
 /// Runs a task on a large stack; it fails where the task says so or panics.
 pub fn run(task: fn() -> io::Result<bool>) -> ExitCode {
