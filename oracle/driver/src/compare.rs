@@ -38,17 +38,17 @@ pub struct Difference {
 }
 
 /// Both sides of a call and the memory for them.
-pub struct Bench {
+pub struct Sides {
     pattern: Pattern,
     ours: Lent,
     due: Lent,
     spoil: Option<Spoil>,
 }
 
-impl Bench {
-    pub fn new(spoil: Option<Spoil>) -> Bench {
+impl Sides {
+    pub fn new(spoil: Option<Spoil>) -> Sides {
         let pattern = Pattern::new(PATTERN_SEED);
-        Bench { pattern, ours: Lent::default(), due: Lent::default(), spoil }
+        Sides { pattern, ours: Lent::default(), due: Lent::default(), spoil }
     }
 
     /// The port's number and the one that is due, where the source has an answer.
@@ -95,7 +95,7 @@ impl Bench {
 pub fn work(task: Task, stop: &AtomicBool) -> (Counts, Option<Difference>) {
     let mut counts = Counts::new();
     let mut rng = Rng::new(task.seed);
-    let mut bench = Bench::new(task.spoil);
+    let mut sides = Sides::new(task.spoil);
     let mut done = 0;
     while done < task.cases && !stop.load(Ordering::Relaxed) && Instant::now() < task.until {
         let class = cases::any_class(&mut rng);
@@ -103,7 +103,7 @@ pub fn work(task: Task, stop: &AtomicBool) -> (Counts, Option<Difference>) {
         calls.truncate((task.cases - done) as usize);
         for call in calls {
             done += 1;
-            match bench.agreed(&call, done as usize) {
+            match sides.agreed(&call, done as usize) {
                 Some(number) => counts.add(class, call.question as usize, number),
                 None => {
                     stop.store(true, Ordering::Relaxed);
@@ -117,19 +117,19 @@ pub fn work(task: Task, stop: &AtomicBool) -> (Counts, Option<Difference>) {
 
 /// The smallest call that differs too, and both in words.
 pub fn explain(found: &Difference, spoil: Option<Spoil>) -> (Call, String) {
-    let bench = RefCell::new(Bench::new(spoil));
-    let differs = |call: &Call| bench.borrow_mut().differs(call);
+    let sides = RefCell::new(Sides::new(spoil));
+    let differs = |call: &Call| sides.borrow_mut().differs(call);
     let small = if differs(&found.call) {
         shrink(found.call.clone(), &differs)
     } else {
         found.call.clone()
     };
-    let mut bench = bench.borrow_mut();
+    let mut sides = sides.borrow_mut();
     let text = format!(
         "DIFFERENCE in '{}'\nas found:\n{}\nsmallest:\n{}",
         found.class,
-        bench.report(&found.call),
-        bench.report(&small)
+        sides.report(&found.call),
+        sides.report(&small)
     );
     (small, text)
 }

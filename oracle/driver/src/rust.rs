@@ -19,7 +19,9 @@ const FEW: usize = 12;
 const UNITS: [TimeUnit; 4] =
     [TimeUnit::Second, TimeUnit::Millisecond, TimeUnit::Microsecond, TimeUnit::Nanosecond];
 
-/// The answer in the numbers of the archive; the work space is only measured.
+/// The answer in the numbers of the archive; the work space is only measured. Never inlined,
+/// since the archive's calls are not.
+#[inline(never)]
 pub fn ask(question: Question, sheet: &[u8], mask: u64, output: &mut [u8], work: usize) -> usize {
     let sheet = match check(sheet) {
         Ok(sheet) => sheet,

@@ -58,11 +58,8 @@ fn plainer(call: &Call) -> Vec<Call> {
 /// Lists with a type less, or with one type made simpler.
 fn lists(call: &Call) -> Vec<Vec<DataType>> {
     let Ok(types) = sheet::read(&call.sheet) else { return Vec::new() };
-    let mut lists = Vec::new();
-    for half in [..types.len() / 2] {
-        lists.push(types[half].to_vec());
-        lists.push(types[types.len() / 2..].to_vec());
-    }
+    let (front, back) = types.split_at(types.len() / 2);
+    let mut lists = vec![front.to_vec(), back.to_vec()];
     for at in 0..types.len() {
         let mut fewer = types.clone();
         fewer.remove(at);
