@@ -31,7 +31,7 @@ pub fn run(options: &Options) -> io::Result<bool> {
     let rows: Vec<Row> =
         inputs.iter().zip(&timed).map(|(input, timed)| row(input, timed)).collect();
     let text = format!(
-        "Machine: {machine}. Medians of {count} rounds, nanoseconds a call.\n\n{}\n{}",
+        "Machine: {machine}. Medians of {count} rounds, nanoseconds of processor time a call.\n\n{}\n{}",
         table(&rows),
         goals(&rows)
     );
