@@ -81,6 +81,17 @@ module _ (s : List ℕ) (n up link : ℕ) (p : Progress) (k : ℕ) where
     due-is : q .due ≡ p .due + 1
     due-is = ap (λ (x : Progress). x .due) eq
 
+    -- past the record no number outgrows its limit
+    pub ready-past : (j : ℕ) → j ≤ k + 1 → Ready n p k → q .at ≤ p .at + 510 → Ready n q j
+    ready-past j c r a =
+        record {
+          few = r .few;
+          some = omega (arith, due-is);
+          inside = omega (arith, due-is);
+          short = omega (arith, due-is, r .short);
+          counted = omega (arith, due-is, r .counted);
+        }
+
     -- what the walk of the parts says, at one step less
     inside : {o : Walked} → Walks s n (h .kind) (h .first) q 0 o → (f : ℕ) → n ≤ p .due + suc f → Says s (h .kind) (h .first) q 0 (parts-of f) o
     unfolding parts-of
@@ -167,3 +178,15 @@ module _ (s : List ℕ) (n up link : ℕ) (p : Progress) (k : ℕ) where
       pub walk-on : partsRight (h .kind) parts ≡ true → (o : Walked) → Walks s n up (h .next) inner (k + 1) o → Walks s n up link p k o
       walk-on b (Came last j) v = walk-rest b last j v
       walk-on b Lost v = walk-rest-lost v
+
+-- a record without parts
+module _ (s : List ℕ) (n up link : ℕ) (p : Progress) (k : ℕ) (e : link ≡ p .due) (lt : p .due < n) (h : Head) (eh : h ≡ headAt s (p .due))
+    (q : Progress) (eq : q ≡ passHead h up p) (ready : Ready n p k) (few : q .at ≤ p .at + 510) (z : h .first ≡ 0) where
+  none : Walks s n (h .kind) (h .first) q 0 (Came q 0)
+  none = walk-none s n (h .kind) (h .first) q 0 (ready-past s n up link p k e lt h eh q eq 0 (omega arith) ready few) z
+
+  pub walk-bare : partsRight (h .kind) 0 ≡ true → (o : Walked) → Walks s n up (h .next) q (k + 1) o → Walks s n up link p k o
+  walk-bare = walk-on s n up link p k e lt h eh q eq q 0 none
+
+  pub walk-bare-wrong : partsRight (h .kind) 0 ≡ false → Walks s n up link p k Lost
+  walk-bare-wrong = walk-parts-wrong s n up link p k e lt h eh q eq q 0 none

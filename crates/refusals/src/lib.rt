@@ -68,7 +68,7 @@ fn check_records(s: &[u8], n: usize, m: usize) -> Checked
         figure: false,
         label: false,
     };
-    match walk(s, n, 0, link, outset, 0) {
+    match walk(s, n, 0, link, outset) {
         Walked::Came(p, _) => check_found(s, n, m, link, p),
         Walked::Lost => Checked::Refused(Refusal::Chain),
     }

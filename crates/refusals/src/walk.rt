@@ -36,33 +36,44 @@ fn either(a: bool, b: bool) -> bool
     if a { true } else { b }
 }
 
-// Walks the chain that a link leads to, of which k records have been met, in a record of kind up.
-pub(crate) fn walk(s: &[u8], n: usize, up: u8, link: usize, p: Progress, k: usize) -> Walked
-    requires { ⌜ Ready n p k ⌝ }
-    ensures { λ o. ⌜ Walks (now (s .entry)) n up link p k o ⌝ }
+// Walks the chain that a link leads to, in a record of kind up, and counts its records. Parts are walked by a call, the chain by the loop.
+pub(crate) fn walk(s: &[u8], n: usize, up: u8, link: usize, p: Progress) -> Walked
+    requires { ⌜ Ready n p 0 ⌝ }
+    ensures { λ o. ⌜ Walks (now (s .entry)) n up link p 0 o ⌝ }
 {
-    if link == 0 {
-        return Walked::Came(p, k);
-    }
-    let due = p.due;
-    if link != due {
-        return Walked::Lost;
-    }
-    if n <= due {
-        return Walked::Lost;
-    }
-    let h = head_at(s, due);
-    let kind = h.kind;
-    let first = h.first;
-    let next = h.next;
-    match walk(s, n, kind, first, pass(h, up, p), 0) {
-        Walked::Came(inner, parts) => {
-            if parts_right(kind, parts) {
-                walk(s, n, up, next, inner, k + 1)
-            } else {
-                Walked::Lost
-            }
+    let mut link = link;
+    let mut p = p;
+    let mut k = 0;
+    while link != 0 {
+        let due = p.due;
+        if link != due {
+            return Walked::Lost;
         }
-        Walked::Lost => Walked::Lost,
+        if n <= due {
+            return Walked::Lost;
+        }
+        let h = head_at(s, due);
+        let kind = h.kind;
+        let first = h.first;
+        link = h.next;
+        k += 1;
+        p = pass(h, up, p);
+        if first == 0 {
+            if parts_right(kind, 0) {
+                continue;
+            }
+            return Walked::Lost;
+        }
+        match walk(s, n, kind, first, p) {
+            Walked::Came(inner, parts) => {
+                if parts_right(kind, parts) {
+                    p = inner;
+                } else {
+                    return Walked::Lost;
+                }
+            }
+            Walked::Lost => return Walked::Lost,
+        }
     }
+    Walked::Came(p, k)
 }
