@@ -53,20 +53,18 @@ pub(crate) fn walk(s: &[u8], n: usize, up: u8, link: usize, p: Progress) -> Walk
             return Walked::Lost;
         }
         let h = head_at(s, due);
-        let kind = h.kind;
-        let first = h.first;
         link = h.next;
         k += 1;
         p = pass(h, up, p);
-        if first == 0 {
-            if parts_right(kind, 0) {
+        if h.first == 0 {
+            if parts_right(h.kind, 0) {
                 continue;
             }
             return Walked::Lost;
         }
-        match walk(s, n, kind, first, p) {
+        match walk(s, n, h.kind, h.first, p) {
             Walked::Came(inner, parts) => {
-                if parts_right(kind, parts) {
+                if parts_right(h.kind, parts) {
                     p = inner;
                 } else {
                     return Walked::Lost;

@@ -61,6 +61,9 @@ fn names_parts(k: u8) -> bool
 pub fn parts_right(k: u8, n: usize) -> bool
     ensures { λ r. ⌜ r ≡ partsRight k n ⌝ }
 {
+    if k < 32 {
+        return n == 0;
+    }
     if within(32, 34, k) {
         return n == 1;
     }
@@ -106,32 +109,41 @@ fn figure_right(k: u8, figure: u8, scale: u8) -> bool
     if is_decimal(k) {
         return decimal_right(precision_cap(k), figure, scale);
     }
-    let most = last_unit(k);
-    all(figure <= most, scale == 0, true, true, true)
+    if scale != 0 {
+        return false;
+    }
+    if figure == 0 {
+        return true;
+    }
+    figure <= last_unit(k)
 }
 
 fn size_right(k: u8, size: usize) -> bool
     ensures { λ r. ⌜ r ≡ sizeRight k size ⌝ }
 {
+    if size == 0 {
+        return true;
+    }
     if k == 31 {
         return size < 2147483648;
     }
     if k == 34 {
         return size < 2147483648;
     }
-    size == 0
+    false
 }
 
 fn figures_right(k: u8, figure: u8, scale: u8, size: usize, sorted: bool, zoned: bool) -> bool
     ensures { λ r. ⌜ r ≡ figuresRight k figure scale size sorted zoned ⌝ }
 {
-    all(
-        figure_right(k, figure, scale),
-        size_right(k, size),
-        implied(sorted, k == 36),
-        implied(zoned, k == 22),
-        true,
-    )
+    if implied(sorted, k == 36) {
+        if implied(zoned, k == 22) {
+            if size_right(k, size) {
+                return figure_right(k, figure, scale);
+            }
+        }
+    }
+    false
 }
 
 // The size that bytes 4 to 7 hold, 0 where they hold the place of a zone.
@@ -141,8 +153,8 @@ pub fn size_in(zoned: bool, quad: usize) -> usize
     if zoned { 0 } else { quad }
 }
 
-// Whether a record that is a part of one of kind up has nothing of refusal 4.
-pub fn record_right(h: Head, up: u8) -> bool
+// The tests of record_right, for any flags.
+fn flagged_right(h: Head, up: u8) -> bool
     ensures { λ r. ⌜ r ≡ recordRight h up ⌝ }
 {
     let flags = h.flags;
@@ -164,6 +176,23 @@ pub fn record_right(h: Head, up: u8) -> bool
     )
 }
 
+// Whether a record that is a part of one of kind up has nothing of refusal 4. Most records have no flag but the first.
+pub fn record_right(h: Head, up: u8) -> bool
+    ensures { λ r. ⌜ r ≡ recordRight h up ⌝ }
+{
+    if h.last != 0 {
+        return false;
+    }
+    let flags = h.flags;
+    if 2 <= flags {
+        return flagged_right(h, up);
+    }
+    if implied(flags % 2 == 1, names_parts(up)) {
+        return figures_right(h.kind, h.figure, h.scale, h.quad, false, false);
+    }
+    false
+}
+
 // Whether a label of len bytes is where it belongs, o.
 fn is_placed(o: usize, at: usize, len: usize) -> bool
     ensures { λ r. ⌜ r ≡ placed o at len ⌝ }
@@ -178,16 +207,15 @@ pub fn label_right(h: Head, up: u8, o: usize) -> bool
 {
     let quad = h.quad;
     let nlen = h.nlen;
-    all(
-        is_placed(o, h.name, nlen),
-        implied(nlen != 0, names_parts(up)),
-        implied(
-            h.flags / 4 % 2 == 1,
-            is_placed(o + nlen, quad % 65536, quad / 65536 % 256),
-        ),
-        true,
-        true,
-    )
+    if is_placed(o, h.name, nlen) {
+        if implied(nlen != 0, names_parts(up)) {
+            if h.flags / 4 % 2 == 1 {
+                return is_placed(o + nlen, quad % 65536, quad / 65536 % 256);
+            }
+            return true;
+        }
+    }
+    false
 }
 
 // How many label bytes a record has.

@@ -10,7 +10,6 @@ use Rattle.sheet.specs.Tests.{allOf, implies, between}
 use Rattle.sheet.specs.Kind.{isKind, isDecimal, cap, sized, lastUnit, partsRight, namesParts}
 use Rattle.sheet.specs.Refusals.{biased, decimalRight, figureRight, sizeRight, figuresRight, recordRight, placed, labelRight}
 use Rattle.sheet.proofs.Tests.{and-true}
-use Rattle.sheet.proofs.Figures.{figures-made, record-made, labels-made}
 use borrow.Author.Needs.{needs}
 use Rattle.sheet.proofs.figure.decimal_right.Statement.{statement}
 use Rattle.sheet.proofs.figure.decimal_right.Tie as tie
