@@ -10,9 +10,13 @@ use lib.Seq.{drop-cons}
 use lib.Dec.{eqb, ltb}
 use borrow.Author.Tests.{eq-eqb, ne-eqb, lt-ltb, le-ltb}
 use Rattle.sheet.specs.Tests.{oneOf}
+use Rattle.sheet.specs.Kind.{isKind}
+use Rattle.sheet.specs.Head.{headAt}
 use Rattle.sheet.specs.Read.{recordsOf, labelsOf}
 use Rattle.sheet.specs.Refusals.{allZero, anyFrom, torn}
 use Rattle.refusals.specs.Limits.{Fits}
+use Rattle.sheet.specs.declared.Head.{Head}
+use Rattle.sheet.proofs.Heads.{head-inside}
 use Rattle.sheet.proofs.Tests.{one-is, one-cons, one-nil, not-of}
 
 zero-step : (s : List ℕ) (i : ℕ) → i < length s → allZero (drop i s) ≡ (eqb (getD s i 0) 0 && allZero (drop (i + 1) s))
@@ -29,6 +33,10 @@ zero-done s i h v = sym (ap allZero (drop-of-length-le s {i = i} h)) ∙ v
 
 any-step : (test : ℕ → Bool) (n r : ℕ) → r < n → anyFrom test r (n - r) ≡ (test r || anyFrom test (r + 1) (n - (r + 1)))
 any-step test n r h = let e : n - r ≡ suc (n - (r + 1)) = omega arith in ap (anyFrom test r) e
+
+-- the kind of a record that lies inside
+pub odd-at : (s : List ℕ) (r : ℕ) {b c : Bool} → 16 * r + 16 ≤ length s → b ≡ isKind (getD s (16 * r) 0) → b ≡ c → not (isKind (headAt s r .kind)) ≡ not c
+odd-at s r h e f = ap (λ (k : Head). not (isKind (k .kind))) (head-inside s r h) ∙ ap not (sym e ∙ f)
 
 -- a record that fails the test, and one that passes it
 pub any-next : (test : ℕ → Bool) (n r : ℕ) (w : Bool) → r < n → test r ≡ false → anyFrom test r (n - r) ≡ w → anyFrom test (r + 1) (n - (r + 1)) ≡ w

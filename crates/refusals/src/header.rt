@@ -1,14 +1,14 @@
 // The header of a sheet and the kinds of its records: refusals 1 and 2.
 ghost use mathlib.Core.Path.{_≡_};
 ghost use mathlib.Core.Bool.{not};
-ghost use Prim.Native.Nat.{ℕ, _-_, _≤_};
+ghost use Prim.Native.Nat.{ℕ, _*_, _-_, _≤_};
+ghost use lib.ListN.{length};
 ghost use Rattle.sheet.specs.Head.{headAt};
 ghost use Rattle.sheet.specs.Kind.{isKind};
 ghost use Rattle.sheet.specs.Refusals.{allZero, anyFrom};
 ghost use Rattle.refusals.specs.Limits.{Measured};
 use crate::Limits;
 use sheet::figure::is_kind;
-use sheet::record::head_at;
 use sheet::record::word_at;
 
 // Whether each byte is zero.
@@ -55,13 +55,12 @@ pub(crate) fn limits(s: &[u8]) -> Limits
 
 // Whether a record has a kind outside 1 to 38.
 pub(crate) fn odd_kind(s: &[u8], n: usize) -> bool
+    requires { ⌜ 16 * n ≤ length (now s) ⌝ }
     ensures { λ b. ⌜ b ≡ anyFrom (λ r. not (isKind (headAt (now (s .entry)) r .kind))) 1 (n - 1) ⌝ }
 {
     let mut r = 1;
     while r < n {
-        let h = head_at(s, r);
-        let k = h.kind;
-        if is_kind(k) {
+        if is_kind(s[16 * r]) {
             r += 1;
         } else {
             return true;

@@ -1,21 +1,17 @@
 use native.Mathlib.Omega.{arith}
 use borrow.Author.Needs.{needs}
-use Prim.Native.Nat.{ℕ, _-_, _+_, _*_, _≤_}
-use mathlib.Core.Path.{_≡_, refl, sym, _∙_, ap, ap₂}
-use mathlib.Core.Bool.{Bool, true, false, not, _&&_}
-use lib.ListN.{length, drop}
-use borrow.Author.Tests.{eq-eqb, ne-eqb}
+use Prim.Native.Nat.{_-_, _≤_}
+use mathlib.Core.Path.{_≡_, refl}
+use mathlib.Core.Bool.{not}
 use Rattle.sheet.specs.Kind.{isKind}
 use Rattle.sheet.specs.Head.{headAt}
-use Rattle.sheet.specs.Refusals.{allZero, anyFrom}
-use Rattle.sheet.specs.declared.Head.{Head}
-use Rattle.refusals.proofs.Scans.{zero-next, zero-not, zero-done, any-next, any-here, any-done, torn-short, torn-none, torn-many, torn-labels, torn-length, torn-rest, not-torn}
+use Rattle.sheet.specs.Refusals.{anyFrom}
+use Rattle.refusals.proofs.Scans.{any-next, any-here, any-done, odd-at}
 use Rattle.refusals.proofs.header.odd_kind.Statement.{statement}
 use Rattle.refusals.proofs.header.odd_kind.Tie as tie
 use Rattle.refusals.proofs.header.odd_kind.Reads as reads
 use Rattle.refusals.proofs.header.odd_kind.Lts as lts
 use Rattle.sheet.proofs.figure.is_kind.Reads as is-kind-reads
-use Rattle.sheet.proofs.record.head_at.Reads as head-at-reads
 
 abbrev Inv-loop : tie.InvT-loop
 Inv-loop s n r₀ r =
@@ -30,17 +26,22 @@ loop-holds : tie.Need-loop-holds Inv-loop μ-loop
 loop-holds c =
     (omega arith, refl)
 
--- src/header.rt:63:13
-head-at-requires : tie.Need-head-at-requires Inv-loop μ-loop
-head-at-requires c κs =
-    search needs
+-- src/header.rt:63:22
+mul-is-kind : tie.Need-mul-is-kind Inv-loop μ-loop
+mul-is-kind c =
+    omega (arith, (c .before .before .before .pre))
 
--- src/header.rt:65:12
+-- src/header.rt:63:20
+shared-slice-read-is-kind : tie.Need-shared-slice-read-is-kind Inv-loop μ-loop
+shared-slice-read-is-kind c =
+    omega (arith, (c .before .before .before .before .pre))
+
+-- src/header.rt:63:12
 is-kind-requires : tie.Need-is-kind-requires Inv-loop μ-loop
 is-kind-requires c κs =
     search needs
 
--- src/header.rt:66:13
+-- src/header.rt:64:13
 add-r : tie.Need-add-r Inv-loop μ-loop
 add-r c =
     omega arith
@@ -53,14 +54,14 @@ loop-less c =
 -- src/header.rt:62:5
 loop-again : tie.Need-loop-again Inv-loop μ-loop
 loop-again c =
-    (omega arith, any-next (λ j. not (isKind (headAt (c .before .before .before .before .before .before .args .s .now) j .kind))) (c .before .before .before .before .before .before .args .n) (c .before .before .before .before .loop .r) _ (c .before .before .before .loop-test .taken) (ap not (ap (λ (h : Head). isKind (h .kind)) (sym (c .before .before .head-at .ensures .0)) ∙ sym (c .before .is-kind .ensures) ∙ (c .if1 .taken))) (c .before .before .before .before .loop .inv .1))
+    (omega arith, any-next (λ j. not (isKind (headAt (c .before .before .before .before .before .before .args .s .now) j .kind))) (c .before .before .before .before .before .before .args .n) (c .before .before .before .before .loop .r) _ (c .before .before .before .loop-test .taken) (odd-at _ _ (omega (arith, (c .before .before .before .before .before .before .pre))) (c .before .is-kind .ensures) (c .if1 .taken)) (c .before .before .before .before .loop .inv .1))
 
--- src/header.rt:68:13
+-- src/header.rt:66:13
 returns : tie.Need-returns Inv-loop μ-loop
 returns c =
-    any-here (λ j. not (isKind (headAt (c .before .before .before .before .before .before .args .s .now) j .kind))) (c .before .before .before .before .before .before .args .n) (c .before .before .before .before .loop .r) _ (c .before .before .before .loop-test .taken) (ap not (ap (λ (h : Head). isKind (h .kind)) (sym (c .before .before .head-at .ensures .0)) ∙ sym (c .before .is-kind .ensures) ∙ (c .if1 .left))) (c .before .before .before .before .loop .inv .1)
+    any-here (λ j. not (isKind (headAt (c .before .before .before .before .before .before .args .s .now) j .kind))) (c .before .before .before .before .before .before .args .n) (c .before .before .before .before .loop .r) _ (c .before .before .before .loop-test .taken) (odd-at _ _ (omega (arith, (c .before .before .before .before .before .before .pre))) (c .before .is-kind .ensures) (c .if1 .left)) (c .before .before .before .before .loop .inv .1)
 
--- src/header.rt:58:1
+-- src/header.rt:57:1
 returns-2 : tie.Need-returns-2 Inv-loop μ-loop
 returns-2 c =
     any-done (λ j. not (isKind (headAt (c .before .before .before .args .s .now) j .kind))) (c .before .before .before .args .n) (c .before .loop .r) _ (c .loop-test .left) (c .before .loop .inv .1)
@@ -72,7 +73,8 @@ odd-kind-spec =
     Inv-loop
     μ-loop
     loop-holds
-    head-at-requires
+    mul-is-kind
+    shared-slice-read-is-kind
     is-kind-requires
     add-r
     loop-less
