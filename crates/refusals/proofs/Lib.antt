@@ -1,3 +1,4 @@
 pub mod Walking
 pub mod Scans
 pub mod Verdicts
+pub mod Bare

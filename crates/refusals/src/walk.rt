@@ -3,16 +3,31 @@ ghost use mathlib.Core.Path.{_≡_};
 ghost use Prim.Native.Nat.{ℕ, _+_, _*_, _<_, _≤_};
 ghost use lib.ListN.{length};
 ghost use mathlib.Core.Bool.{_||_};
-ghost use Rattle.refusals.specs.Walk.{passHead, Ready, Walks};
+ghost use Rattle.refusals.specs.Walk.{bare, passHead, Ready, Walks};
 ghost use Rattle.sheet.specs.Bounds.{Bounded};
 use crate::Progress;
 use crate::Walked;
 use sheet::Head;
+use sheet::figure::is_decimal;
 use sheet::figure::label_bytes;
 use sheet::figure::label_right;
 use sheet::figure::parts_right;
 use sheet::figure::record_right;
 use sheet::record::head_at;
+
+// Whether a record says nothing but its kind and its links, and its kind asks for no more.
+fn is_bare(h: Head) -> bool
+    requires { ⌜ Bounded h ⌝ }
+    ensures { λ r. ⌜ r ≡ bare h ⌝ }
+{
+    let figures = h.flags as usize + h.figure as usize + h.scale as usize + h.quad;
+    let labels = h.name + h.nlen + h.last as usize;
+    if figures + labels == 0 {
+        !is_decimal(h.kind)
+    } else {
+        false
+    }
+}
 
 // Goes past a record that is a part of one of kind up.
 fn pass(h: Head, up: u8, p: Progress) -> Progress
@@ -22,6 +37,14 @@ fn pass(h: Head, up: u8, p: Progress) -> Progress
     let at = p.at;
     let figure = p.figure;
     let label = p.label;
+    if is_bare(h) {
+        return Progress {
+            due: p.due + 1,
+            at,
+            figure,
+            label,
+        };
+    }
     Progress {
         due: p.due + 1,
         at: at + label_bytes(h),
@@ -62,7 +85,8 @@ pub(crate) fn walk(s: &[u8], n: usize, up: u8, link: usize, p: Progress) -> Walk
             }
             return Walked::Lost;
         }
-        match walk(s, n, h.kind, h.first, p) {
+        let outer = p;
+        match walk(s, n, h.kind, h.first, outer) {
             Walked::Came(inner, parts) => {
                 if parts_right(h.kind, parts) {
                     p = inner;

@@ -40,48 +40,48 @@ abbrev walk-calls : ℕ → walk-lts.Claims
 walk-calls t =
     (head-at-reads.Asked, head-at-reads.Learnt, pass-reads.Asked, pass-reads.Learnt, parts-right-reads.Asked, parts-right-reads.Learnt, walk-below t, walk.Post)
 
--- src/walk.rt:47:5
+-- src/walk.rt:65:5
 walk-loop-holds : (t : ℕ) → walk-lts.Need-loop-holds (walk-calls t) (walk-at t) walk.Post walk-Inv-loop walk-μ-loop
 walk-loop-holds t c =
     ((c .before .pre .1), (omega arith, λ o w. w))
 
--- src/walk.rt:50:13
+-- src/walk.rt:68:13
 walk-returns : (t : ℕ) → walk-lts.Need-returns (walk-calls t) (walk-at t) walk.Post walk-Inv-loop walk-μ-loop
 walk-returns t c =
     (c .before .before .loop .inv .1 .1) _ (walk-lost _ _ _ _ _ _ (c .before .loop-test .taken) (c .if1 .taken))
 
--- src/walk.rt:53:13
+-- src/walk.rt:71:13
 walk-returns-2 : (t : ℕ) → walk-lts.Need-returns-2 (walk-calls t) (walk-at t) walk.Post walk-Inv-loop walk-μ-loop
 walk-returns-2 t c =
     (c .before .before .before .loop .inv .1 .1) _ (walk-past _ _ _ _ _ _ (c .before .before .loop-test .taken) (c .if2 .taken))
 
--- src/walk.rt:55:13
+-- src/walk.rt:73:13
 walk-head-at-requires : (t : ℕ) → walk-lts.Need-head-at-requires (walk-calls t) (walk-at t) walk.Post walk-Inv-loop walk-μ-loop
 walk-head-at-requires t c κs =
     search needs
 
--- src/walk.rt:57:9
+-- src/walk.rt:75:9
 walk-add-k : (t : ℕ) → walk-lts.Need-add-k (walk-calls t) (walk-at t) walk.Post walk-Inv-loop walk-μ-loop
 walk-add-k t c =
     omega (arith, (c .before .before .before .before .loop .inv .0 .counted), (c .before .before .before .before .loop .inv .0 .inside), (c .before .before .before .before .loop .inv .0 .few))
 
--- src/walk.rt:58:9
+-- src/walk.rt:76:9
 walk-pass-requires : (t : ℕ) → walk-lts.Need-pass-requires (walk-calls t) (walk-at t) walk.Post walk-Inv-loop walk-μ-loop
 walk-pass-requires t c κs =
     (omega (arith, (c .before .if2 .left), (c .before .before .before .before .loop .inv .0 .few)), ((c .before .before .before .before .loop .inv .0 .short), (c .head-at .ensures .1)))
 
--- src/walk.rt:60:16
+-- src/walk.rt:78:16
 walk-parts-right-requires : (t : ℕ) → walk-lts.Need-parts-right-requires (walk-calls t) (walk-at t) walk.Post walk-Inv-loop walk-μ-loop
 walk-parts-right-requires t c κs =
     search needs
 
--- src/walk.rt:47:5
+-- src/walk.rt:65:5
 walk-loop-less : (t : ℕ) → walk-lts.Need-loop-less (walk-calls t) (walk-at t) walk.Post walk-Inv-loop walk-μ-loop
 walk-loop-less t c =
     let due : (c .before .before .before .before .pass .result .due) ≡ (c .before .before .before .before .before .before .before .before .before .loop .p .due) + 1 = ap (λ (x : Progress). x .due) (c .before .before .before .before .pass .ensures .0) in
     omega (arith, (c .before .before .before .before .before .before .if2 .left))
 
--- src/walk.rt:47:5
+-- src/walk.rt:65:5
 walk-loop-again : (t : ℕ) → walk-lts.Need-loop-again (walk-calls t) (walk-at t) walk.Post walk-Inv-loop walk-μ-loop
 walk-loop-again t c =
     let due : (c .before .before .before .before .pass .result .due) ≡ (c .before .before .before .before .before .before .before .before .before .loop .p .due) + 1 = ap (λ (x : Progress). x .due) (c .before .before .before .before .pass .ensures .0) in (
@@ -92,35 +92,35 @@ walk-loop-again t c =
       ),
     )
 
--- src/walk.rt:63:13
+-- src/walk.rt:81:13
 walk-returns-3 : (t : ℕ) → walk-lts.Need-returns-3 (walk-calls t) (walk-at t) walk.Post walk-Inv-loop walk-μ-loop
 walk-returns-3 t c =
     (c .before .before .before .before .before .before .before .before .before .loop .inv .1 .1) _ (walk-bare-wrong _ _ _ _ _ _ (c .before .before .before .before .before .before .before .if1 .left) (c .before .before .before .before .before .before .if2 .left) _ (c .before .before .before .before .before .head-at .ensures .0) _ (c .before .before .before .before .pass .ensures .0) (c .before .before .before .before .before .before .before .before .before .loop .inv .0) (c .before .before .before .before .pass .ensures .1) (c .before .before .if3 .taken) (sym (c .before .parts-right .ensures) ∙ (c .if4 .left)))
 
--- src/walk.rt:65:15
+-- src/walk.rt:84:15
 walk-walk-requires : (t : ℕ) → walk-lts.Need-walk-requires (walk-calls t) (walk-at t) walk.Post walk-Inv-loop walk-μ-loop
 walk-walk-requires t c κs =
     let due : (c .before .before .pass .result .due) ≡ (c .before .before .before .before .before .before .before .loop .p .due) + 1 = ap (λ (x : Progress). x .due) (c .before .before .pass .ensures .0) in
     (omega (arith, (c .before .before .before .before .before .before .before .before .before .pre .0), (c .before .before .before .before .if2 .left), (c .before .before .before .before .before .before .before .loop .inv .1 .0)), ready-past _ _ _ _ _ _ (c .before .before .before .before .before .if1 .left) (c .before .before .before .before .if2 .left) _ (c .before .before .before .head-at .ensures .0) _ (c .before .before .pass .ensures .0) 0 (omega arith) (c .before .before .before .before .before .before .before .loop .inv .0) (c .before .before .pass .ensures .1))
 
--- src/walk.rt:66:26
+-- src/walk.rt:85:26
 walk-enum-known-inner : (t : ℕ) → walk-lts.Need-enum-known-inner (walk-calls t) (walk-at t) walk.Post walk-Inv-loop walk-μ-loop
 walk-enum-known-inner t c =
     search needs
 
--- src/walk.rt:67:20
+-- src/walk.rt:86:20
 walk-parts-right-requires-2 : (t : ℕ) → walk-lts.Need-parts-right-requires-2 (walk-calls t) (walk-at t) walk.Post walk-Inv-loop walk-μ-loop
 walk-parts-right-requires-2 t c κs =
     search needs
 
--- src/walk.rt:47:5
+-- src/walk.rt:65:5
 walk-loop-less-2 : (t : ℕ) → walk-lts.Need-loop-less-2 (walk-calls t) (walk-at t) walk.Post walk-Inv-loop walk-μ-loop
 walk-loop-less-2 t c =
     let due : (c .before .before .before .before .before .before .before .before .pass .result .due) ≡ (c .before .before .before .before .before .before .before .before .before .before .before .before .before .loop .p .due) + 1 = ap (λ (x : Progress). x .due) (c .before .before .before .before .before .before .before .before .pass .ensures .0) in
     let w = rw (c .before .before .before .inner .given .1) at (c .before .before .before .before .before .walk .ensures) in
     omega (arith, (c .before .before .before .before .before .before .before .before .before .before .if2 .left), w .grows .1)
 
--- src/walk.rt:47:5
+-- src/walk.rt:65:5
 walk-loop-again-2 : (t : ℕ) → walk-lts.Need-loop-again-2 (walk-calls t) (walk-at t) walk.Post walk-Inv-loop walk-μ-loop
 walk-loop-again-2 t c =
     let due : (c .before .before .before .before .before .before .before .before .pass .result .due) ≡ (c .before .before .before .before .before .before .before .before .before .before .before .before .before .loop .p .due) + 1 = ap (λ (x : Progress). x .due) (c .before .before .before .before .before .before .before .before .pass .ensures .0) in
@@ -132,23 +132,23 @@ walk-loop-again-2 t c =
       ),
     )
 
--- src/walk.rt:70:21
+-- src/walk.rt:89:21
 walk-returns-4 : (t : ℕ) → walk-lts.Need-returns-4 (walk-calls t) (walk-at t) walk.Post walk-Inv-loop walk-μ-loop
 walk-returns-4 t c =
     let w = rw (c .before .before .before .inner .given .1) at (c .before .before .before .before .before .walk .ensures) in
     (c .before .before .before .before .before .before .before .before .before .before .before .before .before .loop .inv .1 .1) _ (walk-parts-wrong _ _ _ _ _ _ (c .before .before .before .before .before .before .before .before .before .before .before .if1 .left) (c .before .before .before .before .before .before .before .before .before .before .if2 .left) _ (c .before .before .before .before .before .before .before .before .before .head-at .ensures .0) _ (c .before .before .before .before .before .before .before .before .pass .ensures .0) _ _ w (sym (c .before .parts-right2 .ensures) ∙ (c .if5 .left)))
 
--- src/walk.rt:73:29
+-- src/walk.rt:92:29
 walk-enum-told : (t : ℕ) → walk-lts.Need-enum-told (walk-calls t) (walk-at t) walk.Post walk-Inv-loop walk-μ-loop
 walk-enum-told t c =
     search needs
 
--- src/walk.rt:73:29
+-- src/walk.rt:92:29
 walk-returns-5 : (t : ℕ) → walk-lts.Need-returns-5 (walk-calls t) (walk-at t) walk.Post walk-Inv-loop walk-μ-loop
 walk-returns-5 t c =
     (c .before .before .before .before .before .before .before .before .before .before .loop .inv .1 .1) _ (walk-parts-lost _ _ _ _ _ _ (c .before .before .before .before .before .before .before .before .if1 .left) (c .before .before .before .before .before .before .before .if2 .left) _ (c .before .before .before .before .before .before .head-at .ensures .0) _ (c .before .before .before .before .before .pass .ensures .0) (rw (c .enum-told .given .1) at (c .before .before .walk .ensures)))
 
--- src/walk.rt:40:1
+-- src/walk.rt:58:1
 walk-returns-6 : (t : ℕ) → walk-lts.Need-returns-6 (walk-calls t) (walk-at t) walk.Post walk-Inv-loop walk-μ-loop
 walk-returns-6 t c =
     (c .before .loop .inv .1 .1) _ (walk-none _ _ _ _ _ _ (c .before .loop .inv .0) (c .loop-test .left))
