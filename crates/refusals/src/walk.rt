@@ -13,7 +13,7 @@ use sheet::figure::label_bytes;
 use sheet::figure::label_right;
 use sheet::figure::parts_right;
 use sheet::figure::record_right;
-use sheet::record::head_at;
+use sheet::record::head_from;
 
 // Whether a record says nothing but its kind and its links, and its kind asks for no more.
 fn is_bare(h: Head) -> bool
@@ -61,7 +61,7 @@ fn either(a: bool, b: bool) -> bool
 
 // Walks the chain that a link leads to, in a record of kind up, and counts its records. Parts are walked by a call, the chain by the loop.
 pub(crate) fn walk(s: &[u8], n: usize, up: u8, link: usize, p: Progress) -> Walked
-    requires { ⌜ Ready n p 0 ⌝ }
+    requires { ⌜ (16 * n ≤ length (now s)) × Ready n p 0 ⌝ }
     ensures { λ o. ⌜ Walks (now (s .entry)) n up link p 0 o ⌝ }
 {
     let mut link = link;
@@ -75,7 +75,7 @@ pub(crate) fn walk(s: &[u8], n: usize, up: u8, link: usize, p: Progress) -> Walk
         if n <= due {
             return Walked::Lost;
         }
-        let h = head_at(s, due);
+        let h = head_from(s, 16 * due);
         link = h.next;
         k += 1;
         p = pass(h, up, p);

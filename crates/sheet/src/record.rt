@@ -29,7 +29,7 @@ fn quad_at(s: &[u8], i: usize) -> usize
 }
 
 // The head that the sixteen bytes from i on hold.
-fn head_from(s: &[u8], i: usize) -> Head
+pub fn head_from(s: &[u8], i: usize) -> Head
     requires { ⌜ i + 16 ≤ length (now s) ⌝ }
     ensures { λ r. ⌜ (r ≡ headFrom (now (s .entry)) i) × Bounded r ⌝ }
 {
