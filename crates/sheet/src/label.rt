@@ -1,6 +1,6 @@
 // Labels: parts of a sheet, and whether two are the same bytes.
 ghost use mathlib.Core.Path.{_≡_};
-ghost use Prim.Native.Nat.{_+_, _*_, _<_, _≤_};
+ghost use Prim.Native.Nat.{_+_, _*_, _-_, _<_, _≤_};
 ghost use lib.ListN.{length, take, drop};
 ghost use Rattle.sheet.specs.Read.{labelAt};
 ghost use Rattle.sheet.specs.Names.{sameBytes};
@@ -56,8 +56,15 @@ pub fn fill(s: &[u8], a: usize, m: usize, buf: &mut [u8]) -> usize
     }
 }
 
-// Whether the m bytes of s from a on are the n bytes of t from b on. Each is held in an array of its own before they are compared.
-pub fn same_label(s: &[u8], a: usize, m: usize, t: &[u8], b: usize, n: usize) -> bool
+// How many of m bytes from a on there are in a slice of l bytes.
+fn reach(l: usize, a: usize, m: usize) -> usize
+    ensures { λ r. ⌜ r ≡ Prim.Native.Nat.min m (l - a) ⌝ }
+{
+    if l <= a { 0 } else { least(m, l - a) }
+}
+
+// The comparison of same_label. Each label is held in an array of its own before they are compared.
+fn same_held(s: &[u8], a: usize, m: usize, t: &[u8], b: usize, n: usize) -> bool
     requires { ⌜ (m ≤ 255) × (n ≤ 255) ⌝ }
     ensures { λ r. ⌜ r ≡ sameBytes (take m (drop a (now (s .entry)))) (take n (drop b (now (t .entry)))) ⌝ }
 {
@@ -66,6 +73,25 @@ pub fn same_label(s: &[u8], a: usize, m: usize, t: &[u8], b: usize, n: usize) ->
     let i = fill(s, a, m, &mut x);
     let j = fill(t, b, n, &mut y);
     same(&x[..i], &y[..j])
+}
+
+// Whether the m bytes of s from a on are the n bytes of t from b on. Most labels differ in length or in the last byte, and are told apart by that.
+pub fn same_label(s: &[u8], a: usize, m: usize, t: &[u8], b: usize, n: usize) -> bool
+    requires { ⌜ (m ≤ 255) × (n ≤ 255) ⌝ }
+    ensures { λ r. ⌜ r ≡ sameBytes (take m (drop a (now (s .entry)))) (take n (drop b (now (t .entry)))) ⌝ }
+{
+    let i = reach(s.len(), a, m);
+    if i != reach(t.len(), b, n) {
+        return false;
+    }
+    if i == 0 {
+        return true;
+    }
+    let k = i - 1;
+    if s[a + k] != t[b + k] {
+        return false;
+    }
+    same_held(s, a, m, t, b, n)
 }
 
 // Whether the name of record head h of a sheet of n records is that of head g of one of m.

@@ -1,78 +1,78 @@
-use mathlib.Core.Path.{_≡_, refl, sym, _∙_, ap, ap₂}
-use mathlib.Core.Bool.{Bool, true, false, _&&_}
-use mathlib.Core.List.{List, [], _∷_, _++_}
-use Prim.Native.Nat.{ℕ, zero, suc, _+_, _*_, _-_, _/_, _<_, _≤_, min}
+use Prim.Native.Nat.{_-_}
 use native.Mathlib.Omega.{arith}
-use borrow.Author.Needs.{needs}
-use lib.ListN.{length, getD, take, drop, length-drop, length-take}
-use lib.Seq.{length-take-le, take-all, take-length}
-use borrow.Author.Tests.{eq-eqb, ne-eqb, le-leb, lt-leb, lt-ltb, le-ltb}
-use Rattle.sheet.specs.Head.{headAt, headFrom}
-use Rattle.sheet.specs.Names.{sameBytes}
-use Rattle.sheet.proofs.Bytewise.{same-lengths, same-next, same-differ, same-done, cut-part, fill-none, fill-all}
-use Rattle.sheet.proofs.Heads.{head-inside}
+use Rattle.sheet.proofs.Bytewise.{parts-lengths, parts-empty, parts-apart}
 use borrow.Author.Needs.{needs}
 use Rattle.sheet.proofs.label.same_label.Statement.{statement}
 use Rattle.sheet.proofs.label.same_label.Tie as tie
 use Rattle.sheet.proofs.label.same_label.Reads as reads
 use Rattle.sheet.proofs.label.same_label.Lts as lts
-use Rattle.sheet.proofs.label.fill.Reads as fill-reads
-use Rattle.sheet.proofs.label.same.Reads as same-reads
+use Rattle.sheet.proofs.label.reach.Reads as reach-reads
+use Rattle.sheet.proofs.label.same_held.Reads as same-held-reads
 
--- src/label.rt:65:27
-slice-aggregate-fill : tie.Need-slice-aggregate-fill
-slice-aggregate-fill c = search needs
+-- src/label.rt:83:9
+reach-requires : tie.Need-reach-requires
+reach-requires c κs = search needs
 
--- src/label.rt:65:9
-fill-requires : tie.Need-fill-requires
-fill-requires c κs = search needs
+-- src/label.rt:84:13
+reach-requires-2 : tie.Need-reach-requires-2
+reach-requires-2 c κs = search needs
 
--- src/label.rt:66:27
-slice-aggregate-fill-2 : tie.Need-slice-aggregate-fill-2
-slice-aggregate-fill-2 c = search needs
-
--- src/label.rt:66:9
-fill-requires-2 : tie.Need-fill-requires-2
-fill-requires-2 c κs = search needs
-
--- src/label.rt:67:10
-array-share-prefix-x : tie.Need-array-share-prefix-x
-array-share-prefix-x c = search needs
-
--- src/label.rt:67:10
-slice-aggregate-same : tie.Need-slice-aggregate-same
-slice-aggregate-same c =
-    sym (length-take-le _ _ ((c .before .before .before .before .before .fill .ensures .inside)))
-
--- src/label.rt:67:19
-array-share-prefix-y : tie.Need-array-share-prefix-y
-array-share-prefix-y c = search needs
-
--- src/label.rt:67:19
-slice-aggregate-same-2 : tie.Need-slice-aggregate-same-2
-slice-aggregate-same-2 c =
-    sym (length-take-le _ _ ((c .before .before .before .fill2 .ensures .inside)))
-
--- src/label.rt:67:5
-same-requires : tie.Need-same-requires
-same-requires c κs = search needs
-
--- src/label.rt:59:1
+-- src/label.rt:85:9
 returns : tie.Need-returns
 returns c =
-    (c .same .ensures) ∙ ap₂ sameBytes (c .before .before .before .before .before .before .before .fill .ensures .front) (c .before .before .before .before .fill2 .ensures .front)
+    parts-lengths (c .before .before .before .before .before .args .s .now) (c .before .before .before .before .before .args .t .now) (c .before .before .before .before .before .args .a) (c .before .before .before .before .before .args .m) (c .before .before .before .before .before .args .b) (c .before .before .before .before .before .args .n) (λ e. (c .if1 .taken) (omega arith))
+
+-- src/label.rt:88:9
+returns-2 : tie.Need-returns-2
+returns-2 c =
+    parts-empty (c .before .before .before .before .before .before .args .s .now) (c .before .before .before .before .before .before .args .t .now) (c .before .before .before .before .before .before .args .a) (c .before .before .before .before .before .before .args .m) (c .before .before .before .before .before .before .args .b) (c .before .before .before .before .before .before .args .n) (omega arith) (omega arith)
+
+-- src/label.rt:90:13
+sub-k : tie.Need-sub-k
+sub-k c = search needs
+
+-- src/label.rt:91:10
+add-if3 : tie.Need-add-if3
+add-if3 c = search needs
+
+-- src/label.rt:91:8
+shared-slice-read-if3 : tie.Need-shared-slice-read-if3
+shared-slice-read-if3 c = search needs
+
+-- src/label.rt:91:22
+add-if3-2 : tie.Need-add-if3-2
+add-if3-2 c = search needs
+
+-- src/label.rt:91:20
+shared-slice-read-if3-2 : tie.Need-shared-slice-read-if3-2
+shared-slice-read-if3-2 c = search needs
+
+-- src/label.rt:92:9
+returns-3 : tie.Need-returns-3
+returns-3 c =
+    parts-apart (c .before .before .before .before .before .before .before .before .before .args .s .now) (c .before .before .before .before .before .before .before .before .before .args .t .now) (c .before .before .before .before .before .before .before .before .before .args .a) (c .before .before .before .before .before .before .before .before .before .args .m) (c .before .before .before .before .before .before .before .before .before .args .b) (c .before .before .before .before .before .before .before .before .before .args .n) ((c .before .before .before .before .before .before .reach .result) - 1) (omega arith) (omega arith) (c .if3 .taken)
+
+-- src/label.rt:94:5
+same-held-requires : tie.Need-same-held-requires
+same-held-requires c κs = search needs
+
+-- src/label.rt:79:1
+returns-4 : tie.Need-returns-4
+returns-4 c = search needs
 
 pub same-label-spec : {M : Type 1} → statement M
 same-label-spec =
     tie.close
     (tie.spec
-    slice-aggregate-fill
-    fill-requires
-    slice-aggregate-fill-2
-    fill-requires-2
-    array-share-prefix-x
-    slice-aggregate-same
-    array-share-prefix-y
-    slice-aggregate-same-2
-    same-requires
-    returns)
+    reach-requires
+    reach-requires-2
+    returns
+    returns-2
+    sub-k
+    add-if3
+    shared-slice-read-if3
+    add-if3-2
+    shared-slice-read-if3-2
+    returns-3
+    same-held-requires
+    returns-4)
