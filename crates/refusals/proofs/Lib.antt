@@ -2,3 +2,4 @@ pub mod Walking
 pub mod Scans
 pub mod Verdicts
 pub mod Bare
+pub mod Rows

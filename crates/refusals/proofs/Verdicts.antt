@@ -10,18 +10,16 @@ use borrow.Author.Tests.{eq-eqb, ne-eqb, eqb-true, eqb-false}
 use Rattle.sheet.specs.Kind.{isKind}
 use Rattle.sheet.specs.Types.{Fields, end, field, count}
 use Rattle.sheet.specs.Head.{headAt, labelled}
-use Rattle.sheet.specs.Encode.{linkTo}
 use Rattle.sheet.specs.Read.{recordsOf, labelsOf, start, read, walkFrom}
 use Rattle.sheet.specs.Names.{namesDiffer}
 use Rattle.sheet.specs.Refusals.{Met, met, walk, torn, anyFrom, badKind, linked, badChain, recordRight, anyWrong, badFigure, labelRight, misplaced, badLabel, refusal, Verdict, verdict}
-use Rattle.sheet.specs.Holds.{Plain, Holds, Leads}
+use Rattle.sheet.specs.Holds.{Plain, Holds}
 use Rattle.refusals.specs.Walk.{passHead, passAll, Says, Walks}
 use Rattle.refusals.specs.Limits.{Fits}
 use Rattle.refusals.specs.Found.{outset, Found}
 use Rattle.refusals.specs.declared.Progress.{Progress}
 use Rattle.refusals.specs.declared.Walked.{Walked}
 use Rattle.refusals.specs.declared.Walked.the-variants.{Came, Lost}
-use Rattle.sheet.proofs.Reading.{start-leads}
 use Rattle.sheet.proofs.Tests.{all-not, all-cons, all-nil, one-is, one-cons, one-nil, not-of}
 use Rattle.refusals.proofs.Walking.{pass-due, met-length}
 use Rattle.sheet.proofs.Accepted.{Sound, sound-holds}
@@ -151,25 +149,19 @@ module _ (s : List ℕ) (n m link : ℕ) (p : Progress) (found : Found s n m lin
               sym places-are ∙ ap (λ (b : Bool). b || not (eqb (p .at) (labelsOf s))) label
               ∙ ap not (eq-eqb (p .at) (labelsOf s) (at ∙ found .fits .labels))
 
-          leads : Leads s n 0 link 1 0 (read s)
-          leads =
-              record {
-                holds =
-                    subst (λ (k : ℕ). Holds s k 1 0 (read s)) (sym (found .fits .records))
-                    (sound-holds s plain (record { whole = found .fits .whole; kinds = found .kinds; chain = chain-right; figures = figures-right; places = placed }));
-                is = found .root ∙ start-leads n (read s) (omega (arith, due-is));
-                above = omega arith;
-                inside = omega (arith, due-is);
-              }
+          holds : Holds s n 1 0 (read s)
+          holds =
+              subst (λ (k : ℕ). Holds s k 1 0 (read s)) (sym (found .fits .records))
+              (sound-holds s plain (record { whole = found .fits .whole; kinds = found .kinds; chain = chain-right; figures = figures-right; places = placed }))
 
-          module _ {b : Bool} (names : (r o : ℕ) (t : Fields) → Leads s n 0 link r o t → b ≡ not (namesDiffer t)) where
+          module _ {b : Bool} (names : (o : ℕ) (t : Fields) → Holds s n 1 o t → 1 + count t ≡ n → b ≡ not (namesDiffer t)) where
             pub found-twins : b ≡ true → record { number = 5; n = 0; m = 0 } ≡ verdict s
             unfolding badLabel
             found-twins h =
-                says-label s (found .fits .whole) (found .kinds) chain-right figures-right (one-is _ 1 (sym (names 1 0 (read s) leads) ∙ h))
+                says-label s (found .fits .whole) (found .kinds) chain-right figures-right (one-is _ 1 (sym (names 0 (read s) holds (omega (arith, due-is))) ∙ h))
 
             pub found-sheet : b ≡ false → record { number = 0; n = n; m = m } ≡ verdict s
             unfolding badLabel
             found-sheet h =
                 says-accepted s (found .fits .whole) (found .kinds) chain-right figures-right
-                (one-cons _ placed (one-cons _ (sym (names 1 0 (read s) leads) ∙ h) one-nil)) n m (found .fits .records) (found .fits .labels)
+                (one-cons _ placed (one-cons _ (sym (names 0 (read s) holds (omega (arith, due-is))) ∙ h) one-nil)) n m (found .fits .records) (found .fits .labels)

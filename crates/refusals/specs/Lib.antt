@@ -1,3 +1,4 @@
 pub mod Limits
 pub mod Found
 pub mod Walk
+pub mod Twins

@@ -91,7 +91,7 @@ fn check_found(s: &[u8], n: usize, m: usize, link: usize, p: Progress) -> Checke
     if p.at != m {
         return Checked::Refused(Refusal::Label);
     }
-    if twins(s, n, 0, link) {
+    if twins(s, n) {
         return Checked::Refused(Refusal::Label);
     }
     Checked::Accepted(n, m)

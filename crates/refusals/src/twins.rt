@@ -1,13 +1,14 @@
 // Whether two names in one Struct are equal. A link is followed only to a record past floor, so that each search ends.
 ghost use mathlib.Core.Path.{_≡_};
-ghost use mathlib.Core.Bool.{not, _&&_};
-ghost use Prim.Native.Nat.{ℕ, _<_, _≤_};
-ghost use lib.Dec.{eqb};
-ghost use Rattle.sheet.specs.Types.{Fields};
+ghost use mathlib.Core.Bool.{not};
+ghost use Prim.Native.Nat.{ℕ, _+_, _*_, _<_, _≤_};
+ghost use lib.ListN.{length};
+ghost use Rattle.sheet.specs.Types.{Fields, count};
 ghost use Rattle.sheet.specs.Read.{labelAt};
 ghost use Rattle.sheet.specs.Names.{hasName, repeats, namesDiffer};
-ghost use Rattle.sheet.specs.Holds.{Leads};
+ghost use Rattle.sheet.specs.Holds.{Holds, Leads};
 ghost use Rattle.sheet.specs.Bounds.{Bounded};
+ghost use Rattle.refusals.specs.Twins.{Finds};
 use sheet::Head;
 use sheet::label::same_name;
 use sheet::record::head_at;
@@ -49,37 +50,32 @@ fn repeated(s: &[u8], n: usize, floor: usize, link: usize) -> bool
     repeated(s, n, link, next)
 }
 
-// The same of the parts of a record of kind k, where that is a Struct.
-fn struct_repeats(s: &[u8], n: usize, k: u8, floor: usize, link: usize) -> bool
-    requires { ⌜ n < 65536 ⌝ }
-    ensures { λ b. ⌜ ((r o : ℕ) (t : Fields) → Leads (now (s .entry)) n floor link r o t → b ≡ (eqb k 35 && repeats t)) ⌝ }
+// Whether record r is a Struct with two parts of one name.
+fn struct_repeats(s: &[u8], n: usize, r: usize) -> bool
+    requires { ⌜ (n < 65536) × ((r < n) × (16 * n ≤ length (now s))) ⌝ }
+    ensures { λ b. ⌜ Finds (now (s .entry)) n r b ⌝ }
 {
+    let k = s[16 * r];
     if k == 35 {
-        repeated(s, n, floor, link)
+        let h = head_at(s, r);
+        let first = h.first;
+        repeated(s, n, r, first)
     } else {
         false
     }
 }
 
-// Whether a Struct in the chain that a link leads to, at any depth, has two parts of one name.
-pub(crate) fn twins(s: &[u8], n: usize, floor: usize, link: usize) -> bool
-    requires { ⌜ n < 65536 ⌝ }
-    ensures { λ b. ⌜ ((r o : ℕ) (t : Fields) → Leads (now (s .entry)) n floor link r o t → b ≡ not (namesDiffer t)) ⌝ }
+// Whether a Struct at any depth has two parts of one name, where the chain from record 1 has all records of the sheet: each stands in the row from 1 to n - 1.
+pub(crate) fn twins(s: &[u8], n: usize) -> bool
+    requires { ⌜ (n < 65536) × (16 * n ≤ length (now s)) ⌝ }
+    ensures { λ b. ⌜ ((o : ℕ) (t : Fields) → Holds (now (s .entry)) n 1 o t → 1 + count t ≡ n → b ≡ not (namesDiffer t)) ⌝ }
 {
-    if link <= floor {
-        return false;
+    let mut r = 1;
+    while r < n {
+        if struct_repeats(s, n, r) {
+            return true;
+        }
+        r += 1;
     }
-    if n <= link {
-        return false;
-    }
-    let h = head_at(s, link);
-    let first = h.first;
-    let next = h.next;
-    if struct_repeats(s, n, h.kind, link, first) {
-        return true;
-    }
-    if twins(s, n, link, first) {
-        return true;
-    }
-    twins(s, n, link, next)
+    false
 }
