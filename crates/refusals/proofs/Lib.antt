@@ -3,3 +3,4 @@ pub mod Scans
 pub mod Verdicts
 pub mod Bare
 pub mod Rows
+pub mod Naming

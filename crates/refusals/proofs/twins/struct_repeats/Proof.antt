@@ -27,12 +27,12 @@ repeated-requires c κs = search needs
 -- src/twins.rt:54:1
 returns : tie.Need-returns
 returns c =
-    found-struct _ _ _ ((c .before .before .before .before .before .pre .1 .0)) ((c .before .before .before .before .before .pre .1 .1)) (c .before .before .if1 .taken) _ (c .before .head-at .ensures .0) _ (c .repeated .ensures)
+    found-struct (c .before .before .before .before .before .args .s .now) (c .before .before .before .before .before .args .n) (c .before .before .before .before .before .args .r) ((c .before .before .before .before .before .pre .1 .0)) ((c .before .before .before .before .before .pre .1 .1)) (c .before .before .if1 .taken) _ (c .before .head-at .ensures .0) _ (c .repeated .ensures)
 
 -- src/twins.rt:54:1
 returns-2 : tie.Need-returns-2
 returns-2 c =
-    found-plain _ _ _ ((c .before .before .before .pre .1 .0)) ((c .before .before .before .pre .1 .1)) (c .if1 .left)
+    found-plain (c .before .before .before .args .s .now) (c .before .before .before .args .n) (c .before .before .before .args .r) ((c .before .before .before .pre .1 .0)) ((c .before .before .before .pre .1 .1)) (c .if1 .left)
 
 pub struct-repeats-spec : {M : Type 1} → statement M
 struct-repeats-spec =
