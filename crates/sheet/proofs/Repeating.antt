@@ -1,17 +1,14 @@
--- The returns of the search for equal names. Assumes nothing.
+-- A link and the chain that it leads to: the end of it, and its first record. Assumes nothing.
 use mathlib.Core.Path.{_≡_, refl, ap, ap₂, sym, subst, _∙_}
 use mathlib.Core.Bool.{Bool, true, false, not, _||_, _&&_}
 use mathlib.Core.List.{List, [], _∷_, _++_}
 use Prim.Native.Nat.{ℕ, zero, suc, _+_, _*_, _<_, _≤_}
 use native.Mathlib.Omega.{arith}
 use lib.ListN.{length}
-use lib.Dec.{eqb}
-use Rattle.sheet.specs.Tests.{allOf}
 use Rattle.sheet.specs.Types.{Shape, Fields, end, field, count, zoneBytes, ownLabels, labels}
 use Rattle.sheet.specs.Head.{headAt}
 use Rattle.sheet.specs.Encode.{linkTo, headOf}
 use Rattle.sheet.specs.Read.{labelAt}
-use Rattle.sheet.specs.Names.{sameBytes, hasName, repeats, namesDiffer}
 use Rattle.sheet.specs.Holds.{Span, Stands, Holds, Leads}
 use Rattle.sheet.specs.declared.Head.{Head}
 use Rattle.sheet.proofs.Spans.{span-left}
@@ -61,77 +58,3 @@ module _ (s : List ℕ) (n floor link r o : ℕ) (name : List ℕ) (nullable : B
         above = omega (arith, l .is);
         inside = omega (arith, l .inside);
       }
-
--- what each search says at a record
-module _ (s : List ℕ) (n floor link : ℕ) (past : floor < link) (h : Head) (e : h ≡ headAt s link) where
-  pub named-here : (want : List ℕ) → true ≡ sameBytes want (labelAt s n (h .name) (h .nlen))
-      → (r o : ℕ) (t : Fields) → Leads s n floor link r o t → true ≡ hasName want t
-  unfolding hasName
-  named-here want b r o end l = absurd (omega (arith, l .is))
-  named-here want b r o (field name nullable shape parts rest) l =
-      rw (sym (b ∙ ap (sameBytes want) (name-is s n floor link r o name nullable shape parts rest l h e)))
-
-  pub named-on : (want : List ℕ) (b : Bool) → false ≡ sameBytes want (labelAt s n (h .name) (h .nlen))
-      → ((r o : ℕ) (t : Fields) → Leads s n link (h .next) r o t → b ≡ hasName want t)
-      → (r o : ℕ) (t : Fields) → Leads s n floor link r o t → b ≡ hasName want t
-  unfolding hasName
-  named-on want b c f r o end l = absurd (omega (arith, l .is))
-  named-on want b c f r o (field name nullable shape parts rest) l =
-      rw (sym (c ∙ ap (sameBytes want) (name-is s n floor link r o name nullable shape parts rest l h e)))
-      (f _ _ rest (next-leads s n floor link r o name nullable shape parts rest l h e))
-
-  pub repeated-here : ((r o : ℕ) (t : Fields) → Leads s n link (h .next) r o t → true ≡ hasName (labelAt s n (h .name) (h .nlen)) t)
-      → (r o : ℕ) (t : Fields) → Leads s n floor link r o t → true ≡ repeats t
-  unfolding repeats
-  repeated-here f r o end l = absurd (omega (arith, l .is))
-  repeated-here f r o (field name nullable shape parts rest) l =
-      let g = f _ _ rest (next-leads s n floor link r o name nullable shape parts rest l h e) in
-      rw (sym (g ∙ ap (λ (x : List ℕ). hasName x rest) (name-is s n floor link r o name nullable shape parts rest l h e)))
-
-  pub repeated-on : (b : Bool) → ((r o : ℕ) (t : Fields) → Leads s n link (h .next) r o t → false ≡ hasName (labelAt s n (h .name) (h .nlen)) t)
-      → ((r o : ℕ) (t : Fields) → Leads s n link (h .next) r o t → b ≡ repeats t)
-      → (r o : ℕ) (t : Fields) → Leads s n floor link r o t → b ≡ repeats t
-  unfolding repeats
-  repeated-on b f k r o end l = absurd (omega (arith, l .is))
-  repeated-on b f k r o (field name nullable shape parts rest) l =
-      let g = f _ _ rest (next-leads s n floor link r o name nullable shape parts rest l h e) in
-      rw (sym (g ∙ ap (λ (x : List ℕ). hasName x rest) (name-is s n floor link r o name nullable shape parts rest l h e)))
-      (k _ _ rest (next-leads s n floor link r o name nullable shape parts rest l h e))
-
-  -- the tests of a record in `namesDiffer`: a its own, b its parts', d those of the rest
-  differ : (a b d : Bool) → Bool
-  differ a b d = allOf (not a ∷ b ∷ d ∷ [])
-
-  pub twins-here : ((r o : ℕ) (t : Fields) → Leads s n link (h .first) r o t → true ≡ (eqb (h .kind) 35 && repeats t))
-      → (r o : ℕ) (t : Fields) → Leads s n floor link r o t → true ≡ not (namesDiffer t)
-  unfolding namesDiffer allOf
-  twins-here f r o end l = absurd (omega (arith, l .is))
-  twins-here f r o (field name nullable shape parts rest) l =
-      let g = f _ _ parts (first-leads s n floor link r o name nullable shape parts rest l h e) in
-      rw (sym (g ∙ ap (λ (x : ℕ). eqb x 35 && repeats parts) (kind-is s n floor link r o name nullable shape parts rest l h e)))
-
-  module _ (own : (r o : ℕ) (t : Fields) → Leads s n link (h .first) r o t → false ≡ (eqb (h .kind) 35 && repeats t)) where
-    own-is : (r o : ℕ) (name : List ℕ) (nullable : Bool) (shape : Shape) (parts rest : Fields) → Leads s n floor link r o (field name nullable shape parts rest)
-        → (eqb (shape .kind) 35 && repeats parts) ≡ false
-    own-is r o name nullable shape parts rest l =
-        sym (own _ _ parts (first-leads s n floor link r o name nullable shape parts rest l h e)
-        ∙ ap (λ (x : ℕ). eqb x 35 && repeats parts) (kind-is s n floor link r o name nullable shape parts rest l h e))
-
-    pub twins-deeper : ((r o : ℕ) (t : Fields) → Leads s n link (h .first) r o t → true ≡ not (namesDiffer t))
-        → (r o : ℕ) (t : Fields) → Leads s n floor link r o t → true ≡ not (namesDiffer t)
-    unfolding namesDiffer allOf
-    twins-deeper f r o end l = absurd (omega (arith, l .is))
-    twins-deeper f r o (field name nullable shape parts rest) l =
-        rw (own-is r o name nullable shape parts rest l)
-        (rw (borrow.Author.Tests.not-true (namesDiffer parts) (sym (f _ _ parts (first-leads s n floor link r o name nullable shape parts rest l h e)))) refl)
-
-    pub twins-on : (b : Bool) → ((r o : ℕ) (t : Fields) → Leads s n link (h .first) r o t → false ≡ not (namesDiffer t))
-        → ((r o : ℕ) (t : Fields) → Leads s n link (h .next) r o t → b ≡ not (namesDiffer t))
-        → (r o : ℕ) (t : Fields) → Leads s n floor link r o t → b ≡ not (namesDiffer t)
-    unfolding namesDiffer allOf
-    twins-on b f g r o end l = absurd (omega (arith, l .is))
-    twins-on b f g r o (field name nullable shape parts rest) l =
-        rw (own-is r o name nullable shape parts rest l)
-        (rw (borrow.Author.Tests.not-false (namesDiffer parts) (sym (f _ _ parts (first-leads s n floor link r o name nullable shape parts rest l h e))))
-        (g _ _ rest (next-leads s n floor link r o name nullable shape parts rest l h e)
-        ∙ ap not (sym (Rattle.sheet.proofs.Tests.and-true (namesDiffer rest)))))
