@@ -1,4 +1,4 @@
-// Whether two names in one Struct are equal. A link is followed only to a record past floor, so that each search ends.
+// Whether two names in one Struct are equal. A link is followed only to a record past floor, so that each way along a chain ends.
 ghost use mathlib.Core.Path.{_≡_};
 ghost use mathlib.Core.Bool.{not, _&&_};
 ghost use Prim.Native.Nat.{ℕ, _+_, _*_, _<_, _≤_};
@@ -33,7 +33,7 @@ fn named(s: &[u8], n: usize, h: Head, link: usize, k: usize) -> bool
     false
 }
 
-// The same where the name's key is marked; one whose key is not is none of them.
+// The same, asked only where the key of the name is marked.
 fn named_again(s: &[u8], n: usize, h: Head, mark: u8, link: usize, k: usize) -> bool
     requires { ⌜ (n < 65536) × Bounded h ⌝ }
     ensures { λ b. ⌜ b ≡ (eqb mark 1 && among (labelAt (now (s .entry)) n (h .name) (h .nlen)) (firstNames (now (s .entry)) n link k)) ⌝ }
