@@ -1,3 +1,4 @@
+pub mod Joins
 pub mod Walking
 pub mod Scans
 pub mod Verdicts

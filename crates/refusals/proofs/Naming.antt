@@ -16,8 +16,9 @@ use Rattle.sheet.specs.Names.{sameBytes, hasName, repeats}
 use Rattle.sheet.specs.Holds.{Leads}
 use Rattle.sheet.specs.declared.Head.{Head}
 use Rattle.refusals.specs.Twins.{firstNames, among, mixed, keyOf}
-use Rattle.sheet.proofs.Tests.{never, and-snd}
+use Rattle.sheet.proofs.Tests.{and-snd}
 use Rattle.sheet.proofs.Bytewise.{same-self, same-equal}
+use Rattle.refusals.proofs.Joins.{or-assoc, or-end, or-swap}
 use Rattle.sheet.proofs.Repeating.{low-end, high-end, name-is, next-leads}
 
 -- whether a name of a chain is one of those that were met before it
@@ -30,12 +31,6 @@ abbrev crosses : List (List ℕ) → Fields → Bool
 crosses met end = false
 crosses met (field name nullable shape parts rest) = among name met || crosses met rest
 
-or-swap : (a b c d : Bool) → (a || b) || (c || d) ≡ (a || c) || (b || d)
-or-swap true b c d = refl
-or-swap false true true d = refl
-or-swap false true false d = refl
-or-swap false false c d = refl
-
 same-sym : (xs ys : List ℕ) → sameBytes xs ys ≡ sameBytes ys xs
 same-sym xs ys = go (sameBytes xs ys) (sameBytes ys xs) refl refl
   where
@@ -46,16 +41,9 @@ same-sym xs ys = go (sameBytes xs ys) (sameBytes ys xs) refl refl
 
 among-last : (name last : List ℕ) (met : List (List ℕ)) → among name (met ++ (last ∷ [])) ≡ (among name met || sameBytes name last)
 unfolding among
-among-last name last [] = or-end (sameBytes name last)
-  where
-    or-end : (b : Bool) → (b || false) ≡ b
-    or-end true = refl
-    or-end false = refl
-among-last name last (x ∷ met) = ap (λ (b : Bool). sameBytes name x || b) (among-last name last met) ∙ or-assoc (sameBytes name x) _ _
-  where
-    or-assoc : (a b c : Bool) → a || (b || c) ≡ (a || b) || c
-    or-assoc true b c = refl
-    or-assoc false b c = refl
+among-last name last [] = sym (or-end (sameBytes name last))
+among-last name last (x ∷ met) =
+    ap (λ (b : Bool). sameBytes name x || b) (among-last name last met) ∙ sym (or-assoc (sameBytes name x) (among name met) (sameBytes name last))
 
 crosses-last : (last : List ℕ) (met : List (List ℕ)) (t : Fields) → crosses (met ++ (last ∷ [])) t ≡ (crosses met t || hasName last t)
 unfolding hasName
@@ -69,13 +57,9 @@ unfolding again repeats
 again-is met end = refl
 again-is met (field name nullable shape parts rest) =
     ap (λ (b : Bool). among name met || b)
-    (again-is (met ++ (name ∷ [])) rest ∙ ap (λ (b : Bool). b || repeats rest) (crosses-last name met rest))
-    ∙ regroup (among name met) (crosses met rest) (hasName name rest) (repeats rest)
-  where
-    regroup : (a b c d : Bool) → a || ((b || c) || d) ≡ (a || b) || (c || d)
-    regroup true b c d = refl
-    regroup false true c d = refl
-    regroup false false c d = refl
+    (again-is (met ++ (name ∷ [])) rest ∙ ap (λ (b : Bool). b || repeats rest) (crosses-last name met rest)
+    ∙ or-assoc (crosses met rest) (hasName name rest) (repeats rest))
+    ∙ sym (or-assoc (among name met) (crosses met rest) (hasName name rest || repeats rest))
 
 crosses-none : (t : Fields) → crosses [] t ≡ false
 unfolding among

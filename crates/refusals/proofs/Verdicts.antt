@@ -21,6 +21,7 @@ use Rattle.refusals.specs.declared.Progress.{Progress}
 use Rattle.refusals.specs.declared.Walked.{Walked}
 use Rattle.refusals.specs.declared.Walked.the-variants.{Came, Lost}
 use Rattle.sheet.proofs.Tests.{all-not, all-cons, all-nil, one-is, one-cons, one-nil, not-of}
+use Rattle.refusals.proofs.Joins.{or-assoc, or-end}
 use Rattle.refusals.proofs.Walking.{pass-due, met-length}
 use Rattle.sheet.proofs.Accepted.{Sound, sound-holds}
 
@@ -29,17 +30,9 @@ pub odd-kinds : (s : List ℕ) (n : ℕ) {b w : Bool} → n ≡ recordsOf s → 
 unfolding badKind
 odd-kinds s n e h k = ap (λ (j : ℕ). anyFrom (λ r. not (isKind (headAt s r .kind))) 1 (j - 1)) (sym e) ∙ sym h ∙ k
 
-or-assoc : (a b c : Bool) → (a || b) || c ≡ a || (b || c)
-or-assoc true b c = refl
-or-assoc false b c = refl
-
 pass-figure : (s : List ℕ) (p : Progress) (ms : List Met) → passAll s p ms .figure ≡ (p .figure || anyWrong s ms)
 unfolding anyWrong
 pass-figure s p [] = or-end (p .figure)
-  where
-    or-end : (b : Bool) → b ≡ (b || false)
-    or-end true = refl
-    or-end false = refl
 pass-figure s p (x ∷ xs) =
     pass-figure s (passHead (headAt s (x .number)) (x .up) p) xs ∙ or-assoc (p .figure) (not (recordRight (headAt s (x .number)) (x .up))) (anyWrong s xs)
 

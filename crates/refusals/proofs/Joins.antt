@@ -1,0 +1,17 @@
+-- Laws of `||`. Assumes nothing.
+use mathlib.Core.Path.{_≡_, refl}
+use mathlib.Core.Bool.{Bool, true, false, _||_}
+
+pub or-assoc : (a b c : Bool) → (a || b) || c ≡ a || (b || c)
+or-assoc true b c = refl
+or-assoc false b c = refl
+
+pub or-end : (b : Bool) → b ≡ (b || false)
+or-end true = refl
+or-end false = refl
+
+pub or-swap : (a b c d : Bool) → (a || b) || (c || d) ≡ (a || c) || (b || d)
+or-swap true b c d = refl
+or-swap false true true d = refl
+or-swap false true false d = refl
+or-swap false false c d = refl
