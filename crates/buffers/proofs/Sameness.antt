@@ -1,33 +1,100 @@
 -- The returns of the test for sameness. Assumes nothing.
-use mathlib.Core.Path.{_≡_, refl, ap, ap₂, sym, subst, _∙_}
-use mathlib.Core.Bool.{Bool, true, false, not, _&&_, Bool·beq}
+use mathlib.Core.Path.{_≡_, refl, ap, ap₂, sym, _∙_}
+use mathlib.Core.Bool.{Bool, true, false, cond, _&&_, Bool·beq}
 use mathlib.Core.List.{List, [], _∷_}
-use Prim.Native.Nat.{ℕ, zero, suc, _+_, _*_, _<_, _≤_}
+use Prim.Native.Nat.{ℕ, zero, suc, _+_, _*_, _/_, _%_, _<_, _≤_}
 use native.Mathlib.Omega.{arith}
 use lib.Dec.{eqb}
-use borrow.Author.Tests.{eq-eqb, ne-eqb}
+use borrow.Author.Tests.{eq-eqb, ne-eqb, eqb-true, eqb-false}
 use Rattle.sheet.specs.Tests.{allOf, implies}
-use Rattle.sheet.specs.Types.{Zone, absent, present, Shape, Fields, end, field}
-use Rattle.sheet.specs.Head.{headAt, nullableIn, zonedIn, sizeIn, sortedIn, zoneAt, zoneLen}
-use Rattle.sheet.specs.Read.{labelAt, zoneOf, shapeOf}
+use Rattle.sheet.specs.Types.{absent, present, Shape, Fields, end, field}
+use Rattle.sheet.specs.Head.{headAt, nullableIn, zonedIn, sortedIn, zoneAt, zoneLen}
+use Rattle.sheet.specs.Read.{labelAt, shapeOf}
 use Rattle.sheet.specs.Names.{sameBytes}
 use Rattle.sheet.specs.declared.Head.{Head}
-use Rattle.sheet.proofs.Tests.{all-at, all-not}
+use Rattle.sheet.proofs.Tests.{and-true}
 use Rattle.coercion.specs.Same.{sameZone, sameShape, sameFields, sameType}
-use Rattle.buffers.specs.Source.{Source, SameTypes, typeIn}
-use Rattle.buffers.proofs.Sources.{link-is, link-inside, read-name, read-nullable, read-shape, source-first, source-next, source-lower}
+use Rattle.buffers.specs.Source.{Source, SameTypes, SameChains, typeIn}
+use Rattle.buffers.specs.Records.{sameFigures, sameContent}
+use Rattle.buffers.proofs.Sources.{link-inside, read-name, read-nullable, read-shape, source-first, source-next, source-lower}
 
--- the tests of two shapes, from what the calls say
-pub shapes-same : {b : Bool} (s : List ℕ) (n : ℕ) (g : Head) (t : List ℕ) (m : ℕ) (h : Head) {x y : ℕ} {p q f z : Bool}
-    → p ≡ zonedIn g → x ≡ mathlib.Core.Bool.cond p 0 (g .quad) → q ≡ zonedIn h → y ≡ mathlib.Core.Bool.cond q 0 (h .quad)
-    → f ≡ Bool·beq (sortedIn g) (sortedIn h) → z ≡ sameZone (zoneOf s n g) (zoneOf t m h)
-    → b ≡ allOf (eqb (g .kind) (h .kind) ∷ eqb (g .figure) (h .figure) ∷ eqb (g .scale) (h .scale) ∷ eqb x y ∷ f ∷ z ∷ [])
-    → b ≡ sameShape (shapeOf s n g) (shapeOf t m h)
-unfolding sameShape
-shapes-same s n g t m h {x} {y} ep ex eq ey ef ez e =
-    let ex′ : x ≡ sizeIn g = ex ∙ ap (λ (c : Bool). mathlib.Core.Bool.cond c 0 (g .quad)) ep in
-    let ey′ : y ≡ sizeIn h = ey ∙ ap (λ (c : Bool). mathlib.Core.Bool.cond c 0 (h .quad)) eq in
-    e ∙ (λ i. allOf (eqb (g .kind) (h .kind) ∷ eqb (g .figure) (h .figure) ∷ eqb (g .scale) (h .scale) ∷ eqb (ex′ i) (ey′ i) ∷ ef i ∷ ez i ∷ []))
+-- two bits, each compared by itself, or both by the number that they make
+bit-same : (x y : ℕ) → x < 2 → y < 2 → Bool·beq (eqb x 1) (eqb y 1) ≡ eqb x y
+bit-same zero zero p q = refl
+bit-same zero (suc zero) p q = refl
+bit-same zero (suc (suc y)) p q = absurd (omega arith)
+bit-same (suc zero) zero p q = refl
+bit-same (suc zero) (suc zero) p q = refl
+bit-same (suc zero) (suc (suc y)) p q = absurd (omega arith)
+bit-same (suc (suc x)) y p q = absurd (omega arith)
+
+pair-same : (x y z w : ℕ) → x < 2 → y < 2 → eqb (x + 2 * z) (y + 2 * w) ≡ (eqb x y && eqb z w)
+pair-same x y z w hx hy = go (eqb x y) (eqb z w) refl refl
+  where
+    go : (p q : Bool) → eqb x y ≡ p → eqb z w ≡ q → eqb (x + 2 * z) (y + 2 * w) ≡ (p && q)
+    go true true e f = eq-eqb (x + 2 * z) (y + 2 * w) (omega (arith, eqb-true x y e, eqb-true z w f))
+    go true false e f = ne-eqb (x + 2 * z) (y + 2 * w) (λ k. eqb-false z w f (omega (arith, eqb-true x y e)))
+    go false q e f = ne-eqb (x + 2 * z) (y + 2 * w) (λ k. eqb-false x y e (omega arith))
+
+nullable-is : (g h : Head) → Bool·beq (nullableIn g) (nullableIn h) ≡ eqb (g .flags % 2) (h .flags % 2)
+nullable-is g h = bit-same (g .flags % 2) (h .flags % 2) (omega arith) (omega arith)
+
+bits-is : (g h : Head) → (Bool·beq (sortedIn g) (sortedIn h) && Bool·beq (zonedIn g) (zonedIn h)) ≡ eqb (g .flags / 2 % 4) (h .flags / 2 % 4)
+bits-is g h =
+    let x = g .flags / 2 % 2 in
+    let y = h .flags / 2 % 2 in
+    let z = g .flags / 4 % 2 in
+    let w = h .flags / 4 % 2 in
+    let p : x + 2 * z ≡ g .flags / 2 % 4 = omega arith in
+    let q : y + 2 * w ≡ h .flags / 2 % 4 = omega arith in
+    ap₂ _&&_ (bit-same x y (omega arith) (omega arith)) (bit-same z w (omega arith) (omega arith))
+    ∙ sym (pair-same x y z w (omega arith) (omega arith))
+    ∙ ap₂ eqb p q
+
+and-none : (p q r : Bool) → (p && (q && false)) ≡ ((q && false) && r)
+and-none false false r = refl
+and-none false true r = refl
+and-none true false r = refl
+and-none true true r = refl
+
+-- the sizes, the sorted bits and the zones of two records
+content-is : (b z w : Bool) (u v : List ℕ) (x y : ℕ)
+    → (eqb (cond z 0 x) (cond w 0 y) && (b && (sameZone (cond z (present u) absent) (cond w (present v) absent) && true)))
+    ≡ ((b && Bool·beq z w) && cond z (sameBytes u v) (eqb x y))
+unfolding sameZone
+content-is b true true u v x y = ap (λ (l : Bool). b && l) (and-true (sameBytes u v)) ∙ ap (λ (c : Bool). c && sameBytes u v) (sym (and-true b))
+content-is b true false u v x y = and-none (eqb 0 y) b (sameBytes u v)
+content-is b false true u v x y = and-none (eqb x 0) b (eqb x y)
+content-is b false false u v x y = go (eqb x y) b
+  where
+    go : (p q : Bool) → (p && (q && true)) ≡ ((q && true) && p)
+    go false false = refl
+    go false true = refl
+    go true false = refl
+    go true true = refl
+
+-- two shapes, by the tests of the code
+shape-is : (s : List ℕ) (n : ℕ) (g : Head) (t : List ℕ) (m : ℕ) (h : Head)
+    → sameShape (shapeOf s n g) (shapeOf t m h) ≡ (sameFigures g h && sameContent s n g t m h)
+unfolding sameShape allOf
+shape-is s n g t m h =
+    go (eqb (g .kind) (h .kind)) (eqb (g .figure) (h .figure)) (eqb (g .scale) (h .scale)) (eqb (g .flags / 2 % 4) (h .flags / 2 % 4)) _
+    (content-is (Bool·beq (sortedIn g) (sortedIn h)) (zonedIn g) (zonedIn h) (labelAt s n (zoneAt g) (zoneLen g)) (labelAt t m (zoneAt h) (zoneLen h)) (g .quad) (h .quad)
+    ∙ ap (λ (b : Bool). b && sameContent s n g t m h) (bits-is g h))
+  where
+    go : (k f c b r : Bool) → r ≡ (b && sameContent s n g t m h) → (k && (f && (c && r))) ≡ ((k && (f && (c && (b && true)))) && sameContent s n g t m h)
+    go false f c b r e = refl
+    go true false c b r e = refl
+    go true true false b r e = refl
+    go true true true false r e = e
+    go true true true true r e = e
+
+module _ (s : List ℕ) (n : ℕ) (g : Head) (t : List ℕ) (m : ℕ) (h : Head) {f : Bool} (e : f ≡ sameFigures g h) where
+  pub shapes-apart : f ≡ false → false ≡ sameShape (shapeOf s n g) (shapeOf t m h)
+  shapes-apart z = sym (shape-is s n g t m h ∙ ap (λ (b : Bool). b && sameContent s n g t m h) (sym e ∙ z))
+
+  pub shapes-same : {v : Bool} → f ≡ true → v ≡ sameContent s n g t m h → v ≡ sameShape (shapeOf s n g) (shapeOf t m h)
+  shapes-same z k = k ∙ sym (shape-is s n g t m h ∙ ap (λ (b : Bool). b && sameContent s n g t m h) (sym e ∙ z))
 
 -- the tests of two records but for their parts
 abbrev pub ownSame : Bool → List ℕ → ℕ → Head → List ℕ → ℕ → Head → Bool
@@ -38,30 +105,49 @@ ownSame named s n g t m h =
     ∷ sameShape (shapeOf s n g) (shapeOf t m h)
     ∷ [])
 
-pub records-same : {b : Bool} (named : Bool) (s : List ℕ) (n : ℕ) (g : Head) (t : List ℕ) (m : ℕ) (h : Head) {c d f w : Bool}
-    → c ≡ sameBytes (labelAt s n (g .name) (g .nlen)) (labelAt t m (h .name) (h .nlen)) → d ≡ implies named c → f ≡ Bool·beq (nullableIn g) (nullableIn h)
-    → w ≡ sameShape (shapeOf s n g) (shapeOf t m h) → b ≡ allOf (d ∷ f ∷ w ∷ true ∷ true ∷ true ∷ []) → b ≡ ownSame named s n g t m h
-unfolding allOf
-records-same named s n g t m h ec ed ef ew e =
-    let ed′ = ed ∙ ap (implies named) ec in
-    e ∙ (λ i. allOf (ed′ i ∷ ef i ∷ ew i ∷ []))
+module _ (s : List ℕ) (n : ℕ) (g : Head) (t : List ℕ) (m : ℕ) (h : Head) (named : Bool) where
+  abbrev names : Bool
+  names = implies named (sameBytes (labelAt s n (g .name) (g .nlen)) (labelAt t m (h .name) (h .nlen)))
+
+  pub names-asked : {v : Bool} → named ≡ true → v ≡ sameBytes (labelAt s n (g .name) (g .nlen)) (labelAt t m (h .name) (h .nlen)) → names ≡ v
+  names-asked z e = rw z (sym e)
+
+  pub names-free : named ≡ false → names ≡ true
+  names-free z = rw z
+
+  pub own-tests : {f e x i : Bool} → sameFigures g h ≡ f → eqb (g .flags % 2) (h .flags % 2) ≡ e → sameContent s n g t m h ≡ x → names ≡ i
+      → (f && (e && (x && i))) ≡ ownSame named s n g t m h
+  unfolding allOf
+  own-tests {f} {e} {x} {i} ef ee ex ei =
+      let en : Bool·beq (nullableIn g) (nullableIn h) ≡ e = nullable-is g h ∙ ee in
+      let es : sameShape (shapeOf s n g) (shapeOf t m h) ≡ (f && x) = shape-is s n g t m h ∙ ap₂ _&&_ ef ex in
+      go f e x i ∙ sym (λ k. allOf (ei k ∷ en k ∷ es k ∷ []))
+    where
+      go : (f e x i : Bool) → (f && (e && (x && i))) ≡ (i && (e && ((f && x) && true)))
+      go false false x false = refl
+      go false false x true = refl
+      go false true x false = refl
+      go false true x true = refl
+      go true false x false = refl
+      go true false x true = refl
+      go true true false false = refl
+      go true true false true = refl
+      go true true true false = refl
+      go true true true true = refl
 
 -- two chains of which the first is empty
-pub fields-none : (s : List ℕ) (n floor i : ℕ) (t : List ℕ) (m j : ℕ) (named : Bool) → i ≤ floor
-    → (r o up : ℕ) (a : Fields) (r′ o′ up′ : ℕ) (b : Fields) → Source s n floor i r o up a → Source t m 0 j r′ o′ up′ b → eqb j 0 ≡ sameFields named a b
+pub fields-none : (s : List ℕ) (n floor i : ℕ) (t : List ℕ) (m j : ℕ) (named : Bool) → i ≤ floor → SameChains s n floor i t m j named (eqb j 0)
 unfolding sameFields
 fields-none s n floor i t m j named h r o up end r′ o′ up′ end x y = eq-eqb j 0 (y .leads .is)
 fields-none s n floor i t m j named h r o up end r′ o′ up′ (field name nullable shape parts rest) x y =
     ne-eqb j 0 (λ e. let z : 0 < r′ = y .leads .above in let q = y .leads .is in absurd (omega arith))
 fields-none s n floor i t m j named h r o up (field name nullable shape parts rest) r′ o′ up′ b x y = absurd (omega (arith, x .leads .is, x .leads .above))
 
-pub fields-past : (s : List ℕ) (n floor i : ℕ) (t : List ℕ) (m j : ℕ) (named v : Bool) → floor < i → n ≤ i
-    → (r o up : ℕ) (a : Fields) (r′ o′ up′ : ℕ) (b : Fields) → Source s n floor i r o up a → Source t m 0 j r′ o′ up′ b → v ≡ sameFields named a b
+pub fields-past : (s : List ℕ) (n floor i : ℕ) (t : List ℕ) (m j : ℕ) (named v : Bool) → floor < i → n ≤ i → SameChains s n floor i t m j named v
 fields-past s n floor i t m j named v lo hi r o up end r′ o′ up′ b x y = absurd (omega (arith, x .leads .is))
 fields-past s n floor i t m j named v lo hi r o up (field name nullable shape parts rest) r′ o′ up′ b x y = absurd (omega (arith, link-inside x))
 
-pub fields-short : (s : List ℕ) (n floor i : ℕ) (t : List ℕ) (m j : ℕ) (named : Bool) → floor < i → j ≡ 0
-    → (r o up : ℕ) (a : Fields) (r′ o′ up′ : ℕ) (b : Fields) → Source s n floor i r o up a → Source t m 0 j r′ o′ up′ b → false ≡ sameFields named a b
+pub fields-short : (s : List ℕ) (n floor i : ℕ) (t : List ℕ) (m j : ℕ) (named : Bool) → floor < i → j ≡ 0 → SameChains s n floor i t m j named false
 unfolding sameFields
 fields-short s n floor i t m j named lo e r o up end r′ o′ up′ b x y = absurd (omega (arith, x .leads .is))
 fields-short s n floor i t m j named lo e r o up (field name nullable shape parts rest) r′ o′ up′ end x y = refl
@@ -71,8 +157,7 @@ fields-short s n floor i t m j named lo e r o up (field name nullable shape part
 -- two records
 module _ (s : List ℕ) (n floor i : ℕ) (t : List ℕ) (m j : ℕ) (named : Bool) (past : floor < i) (some : ¬ (j ≡ 0)) (g h : Head) (eg : g ≡ headAt s i) (eh : h ≡ headAt t j) where
   abbrev Claim : Bool → Type 0
-  Claim v =
-      (r o up : ℕ) (a : Fields) (r′ o′ up′ : ℕ) (b : Fields) → Source s n floor i r o up a → Source t m 0 j r′ o′ up′ b → v ≡ sameFields named a b
+  Claim v = SameChains s n floor i t m j named v
 
   -- what is asked of two records is asked of their own tests, their parts and the rest
   both : (v : Bool)
@@ -117,7 +202,7 @@ module _ (s : List ℕ) (n floor i : ℕ) (t : List ℕ) (m j : ℕ) (named : Bo
 
   module _ {v : Bool} (e : v ≡ ownSame named s n g t m h) (z : v ≡ true) where
     pub fields-parts : {w : Bool}
-        → ((r o up : ℕ) (a : Fields) (r′ o′ up′ : ℕ) (b : Fields) → Source s n i (g .first) r o up a → Source t m 0 (h .first) r′ o′ up′ b → w ≡ sameFields named a b)
+        → SameChains s n i (g .first) t m (h .first) named w
         → w ≡ false → Claim false
     fields-parts f q =
         both false (λ r o up name nullable shape parts rest r′ o′ up′ name′ nullable′ shape′ parts′ rest′ x y.
@@ -126,10 +211,24 @@ module _ (s : List ℕ) (n floor i : ℕ) (t : List ℕ) (m j : ℕ) (named : Bo
         ∙ ap₂ (λ (b d : Bool). b && (d && sameFields named rest rest′)) (sym e ∙ z)
         (sym (f _ _ _ parts _ _ _ parts′ (source-first x g eg) (source-lower 0 (omega arith) (source-first y h eh))) ∙ q)))
 
+    -- nothing follows two records
+    pub fields-last : {u : Bool} → g .next + h .next ≡ 0
+        → SameChains s n i (g .first) t m (h .first) named u
+        → Claim u
+    fields-last {u} q f =
+        both u (λ r o up name nullable shape parts rest r′ o′ up′ name′ nullable′ shape′ parts′ rest′ x y.
+        f _ _ _ parts _ _ _ parts′ (source-first x g eg) (source-lower 0 (omega arith) (source-first y h eh))
+        ∙ sym (and-true _)
+        ∙ sym
+        (whole-is x y
+        ∙ ap₂ (λ (b d : Bool). b && (sameFields named parts parts′ && d)) (sym e ∙ z)
+        (sym (fields-none s n i (g .next) t m (h .next) named (omega arith) _ _ _ rest _ _ _ rest′ (source-next x g eg) (source-lower 0 (omega arith) (source-next y h eh)))
+        ∙ eq-eqb (h .next) 0 (omega arith))))
+
     pub fields-rest : {w u : Bool}
-        → ((r o up : ℕ) (a : Fields) (r′ o′ up′ : ℕ) (b : Fields) → Source s n i (g .first) r o up a → Source t m 0 (h .first) r′ o′ up′ b → w ≡ sameFields named a b)
+        → SameChains s n i (g .first) t m (h .first) named w
         → w ≡ true
-        → ((r o up : ℕ) (a : Fields) (r′ o′ up′ : ℕ) (b : Fields) → Source s n i (g .next) r o up a → Source t m 0 (h .next) r′ o′ up′ b → u ≡ sameFields named a b)
+        → SameChains s n i (g .next) t m (h .next) named u
         → Claim u
     fields-rest {w} {u} f q k =
         both u (λ r o up name nullable shape parts rest r′ o′ up′ name′ nullable′ shape′ parts′ rest′ x y.
@@ -139,33 +238,11 @@ module _ (s : List ℕ) (n floor i : ℕ) (t : List ℕ) (m j : ℕ) (named : Bo
         ∙ ap₂ (λ (b d : Bool). b && (d && sameFields named rest rest′)) (sym e ∙ z)
         (sym (f _ _ _ parts _ _ _ parts′ (source-first x g eg) (source-lower 0 (omega arith) (source-first y h eh))) ∙ q)))
 
--- two zones, by whether each is present
-zone-both : (s : List ℕ) (n : ℕ) (g : Head) (t : List ℕ) (m : ℕ) (h : Head) (a b : Bool) → zonedIn g ≡ a → zonedIn h ≡ b
-    → sameZone (zoneOf s n g) (zoneOf t m h)
-    ≡ sameZone (mathlib.Core.Bool.cond a (present (labelAt s n (zoneAt g) (zoneLen g))) absent) (mathlib.Core.Bool.cond b (present (labelAt t m (zoneAt h) (zoneLen h))) absent)
-zone-both s n g t m h a b p q = rw (p, q)
-
-module _ (s : List ℕ) (n : ℕ) (g : Head) (t : List ℕ) (m : ℕ) (h : Head) {a : Bool} (ea : a ≡ zonedIn g) where
-  pub zones-compared : {b v : Bool} → a ≡ true → b ≡ zonedIn h → b ≡ true → v ≡ sameBytes (labelAt s n (zoneAt g) (zoneLen g)) (labelAt t m (zoneAt h) (zoneLen h))
-      → v ≡ sameZone (zoneOf s n g) (zoneOf t m h)
-  unfolding sameZone
-  zones-compared p eb q e = e ∙ sym (zone-both s n g t m h true true (sym ea ∙ p) (sym eb ∙ q))
-
-  pub zones-first : {b : Bool} → a ≡ true → b ≡ zonedIn h → b ≡ false → false ≡ sameZone (zoneOf s n g) (zoneOf t m h)
-  unfolding sameZone
-  zones-first p eb q = sym (zone-both s n g t m h true false (sym ea ∙ p) (sym eb ∙ q))
-
-  pub zones-none : {b : Bool} → a ≡ false → b ≡ zonedIn h → not b ≡ sameZone (zoneOf s n g) (zoneOf t m h)
-  unfolding sameZone
-  zones-none {b} p eb = go b refl
-    where
-      go : (c : Bool) → b ≡ c → not b ≡ sameZone (zoneOf s n g) (zoneOf t m h)
-      go true q = ap not q ∙ sym (zone-both s n g t m h false true (sym ea ∙ p) (sym eb ∙ q))
-      go false q = ap not q ∙ sym (zone-both s n g t m h false false (sym ea ∙ p) (sym eb ∙ q))
-
-pub beq-true : (b : Bool) → b ≡ Bool·beq true b
-beq-true true = refl
-beq-true false = refl
+    -- two records have no parts
+    pub fields-plain : {u : Bool} → g .first + h .first ≡ 0
+        → SameChains s n i (g .next) t m (h .next) named u
+        → Claim u
+    fields-plain q k = fields-rest (fields-none s n i (g .first) t m (h .first) named (omega arith)) (eq-eqb (h .first) 0 (omega arith)) k
 
 -- two types, by their shapes and their parts
 module _ (s : List ℕ) (n i : ℕ) (t : List ℕ) (m j : ℕ) (named : Bool) (g h : Head) (eg : g ≡ headAt s i) (eh : h ≡ headAt t j)
@@ -177,9 +254,15 @@ module _ (s : List ℕ) (n i : ℕ) (t : List ℕ) (m j : ℕ) (named : Bool) (g
       rw e
 
   pub types-parts : (w : Bool) → v ≡ true
-      → ((r o up : ℕ) (a : Fields) (r′ o′ up′ : ℕ) (b : Fields) → Source s n i (g .first) r o up a → Source t m 0 (h .first) r′ o′ up′ b → w ≡ sameFields named a b)
+      → SameChains s n i (g .first) t m (h .first) named w
       → SameTypes s n i t m j named w
   unfolding sameType
   types-parts w z f r o up name nullable shape parts rest r′ o′ up′ name′ nullable′ shape′ parts′ rest′ x y =
       let e : sameShape shape shape′ ≡ true = sym (ap₂ sameShape (read-shape x g eg) (read-shape y h eh)) ∙ sym ev ∙ z in
       rw e (f _ _ _ parts _ _ _ parts′ (source-first x g eg) (source-lower 0 (omega arith) (source-first y h eh)))
+
+  -- neither type has parts
+  pub types-plain : v ≡ true → g .first + h .first ≡ 0 → SameTypes s n i t m j named true
+  types-plain z q =
+      types-parts true z (λ r o up a r′ o′ up′ b x y.
+      sym (eq-eqb (h .first) 0 (omega arith)) ∙ fields-none s n i (g .first) t m (h .first) named (omega arith) r o up a r′ o′ up′ b x y)

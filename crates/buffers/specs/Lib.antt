@@ -1,4 +1,5 @@
 pub mod Source
+pub mod Records
 pub mod Writes
 pub mod Region
 pub mod Goal

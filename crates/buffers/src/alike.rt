@@ -3,51 +3,20 @@
 ghost use mathlib.Core.Path.{_≡_};
 ghost use mathlib.Core.Bool.{Bool, true, false, not, Bool·beq};
 ghost use mathlib.Core.List.{_∷_, []};
-ghost use Prim.Native.Nat.{ℕ, _<_};
-ghost use lib.Dec.{eqb};
+ghost use Prim.Native.Nat.{_/_, _%_, _<_};
 ghost use Rattle.sheet.specs.Tests.{allOf, implies};
-ghost use Rattle.sheet.specs.Types.{Fields};
-ghost use Rattle.sheet.specs.Head.{zonedIn, sortedIn, nullableIn};
-ghost use Rattle.sheet.specs.Read.{labelAt, zoneOf, shapeOf};
+ghost use Rattle.sheet.specs.Head.{zonedIn, nullableIn};
+ghost use Rattle.sheet.specs.Read.{labelAt, shapeOf};
 ghost use Rattle.sheet.specs.Names.{sameBytes};
 ghost use Rattle.sheet.specs.Bounds.{Bounded};
-ghost use Rattle.coercion.specs.Same.{sameZone, sameShape, sameFields};
+ghost use Rattle.coercion.specs.Same.{sameShape};
 ghost use Rattle.buffers.specs.Writes.{side};
-ghost use Rattle.buffers.specs.Source.{Source, SameTypes};
+ghost use Rattle.buffers.specs.Source.{SameChains, SameTypes};
+ghost use Rattle.buffers.specs.Records.{sameFigures, sameContent};
 use sheet::Head;
-use sheet::figure::size_in;
 use sheet::label::same_label;
 use sheet::label::same_name;
 use sheet::record::head_at;
-
-fn all(a: bool, b: bool, c: bool, d: bool, e: bool, f: bool) -> bool
-    ensures { λ r. ⌜ r ≡ allOf (a ∷ b ∷ c ∷ d ∷ e ∷ f ∷ []) ⌝ }
-{
-    if a {
-        if b {
-            if c {
-                if d {
-                    if e {
-                        return f;
-                    }
-                }
-            }
-        }
-    }
-    false
-}
-
-fn same_flag(a: bool, b: bool) -> bool
-    ensures { λ r. ⌜ r ≡ Bool·beq a b ⌝ }
-{
-    if a { b } else { !b }
-}
-
-fn implied(a: bool, b: bool) -> bool
-    ensures { λ r. ⌜ r ≡ implies a b ⌝ }
-{
-    if a { b } else { true }
-}
 
 pub(crate) fn is_zoned(h: Head) -> bool
     ensures { λ r. ⌜ r ≡ zonedIn h ⌝ }
@@ -55,27 +24,47 @@ pub(crate) fn is_zoned(h: Head) -> bool
     h.flags / 4 % 2 == 1
 }
 
-// Whether the zones of two records are the same: both absent, or the same bytes.
-fn same_zone(a: &[u8], n: usize, g: Head, b: &[u8], m: usize, h: Head) -> bool
+// Whether the zones that bytes 4 to 7 of two records place are the same.
+fn same_zone(a: &[u8], n: usize, p: usize, b: &[u8], m: usize, q: usize) -> bool
     requires { ⌜ (n < 65536) × (m < 65536) ⌝ }
-    ensures { λ r. ⌜ r ≡ sameZone (zoneOf (now (a .entry)) n g) (zoneOf (now (b .entry)) m h) ⌝ }
+    ensures { λ r. ⌜ r ≡ sameBytes (labelAt (now (a .entry)) n (p % 65536) (p / 65536 % 256)) (labelAt (now (b .entry)) m (q % 65536) (q / 65536 % 256)) ⌝ }
 {
-    let p = g.quad;
-    let q = h.quad;
+    same_label(
+        a,
+        16 * n + p % 65536,
+        p / 65536 % 256,
+        b,
+        16 * m + q % 65536,
+        q / 65536 % 256,
+    )
+}
+
+// Whether bytes 4 to 7 of two records of which both or neither has a zone say the same.
+fn same_content(a: &[u8], n: usize, g: Head, b: &[u8], m: usize, h: Head) -> bool
+    requires { ⌜ (n < 65536) × (m < 65536) ⌝ }
+    ensures { λ r. ⌜ r ≡ sameContent (now (a .entry)) n g (now (b .entry)) m h ⌝ }
+{
     if is_zoned(g) {
-        if is_zoned(h) {
-            return same_label(
-                a,
-                16 * n + p % 65536,
-                p / 65536 % 256,
-                b,
-                16 * m + q % 65536,
-                q / 65536 % 256,
-            );
-        }
+        same_zone(a, n, g.quad, b, m, h.quad)
+    } else {
+        g.quad == h.quad
+    }
+}
+
+// Whether bytes 0, 2 and 3 and the bits for sorted and for a zone of two records are the same.
+fn same_figures(g: Head, h: Head) -> bool
+    ensures { λ r. ⌜ r ≡ sameFigures g h ⌝ }
+{
+    if g.kind != h.kind {
         return false;
     }
-    !is_zoned(h)
+    if g.figure != h.figure {
+        return false;
+    }
+    if g.scale != h.scale {
+        return false;
+    }
+    g.flags / 2 % 4 == h.flags / 2 % 4
 }
 
 // Whether the shapes of two records are the same.
@@ -83,14 +72,11 @@ fn same_shape(a: &[u8], n: usize, g: Head, b: &[u8], m: usize, h: Head) -> bool
     requires { ⌜ (n < 65536) × (m < 65536) ⌝ }
     ensures { λ r. ⌜ r ≡ sameShape (shapeOf (now (a .entry)) n g) (shapeOf (now (b .entry)) m h) ⌝ }
 {
-    all(
-        g.kind == h.kind,
-        g.figure == h.figure,
-        g.scale == h.scale,
-        size_in(is_zoned(g), g.quad) == size_in(is_zoned(h), h.quad),
-        same_flag(g.flags / 2 % 2 == 1, h.flags / 2 % 2 == 1),
-        same_zone(a, n, g, b, m, h),
-    )
+    if same_figures(g, h) {
+        same_content(a, n, g, b, m, h)
+    } else {
+        false
+    }
 }
 
 // Whether two records are the same but for their parts.
@@ -98,17 +84,22 @@ fn same_record(a: &[u8], n: usize, g: Head, b: &[u8], m: usize, h: Head, named: 
     requires { ⌜ ((n < 65536) × (m < 65536)) × (Bounded g × Bounded h) ⌝ }
     ensures { λ r. ⌜ r ≡ allOf (implies named (sameBytes (labelAt (now (a .entry)) n (g .name) (g .nlen)) (labelAt (now (b .entry)) m (h .name) (h .nlen))) ∷ Bool·beq (nullableIn g) (nullableIn h) ∷ sameShape (shapeOf (now (a .entry)) n g) (shapeOf (now (b .entry)) m h) ∷ []) ⌝ }
 {
-    all(
-        implied(named, same_name(a, n, g, b, m, h)),
-        same_flag(g.flags % 2 == 1, h.flags % 2 == 1),
-        same_shape(a, n, g, b, m, h),
-        true,
-        true,
-        true,
-    )
+    if same_figures(g, h) {
+        if g.flags % 2 != h.flags % 2 {
+            return false;
+        }
+        if same_content(a, n, g, b, m, h) {
+            return if named {
+                same_name(a, n, g, b, m, h)
+            } else {
+                true
+            };
+        }
+    }
+    false
 }
 
-// Whether the chain that a link of a leads to is the one that a link of b leads to.
+// Whether the chain that a link of a leads to is the one that a link of b leads to. Where nothing follows two records, their parts are what is left.
 pub(crate) fn same_fields(
     a: &[u8],
     n: usize,
@@ -120,25 +111,39 @@ pub(crate) fn same_fields(
     named: bool,
 ) -> bool
     requires { ⌜ (n < 65536) × (m < 65536) ⌝ }
-    ensures { λ e. ⌜ ((r o up : ℕ) (t : Fields) (r′ o′ up′ : ℕ) (t′ : Fields) → Source (now (a .entry)) n floor i r o up t → Source (now (b .entry)) m 0 j r′ o′ up′ t′ → e ≡ sameFields named t t′) ⌝ }
+    ensures { λ e. ⌜ SameChains (now (a .entry)) n floor i (now (b .entry)) m j named e ⌝ }
 {
-    if i <= floor {
-        return j == 0;
-    }
-    if n <= i {
-        return false;
-    }
-    if j == 0 {
-        return false;
-    }
-    let g = head_at(a, i);
-    let h = head_at(b, j);
-    if same_record(a, n, g, b, m, h, named) {
-        if same_fields(a, n, i, g.first, b, m, h.first, named) {
-            return same_fields(a, n, i, g.next, b, m, h.next, named);
+    let mut low = floor;
+    let mut x = i;
+    let mut y = j;
+    while low < x {
+        if n <= x {
+            return false;
+        }
+        if y == 0 {
+            return false;
+        }
+        let g = head_at(a, x);
+        let h = head_at(b, y);
+        if !same_record(a, n, g, b, m, h, named) {
+            return false;
+        }
+        low = x;
+        if g.next + h.next == 0 {
+            x = g.first;
+            y = h.first;
+            continue;
+        }
+        x = g.next;
+        y = h.next;
+        if g.first + h.first == 0 {
+            continue;
+        }
+        if !same_fields(a, n, low, g.first, b, m, h.first, named) {
+            return false;
         }
     }
-    false
+    y == 0
 }
 
 // Whether the type of record i of a is that of record j of b.
@@ -149,10 +154,12 @@ pub fn same_type(a: &[u8], n: usize, i: usize, b: &[u8], m: usize, j: usize, nam
     let g = head_at(a, i);
     let h = head_at(b, j);
     if same_shape(a, n, g, b, m, h) {
-        same_fields(a, n, i, g.first, b, m, h.first, named)
-    } else {
-        false
+        if g.first + h.first == 0 {
+            return true;
+        }
+        return same_fields(a, n, i, g.first, b, m, h.first, named);
     }
+    false
 }
 
 // Whether the type of record l of a side is that of record r of the other.

@@ -1,54 +1,61 @@
-use native.Mathlib.Omega.{arith}
-use borrow.Author.Needs.{needs}
-use Prim.Native.Nat.{_-_, _+_, _*_}
-use mathlib.Core.Path.{_≡_, refl, sym, _∙_, ap, ap₂}
-use mathlib.Core.Bool.{Bool, true, false, not, _&&_}
-use Rattle.sheet.specs.Tests.{allOf}
-use Rattle.sheet.proofs.Tests.{and-true}
-use Rattle.buffers.proofs.Sameness.{shapes-same, records-same, fields-none, fields-past, fields-short, fields-own, fields-parts, fields-rest, zones-compared, zones-first, zones-none, beq-true, types-differ, types-parts}
+use mathlib.Core.Path.{refl, sym, _∙_}
+use borrow.Author.Tests.{eq-eqb, ne-eqb}
+use Rattle.buffers.proofs.Sameness.{own-tests, names-asked, names-free}
 use borrow.Author.Needs.{needs}
 use Rattle.buffers.proofs.alike.same_record.Statement.{statement}
 use Rattle.buffers.proofs.alike.same_record.Tie as tie
 use Rattle.buffers.proofs.alike.same_record.Reads as reads
 use Rattle.buffers.proofs.alike.same_record.Lts as lts
-use Rattle.buffers.proofs.alike.all.Reads as all-reads
-use Rattle.buffers.proofs.alike.implied.Reads as implied-reads
-use Rattle.buffers.proofs.alike.same_flag.Reads as same-flag-reads
-use Rattle.buffers.proofs.alike.same_shape.Reads as same-shape-reads
+use Rattle.buffers.proofs.alike.same_content.Reads as same-content-reads
+use Rattle.buffers.proofs.alike.same_figures.Reads as same-figures-reads
 use Rattle.sheet.proofs.label.same_name.Reads as same-name-reads
 
--- src/alike.rt:101:24
+-- src/alike.rt:87:8
+same-figures-requires : tie.Need-same-figures-requires
+same-figures-requires c κs = search needs
+
+-- src/alike.rt:89:13
+returns : tie.Need-returns
+returns c =
+    own-tests ((c .before .before .before .before .before .before .before .args .a .now)) ((c .before .before .before .before .before .before .before .args .n)) ((c .before .before .before .before .before .before .before .args .g)) ((c .before .before .before .before .before .before .before .args .b .now)) ((c .before .before .before .before .before .before .before .args .m)) ((c .before .before .before .before .before .before .before .args .h)) ((c .before .before .before .before .before .before .before .args .named)) (sym ((c .before .before .before .before .same-figures .ensures)) ∙ (c .before .before .before .if1 .taken)) (ne-eqb _ _ ((c .if2 .taken))) refl refl
+
+-- src/alike.rt:91:12
+same-content-requires : tie.Need-same-content-requires
+same-content-requires c κs = search needs
+
+-- src/alike.rt:92:31
 same-name-requires : tie.Need-same-name-requires
 same-name-requires c κs = search needs
 
--- src/alike.rt:101:9
-implied-requires : tie.Need-implied-requires
-implied-requires c κs = search needs
+-- src/alike.rt:92:13
+returns-2 : tie.Need-returns-2
+returns-2 c =
+    own-tests ((c .before .before .before .before .before .before .before .before .before .before .before .args .a .now)) ((c .before .before .before .before .before .before .before .before .before .before .before .args .n)) ((c .before .before .before .before .before .before .before .before .before .before .before .args .g)) ((c .before .before .before .before .before .before .before .before .before .before .before .args .b .now)) ((c .before .before .before .before .before .before .before .before .before .before .before .args .m)) ((c .before .before .before .before .before .before .before .before .before .before .before .args .h)) ((c .before .before .before .before .before .before .before .before .before .before .before .args .named)) (sym ((c .before .before .before .before .before .before .before .before .same-figures .ensures)) ∙ (c .before .before .before .before .before .before .before .if1 .taken)) (eq-eqb _ _ ((c .before .before .before .before .if2 .left))) (sym ((c .before .before .before .same-content .ensures)) ∙ (c .before .before .if3 .taken)) (names-asked ((c .before .before .before .before .before .before .before .before .before .before .before .args .a .now)) ((c .before .before .before .before .before .before .before .before .before .before .before .args .n)) ((c .before .before .before .before .before .before .before .before .before .before .before .args .g)) ((c .before .before .before .before .before .before .before .before .before .before .before .args .b .now)) ((c .before .before .before .before .before .before .before .before .before .before .before .args .m)) ((c .before .before .before .before .before .before .before .before .before .before .before .args .h)) ((c .before .before .before .before .before .before .before .before .before .before .before .args .named)) ((c .before .if4 .taken)) ((c .same-name .ensures)))
 
--- src/alike.rt:102:9
-same-flag-requires : tie.Need-same-flag-requires
-same-flag-requires c κs = search needs
+-- src/alike.rt:92:13
+returns-3 : tie.Need-returns-3
+returns-3 c =
+    own-tests ((c .before .before .before .before .before .before .before .before .before .before .args .a .now)) ((c .before .before .before .before .before .before .before .before .before .before .args .n)) ((c .before .before .before .before .before .before .before .before .before .before .args .g)) ((c .before .before .before .before .before .before .before .before .before .before .args .b .now)) ((c .before .before .before .before .before .before .before .before .before .before .args .m)) ((c .before .before .before .before .before .before .before .before .before .before .args .h)) ((c .before .before .before .before .before .before .before .before .before .before .args .named)) (sym ((c .before .before .before .before .before .before .before .same-figures .ensures)) ∙ (c .before .before .before .before .before .before .if1 .taken)) (eq-eqb _ _ ((c .before .before .before .if2 .left))) (sym ((c .before .before .same-content .ensures)) ∙ (c .before .if3 .taken)) (names-free ((c .before .before .before .before .before .before .before .before .before .before .args .a .now)) ((c .before .before .before .before .before .before .before .before .before .before .args .n)) ((c .before .before .before .before .before .before .before .before .before .before .args .g)) ((c .before .before .before .before .before .before .before .before .before .before .args .b .now)) ((c .before .before .before .before .before .before .before .before .before .before .args .m)) ((c .before .before .before .before .before .before .before .before .before .before .args .h)) ((c .before .before .before .before .before .before .before .before .before .before .args .named)) ((c .if4 .left)))
 
--- src/alike.rt:103:9
-same-shape-requires : tie.Need-same-shape-requires
-same-shape-requires c κs = search needs
+-- src/alike.rt:83:1
+returns-4 : tie.Need-returns-4
+returns-4 c =
+    own-tests ((c .before .before .before .before .before .before .before .before .before .args .a .now)) ((c .before .before .before .before .before .before .before .before .before .args .n)) ((c .before .before .before .before .before .before .before .before .before .args .g)) ((c .before .before .before .before .before .before .before .before .before .args .b .now)) ((c .before .before .before .before .before .before .before .before .before .args .m)) ((c .before .before .before .before .before .before .before .before .before .args .h)) ((c .before .before .before .before .before .before .before .before .before .args .named)) (sym ((c .before .before .before .before .before .before .same-figures .ensures)) ∙ (c .before .before .before .before .before .if1 .taken)) (eq-eqb _ _ ((c .before .before .if2 .left))) (sym ((c .before .same-content .ensures)) ∙ (c .if3 .left)) refl
 
--- src/alike.rt:100:5
-all-requires : tie.Need-all-requires
-all-requires c κs = search needs
-
--- src/alike.rt:96:1
-returns : tie.Need-returns
-returns c =
-    records-same (c .before .before .before .before .before .before .before .before .before .args .named) (c .before .before .before .before .before .before .before .before .before .args .a .now) (c .before .before .before .before .before .before .before .before .before .args .n) (c .before .before .before .before .before .before .before .before .before .args .g) (c .before .before .before .before .before .before .before .before .before .args .b .now) (c .before .before .before .before .before .before .before .before .before .args .m) (c .before .before .before .before .before .before .before .before .before .args .h) (c .before .before .before .before .before .before .same-name .ensures) (c .before .before .before .before .before .implied .ensures) (c .before .before .same-flag .ensures) (c .before .same-shape .ensures) (c .all .ensures)
+-- src/alike.rt:83:1
+returns-5 : tie.Need-returns-5
+returns-5 c =
+    own-tests ((c .before .before .before .before .args .a .now)) ((c .before .before .before .before .args .n)) ((c .before .before .before .before .args .g)) ((c .before .before .before .before .args .b .now)) ((c .before .before .before .before .args .m)) ((c .before .before .before .before .args .h)) ((c .before .before .before .before .args .named)) (sym ((c .before .same-figures .ensures)) ∙ (c .if1 .left)) refl refl refl
 
 pub same-record-spec : {M : Type 1} → statement M
 same-record-spec =
     tie.close
     (tie.spec
+    same-figures-requires
+    returns
+    same-content-requires
     same-name-requires
-    implied-requires
-    same-flag-requires
-    same-shape-requires
-    all-requires
-    returns)
+    returns-2
+    returns-3
+    returns-4
+    returns-5)
