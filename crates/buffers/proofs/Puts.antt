@@ -2,12 +2,13 @@
 use mathlib.Core.Path.{_≡_, refl, ap, ap₂, sym, subst, _∙_}
 use mathlib.Core.Bool.{Bool, true, false, not}
 use mathlib.Core.List.{List, [], _∷_, _++_, append-nil}
-use Prim.Native.Nat.{ℕ, zero, suc, _+_, _*_, _-_, _<_, _≤_}
+use Prim.Native.Nat.{ℕ, zero, suc, _+_, _*_, _-_, _/_, _%_, _<_, _≤_}
 use native.Mathlib.Omega.{arith}
 use lib.ListN.{length, getD, take, drop, length-append, length-take, length-drop, drop-of-length-le, List·getD-append}
 use lib.Dec.{ltb}
 use lib.Seq.{getD-append-add, getD-take, getD-drop, take-length, take-all, take-add, drop-drop, length-take-le}
 use borrow.Author.Tests.{ltb-true, ltb-false}
+use Rattle.sheet.specs.Read.{labelAt}
 use Rattle.sheet.specs.Holds.{Span}
 use Rattle.sheet.specs.Bounds.{Filled}
 use Rattle.sheet.proofs.Spans.{at-eq, at-span, span-at, span-join}
@@ -49,6 +50,10 @@ put-part w u p i k h ek ep =
 -- the same bytes are put
 pub put-same : {w v : List ℕ} {i : ℕ} {u u′ : List ℕ} → u ≡ u′ → Put w v i u → Put w v i u′
 put-same {w} {v} {i} e p = subst (λ (l : List ℕ). Put w v i l) e p
+
+-- a label, by where it begins
+pub label-from : (s : List ℕ) (from len : ℕ) → labelAt s (from / 16) (from % 16) len ≡ take len (drop from s)
+label-from s from len = let e : 16 * (from / 16) + from % 16 ≡ from = omega arith in ap (λ (k : ℕ). take len (drop k s)) e
 
 -- what was filled fits
 pub filled-fits : {u b c : List ℕ} {r : ℕ} (len : ℕ) → length u ≤ len → Filled u b c r → length (take r c) ≤ len

@@ -4,10 +4,11 @@ ghost use mathlib.Core.Bool.{Bool, not};
 ghost use Prim.Native.Nat.{_+_, _*_, _≤_, _<_};
 ghost use lib.ListN.{length, take, drop};
 ghost use Rattle.sheet.specs.Head.{headAt, bytesOf};
-ghost use Rattle.sheet.specs.Bounds.{Bounded, Filled};
+ghost use Rattle.sheet.specs.Bounds.{Bounded};
 ghost use Rattle.buffers.specs.Writes.{side, Put};
 use sheet::Head;
 use sheet::label::fill;
+use sheet::label::label_at;
 use sheet::record::head_at;
 
 // The head of record r of a side.
@@ -75,19 +76,22 @@ pub(crate) fn put_head(work: &mut [u8], at: usize, h: Head)
     put(work, at, &bytes)
 }
 
-// Fills a buffer with a label of a side, and says how many bytes it has.
-fn fetch(sheet: &[u8], work: &[u8], swap: bool, from: usize, len: usize, buf: &mut [u8]) -> usize
-    requires { ⌜ len ≤ length (now buf) ⌝ }
-    ensures { λ r. ⌜ Filled (take len (drop from (side swap (now (sheet .entry)) (now (work .entry))))) (now (buf .entry)) (now (buf .exit)) r ⌝ }
+// Puts a label of the work space at another place of it, sixteen bytes at a time. All are read before one is written.
+fn put_own(work: &mut [u8], from: usize, len: usize, at: usize)
+    requires { ⌜ (from + len < 4294967296) × (at + len ≤ length (now work)) ⌝ }
+    ensures { λ _. ⌜ Put (now (work .entry)) (now (work .exit)) at (take len (drop from (now (work .entry)))) ⌝ }
 {
-    if swap {
-        fill(work, from, len, buf)
-    } else {
-        fill(sheet, from, len, buf)
+    let mut buf = [0u8; 16];
+    if len <= 16 {
+        let k = fill(&*work, from, len, &mut buf);
+        return put(work, at, &buf[..k]);
     }
+    let k = fill(&*work, from, 16, &mut buf);
+    put_own(work, from + 16, len - 16, at + 16);
+    put(work, at, &buf[..k])
 }
 
-// Puts a label of a side into the work space, sixteen bytes at a time. All are read before one is written.
+// Puts a label of a side into the work space.
 pub(crate) fn put_label(
     sheet: &[u8],
     work: &mut [u8],
@@ -96,15 +100,14 @@ pub(crate) fn put_label(
     len: usize,
     at: usize,
 )
-    requires { ⌜ (from + len < 4294967296) × (at + len ≤ length (now work)) ⌝ }
+    requires { ⌜ ((from < 1048576) × (len < 65536)) × (at + len ≤ length (now work)) ⌝ }
     ensures { λ _. ⌜ Put (now (work .entry)) (now (work .exit)) at (take len (drop from (side swap (now (sheet .entry)) (now (work .entry))))) ⌝ }
 {
-    let mut buf = [0u8; 16];
-    if len <= 16 {
-        let k = fetch(sheet, &*work, swap, from, len, &mut buf);
-        return put(work, at, &buf[..k]);
+    if len == 0 {
+        return;
     }
-    let k = fetch(sheet, &*work, swap, from, 16, &mut buf);
-    put_label(sheet, work, swap, from + 16, len - 16, at + 16);
-    put(work, at, &buf[..k])
+    if swap {
+        return put_own(work, from, len, at);
+    }
+    put(work, at, label_at(sheet, from / 16, from % 16, len))
 }
