@@ -5,6 +5,8 @@ use mathlib.Core.List.{List, [], _∷_, _++_}
 use mathlib.Core.Logic.{_⊎_, inl, inr, ⊎-elim}
 use Prim.Native.Nat.{ℕ, zero, suc, _+_, _*_, _-_, _<_, _≤_}
 use native.Mathlib.Omega.{arith}
+use types.Run.{OneOf, miss}
+use denote.Enum.Declared.{tagOf}
 use lib.ListN.{length, length-append}
 use Rattle.sheet.specs.Types.{Shape, Fields, end, field, count, ownLabels, labels}
 use Rattle.sheet.specs.Names.{namesDiffer}
@@ -19,6 +21,7 @@ use Rattle.buffers.specs.declared.Space.{Space}
 use Rattle.buffers.specs.declared.Spot.{Spot}
 use Rattle.buffers.specs.declared.Out.{Out}
 use Rattle.buffers.specs.declared.Out.the-variants.{Done, No, Full}
+use Rattle.buffers.proofs.Out.{the-type}
 use Rattle.buffers.proofs.Sources.{source-first, source-next}
 use Rattle.buffers.proofs.Frames.{stands-frame, wrote-frame, kept-trans, kept-wider, kept-self}
 use Rattle.buffers.proofs.Copying.{held-side}
@@ -180,3 +183,48 @@ module _ (space : Space) (s : List ℕ) (swap : Bool) (link : ℕ) (to : Spot) w
         chain-on (Done f) x k = rest-done x f k
         chain-on No x k = absurd (k .means)
         chain-on Full x k = rest-full x k
+
+-- the same, as the loop over a chain has it
+module _ (space : Space) (s : List ℕ) (swap : Bool) (link : ℕ) (to : Spot) (w : List ℕ) (room : Room w space) (h : Head) (eh : h ≡ headAt (side swap s w) link) (z : ¬ (link ≡ 0)) where
+  pub chain-stop : (v : List ℕ) (o : Out) → OneOf (1 ∷ 2 ∷ []) (tagOf the-type o) → CopiedRecord space (side swap s w) w v link to o → CopiedChain space (side swap s w) w v link to Full
+  chain-stop v (Done d) k c = absurd (miss (1 ∷ 2 ∷ []) 0 tt k)
+  chain-stop v No k c = absurd (c .means)
+  chain-stop v Full k c = chain-full space s swap link to w room h eh z v c
+
+  module _ (v : List ℕ) (d : Spot) (c : CopiedRecord space (side swap s w) w v link to (Done d)) where
+    pub chain-parts-stop : (u : List ℕ) (o : Out) → OneOf (1 ∷ 2 ∷ []) (tagOf the-type o) → CopiedChain space (side swap s v) v u (h .first) d o
+        → CopiedChain space (side swap s w) w u link to Full
+    chain-parts-stop u (Done e) k b = absurd (miss (1 ∷ 2 ∷ []) 0 tt k)
+    chain-parts-stop u No k b = absurd (b .means)
+    chain-parts-stop u Full k b = chain-parts-full space s swap link to w room h eh z v d c u b
+
+    -- nothing follows the record
+    pub chain-last : h .next ≡ 0 → (o : Out) (u : List ℕ) → CopiedChain space (side swap s v) v u (h .first) d o → CopiedChain space (side swap s w) w u link to o
+    chain-last q (Done e) u b = chain-on space s swap link to w room h eh z v d c u e b (Done e) u (chain-none space s swap (h .next) e u (b .grows .0) q)
+    chain-last q No u b = absurd (b .means)
+    chain-last q Full u b = chain-parts-full space s swap link to w room h eh z v d c u b
+
+    -- the record has no parts
+    pub chain-plain : h .first ≡ 0 → (o : Out) (x : List ℕ) → CopiedChain space (side swap s v) v x (h .next) d o → CopiedChain space (side swap s w) w x link to o
+    chain-plain q o x k = chain-on space s swap link to w room h eh z v d c v d (chain-none space s swap (h .first) d v (c .grows .0) q) o x k
+
+-- a turn of that loop: what is copied from link on gives what is copied from start on
+pub record Left (space : Space) (s : List ℕ) (swap : Bool) (start : ℕ) (to : Spot) (w₀ w : List ℕ) (link : ℕ) (spot : Spot) : Type 0 where
+  pub long : length w ≡ length w₀
+  pub room : Room w space
+  pub inside : Inside space spot
+  pub further : to .at ≤ spot .at
+  pub whole : (o : Out) (x : List ℕ) → CopiedChain space (side swap s w) w x link spot o → CopiedChain space (side swap s w₀) w₀ x start to o
+
+pub left-on : {space : Space} {s : List ℕ} {swap : Bool} {start : ℕ} {to : Spot} {w₀ w : List ℕ} {link : ℕ} {spot : Spot} → Left space s swap start to w₀ w link spot
+    → {v : List ℕ} {at label next : ℕ} {d : Spot} → Kept space w v at label → Inside space d → spot .at ≤ d .at
+    → ((o : Out) (x : List ℕ) → CopiedChain space (side swap s v) v x next d o → CopiedChain space (side swap s w) w x link spot o)
+    → Left space s swap start to w₀ v next d
+left-on l k i f g =
+    record {
+      long = k .long ∙ l .long;
+      room = room-kept k (l .room);
+      inside = i;
+      further = omega (arith, l .further);
+      whole = λ o x c. l .whole o x (g o x c);
+    }

@@ -188,36 +188,42 @@ fn copy_record(
     )
 }
 
-// Copies the chain that a link of a side leads to.
+// Copies the chain that a link of a side leads to. Where nothing follows a record, its parts are what is left.
 pub(crate) fn copy_fields(
     sheet: &[u8],
     work: &mut [u8],
     space: Space,
     swap: bool,
-    link: usize,
+    start: usize,
     to: Spot,
 ) -> Out
     requires { ⌜ Room (now work) space × Inside space to ⌝ }
-    ensures { λ o. ⌜ CopiedChain space (side swap (now (sheet .entry)) (now (work .entry))) (now (work .entry)) (now (work .exit)) link to o ⌝ }
+    ensures { λ o. ⌜ CopiedChain space (side swap (now (sheet .entry)) (now (work .entry))) (now (work .entry)) (now (work .exit)) start to o ⌝ }
 {
-    if link == 0 {
-        return Out::Done(to);
+    let mut link = start;
+    let mut spot = to;
+    while link != 0 {
+        let at = spot.at;
+        if space.n <= at {
+            return Out::Full;
+        }
+        let h = look(sheet, &*work, swap, link);
+        let Out::Done(d) = copy_record(sheet, work, space, swap, h, link, spot) else {
+            return Out::Full;
+        };
+        spot = d;
+        if h.next == 0 {
+            link = h.first;
+            continue;
+        }
+        link = h.next;
+        if h.first == 0 {
+            continue;
+        }
+        let Out::Done(e) = copy_fields(sheet, work, space, swap, h.first, d) else {
+            return Out::Full;
+        };
+        spot = e;
     }
-    let n = space.n;
-    let at = to.at;
-    if n <= at {
-        return Out::Full;
-    }
-    let h = look(sheet, &*work, swap, link);
-    let first = h.first;
-    let next = h.next;
-    match copy_record(sheet, work, space, swap, h, link, to) {
-        Out::Done(d) => match copy_fields(sheet, work, space, swap, first, d) {
-            Out::Done(e) => copy_fields(sheet, work, space, swap, next, e),
-            Out::No => Out::No,
-            Out::Full => Out::Full,
-        },
-        Out::No => Out::No,
-        Out::Full => Out::Full,
-    }
+    Out::Done(spot)
 }

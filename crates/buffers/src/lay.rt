@@ -163,7 +163,13 @@ pub fn copy_type(
     let h = look(sheet, &*work, swap, link);
     let first = h.first;
     match copy_head(sheet, work, space, swap, h, link, g, 0) {
-        Out::Done(d) => copy_fields(sheet, work, space, swap, first, d),
+        Out::Done(d) => {
+            if first == 0 {
+                Out::Done(d)
+            } else {
+                copy_fields(sheet, work, space, swap, first, d)
+            }
+        }
         Out::No => Out::No,
         Out::Full => Out::Full,
     }
