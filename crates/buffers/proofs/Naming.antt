@@ -1,11 +1,12 @@
 -- Fields that are fed by their names: on trees, and in the chains of two sources. Assumes nothing.
 use mathlib.Core.Path.{_≡_, refl, ap, ap₂, sym, subst, _∙_}
-use mathlib.Core.Bool.{Bool, true, false}
+use mathlib.Core.Bool.{Bool, true, false, not, _||_}
 use mathlib.Core.List.{List}
 use mathlib.Core.Option.{Option, none, some, Option·none-ne-some}
 use Prim.Native.Nat.{ℕ, suc, _+_, _<_, _≤_}
 use native.Mathlib.Omega.{arith}
-use lib.ListN.{length}
+use lib.ListN.{length, getD}
+use lib.Seq.{ext-getD}
 use lib.Dec.{eqb, eqb·suc-suc}
 use borrow.Author.Tests.{eq-eqb, ne-eqb}
 use Rattle.sheet.specs.Types.{Shape, Fields, end, field, arity, count, labels}
@@ -13,6 +14,7 @@ use Rattle.sheet.specs.Head.{headAt}
 use Rattle.sheet.specs.Read.{labelAt}
 use Rattle.sheet.specs.Names.{sameBytes, hasName, repeats, namesDiffer}
 use Rattle.sheet.specs.declared.Head.{Head}
+use Rattle.sheet.proofs.Bytewise.{same-self, same-equal}
 use Rattle.sheet.proofs.Tests.{never, and-fst, and-snd, or-fst, or-snd}
 use Rattle.coercion.specs.Data.{andThen}
 use Rattle.coercion.specs.Nested.{withName, byName, fieldsHaveSameNames}
@@ -20,7 +22,7 @@ use Rattle.coercion.proofs.Maybe.{if-some}
 use Rattle.coercion.proofs.Weights.{weigh, nothing, one, nameLength, zoneLength, records-weigh, labels-weigh, differ-apart, by-name}
 use Rattle.buffers.specs.Region.{Held}
 use Rattle.buffers.specs.Typed.{Chain}
-use Rattle.buffers.specs.Naming.{Missing, Present, Finds}
+use Rattle.buffers.specs.Naming.{Missing, Present, Finds, Tried, Guess}
 use Rattle.buffers.specs.declared.Space.{Space}
 use Rattle.buffers.proofs.Sources.{source-none, source-lower, link-inside, read-name}
 use Rattle.buffers.proofs.Chained.{held-next}
@@ -114,31 +116,66 @@ held-past : {space : Space} {s : List ℕ} {floor link r o up : ℕ} (t : Fields
 held-past end lo hi a = omega (arith, a .source .leads .is)
 held-past (field name nullable shape parts rest) lo hi a = omega (arith, link-inside (a .source))
 
+-- two strings of one length that agree from an index on
+abbrev pub Agree : List ℕ → List ℕ → ℕ → Type 0
+Agree a b i = (k : ℕ) → i ≤ k → k < length a → getD a k 0 ≡ getD b k 0
+
+pub agree-more : (a b : List ℕ) (i j : ℕ) → i ≤ j + 1 → getD a j 0 ≡ getD b j 0 → Agree a b i → Agree a b j
+agree-more a b i j h e f k lo hi = go (native.Mathlib.Decide.decLt j k)
+  where
+    go : Dec (j < k) → getD a k 0 ≡ getD b k 0
+    go (yes lt) = f k (omega arith) hi
+    go (no ge) =
+        let q : k ≡ j = omega arith in
+        rw q e
+
+pub agree-all : (a b : List ℕ) → length a ≡ length b → Agree a b 0 → true ≡ sameBytes a b
+agree-all a b e f =
+    let q : a ≡ b = ext-getD 0 a b e (λ k lt. f k (omega arith) lt) in
+    rw q (sym (same-self b))
+
+pub agree-not : (a b : List ℕ) (i : ℕ) → (getD a i 0 ≡ getD b i 0 → ⊥) → false ≡ sameBytes a b
+agree-not a b i n = go (sameBytes a b) refl
+  where
+    go : (t : Bool) → sameBytes a b ≡ t → false ≡ t
+    go false e = refl
+    go true e = absurd (n (ap (λ (x : List ℕ). getD x i 0) (same-equal a b e)))
+
+-- what the rest of a search says of the whole, in a buffer of n records
+abbrev pub Searched : ℕ → List ℕ → List ℕ → ℕ → ℕ → ℕ → Type 0
+Searched n s want start floor link = (space : Space) → n ≡ space .n → (found : ℕ) → Finds space s want floor link found → Finds space s want 0 start found
+
 -- the returns of the search
-module _ (space : Space) (s : List ℕ) (want : List ℕ) (floor link : ℕ) where
-  pub finds-none : link ≤ floor → Finds space s want floor link 0
+module _ (n : ℕ) (s : List ℕ) (want : List ℕ) (start floor link : ℕ) (q : Searched n s want start floor link) where
+  pub finds-none : link ≤ floor → (space : Space) → n ≡ space .n → Finds space s want 0 start 0
   unfolding hasName withName
-  finds-none h =
-      record {
+  finds-none h space en =
+      q space en 0
+      (record {
         missing =
             λ z r o up t a.
             subst (Missing want) (sym (source-none h (a .source))) (record { has = refl; takes = λ more. refl });
         present = λ p. absurd (omega arith);
-      }
+      })
 
   module _ (past : floor < link) where
-    pub finds-past : space .n ≤ link → Finds space s want floor link 0
-    finds-past h = record { missing = λ z r o up t a. absurd (held-past t past h a); present = λ p. absurd (omega arith) }
+    pub finds-past : n ≤ link → (space : Space) → n ≡ space .n → Finds space s want 0 start 0
+    finds-past h space en =
+        q space en 0 (record { missing = λ z r o up t a. absurd (held-past t past (omega arith) a); present = λ p. absurd (omega arith) })
 
     module _ (h : Head) (e : h ≡ headAt s link) where
-      pub finds-here : true ≡ sameBytes want (labelAt s (space .n) (h .name) (h .nlen)) → Finds space s want floor link link
+      same-is : {space : Space} {r o up : ℕ} {label : List ℕ} {nullable : Bool} {shape : Shape} {parts rest : Fields} {b : Bool} → n ≡ space .n
+          → b ≡ sameBytes want (labelAt s n (h .name) (h .nlen)) → Held space s floor link r o up (field label nullable shape parts rest) → sameBytes want label ≡ b
+      same-is en b a = sym (b ∙ ap (λ (k : ℕ). sameBytes want (labelAt s k (h .name) (h .nlen))) en ∙ ap (sameBytes want) (read-name (a .source) h e))
+
+      pub finds-here : true ≡ sameBytes want (labelAt s n (h .name) (h .nlen)) → (space : Space) → n ≡ space .n → Finds space s want 0 start link
       unfolding hasName withName
-      finds-here b = record { missing = λ z. absurd (omega arith); present = λ p. go }
+      finds-here b space en = q space en link (record { missing = λ z. absurd (omega arith); present = λ p. go })
         where
           go : (r o up : ℕ) (t : Fields) → Held space s floor link r o up t → Present space s link want t
           go r o up end a = absurd (omega (arith, a .source .leads .is))
           go r o up (field label nullable shape parts rest) a =
-              let q : sameBytes want label ≡ true = sym (b ∙ ap (sameBytes want) (read-name (a .source) h e)) in
+              let q = same-is en b a in
               record {
                 label = label;
                 nullable = nullable;
@@ -150,22 +187,21 @@ module _ (space : Space) (s : List ℕ) (want : List ℕ) (floor link : ℕ) whe
                 takes = λ more. rw q;
               }
 
-      pub finds-on : (found : ℕ) → false ≡ sameBytes want (labelAt s (space .n) (h .name) (h .nlen)) → Finds space s want link (h .next) found
-          → Finds space s want floor link found
+      pub finds-on : false ≡ sameBytes want (labelAt s n (h .name) (h .nlen)) → Searched n s want start link (h .next)
       unfolding hasName withName
-      finds-on found b f = record { missing = lacks; present = has }
+      finds-on b space en found f = q space en found (record { missing = lacks; present = has })
         where
           lacks : found ≡ 0 → (r o up : ℕ) (t : Fields) → Held space s floor link r o up t → Missing want t
           lacks z r o up end a = absurd (omega (arith, a .source .leads .is))
           lacks z r o up (field label nullable shape parts rest) a =
-              let q : sameBytes want label ≡ false = sym (b ∙ ap (sameBytes want) (read-name (a .source) h e)) in
+              let q = same-is en b a in
               let m = f .missing z _ _ _ rest (held-next a h e) in
               record { has = rw q (m .has); takes = λ more. rw q (m .takes more) }
 
           has : 0 < found → (r o up : ℕ) (t : Fields) → Held space s floor link r o up t → Present space s found want t
           has p r o up end a = absurd (omega (arith, a .source .leads .is))
           has p r o up (field label nullable shape parts rest) a =
-              let q : sameBytes want label ≡ false = sym (b ∙ ap (sameBytes want) (read-name (a .source) h e)) in
+              let q = same-is en b a in
               let m = f .present p _ _ _ rest (held-next a h e) in
               record {
                 label = m .label;
@@ -185,29 +221,103 @@ Asks F space s t floor l r b = (a o up : ℕ) (lf rf : Fields) → Held space s 
 pub asks-past : (F : Fields → Fields → Bool) (space : Space) (s t : List ℕ) (floor l r : ℕ) (b : Bool) → floor < l → space .n ≤ l → Asks F space s t floor l r b
 asks-past F space s t floor l r b lo hi a o up lf rf x y = absurd (held-past lf lo hi x)
 
--- the returns of the test for names
-module _ (space : Space) (s t : List ℕ) (floor l r : ℕ) where
-  pub names-none : l ≤ floor → Asks fieldsHaveSameNames space s t floor l r true
+not-is : {c : Bool} (b : Bool) → not b ≡ c → b ≡ not c
+not-is true h = ap not h
+not-is false h = ap not h
+
+or-right : (a : Bool) {b : Bool} → b ≡ true → a || b ≡ true
+or-right true h = refl
+or-right false h = h
+
+-- records of a chain that are tried: its first, and the next
+pub guess-first : {space : Space} {s : List ℕ} {link : ℕ} {t : Fields} → Chain space s link t → Guess space s link t
+guess-first {t = t} c p = record { fields = t; chain = c; among = λ name h. h }
+
+pub guess-next : (space : Space) (s : List ℕ) (link : ℕ) (h : Head) → h ≡ headAt s link → 0 < link → (t : Fields) → Guess space s link t → Guess space s (h .next) t
+unfolding hasName
+guess-next space s link h e p t f q = go (f p .fields) (f p .chain) (f p .among)
+  where
+    go : (u : Fields) → Chain space s link u → ((name : List ℕ) → hasName name u ≡ true → hasName name t ≡ true) → Tried space s (h .next) t
+    go end c a = absurd (omega (arith, c .held .source .leads .is))
+    go (field label nullable shape parts rest) c a =
+        record {
+          fields = rest;
+          chain = record { floor = link; at = _; label = _; up = _; held = held-next (c .held) h e };
+          among = λ name k. a name (or-right (sameBytes name label) k);
+        }
+
+-- the returns of the test for one name
+module _ (n : ℕ) (t want : List ℕ) (r j : ℕ) (h : Head) where
+  abbrev pub Among : Bool → Type 0
+  Among b = (space : Space) (rf : Fields) → n ≡ space .n → h ≡ headAt t j → Chain space t r rf → Guess space t j rf → b ≡ hasName want rf
+
+  pub among-here : 0 < j → true ≡ sameBytes want (labelAt t n (h .name) (h .nlen)) → Among true
+  unfolding hasName
+  among-here p b space rf en e y f = go (f p .fields) (f p .chain) (f p .among)
+    where
+      go : (u : Fields) → Chain space t j u → ((name : List ℕ) → hasName name u ≡ true → hasName name rf ≡ true) → true ≡ hasName want rf
+      go end c a = absurd (omega (arith, c .held .source .leads .is))
+      go (field label nullable shape parts rest) c a =
+          let q : sameBytes want label ≡ true =
+          sym (b ∙ ap (λ (k : ℕ). sameBytes want (labelAt t k (h .name) (h .nlen))) en ∙ ap (sameBytes want) (read-name (c .held .source) h e)) in
+          sym (a want (rw q))
+
+  pub among-found : (found : ℕ) → ((space : Space) → n ≡ space .n → Finds space t want 0 r found) → Among (not (eqb found 0))
+  among-found found f space rf en e y k = go (native.Mathlib.Decide.decLt 0 found)
+    where
+      go : Dec (0 < found) → not (eqb found 0) ≡ hasName want rf
+      go (yes p) = ap not (ne-eqb found 0 (λ z. absurd (omega arith))) ∙ sym (f space en .present p _ _ _ rf (chain-held y) .has)
+      go (no p) = ap not (eq-eqb found 0 (omega arith)) ∙ sym (f space en .missing (omega arith) _ _ _ rf (chain-held y) .has)
+
+-- the test for all names, where record j of the right is tried first
+abbrev pub AsksNames : Space → List ℕ → List ℕ → ℕ → ℕ → ℕ → ℕ → Bool → Type 0
+AsksNames space s t floor l r j b =
+    (a o up : ℕ) (lf rf : Fields) → Held space s floor l a o up lf → Chain space t r rf → Guess space t j rf → b ≡ fieldsHaveSameNames lf rf
+
+-- what the rest of the test says of the whole, in buffers of n records
+abbrev pub Named : ℕ → List ℕ → List ℕ → ℕ → ℕ → ℕ → ℕ → ℕ → ℕ → Type 0
+Named n s t floor l r low i j =
+    (space : Space) → n ≡ space .n → (b : Bool) → AsksNames space s t low i r j b → Asks fieldsHaveSameNames space s t floor l r b
+
+module _ (n : ℕ) (s t : List ℕ) (floor l r low i j : ℕ) (q : Named n s t floor l r low i j) where
+  pub names-none : i ≤ low → (space : Space) → n ≡ space .n → Asks fieldsHaveSameNames space s t floor l r true
   unfolding fieldsHaveSameNames
-  names-none h a o up end rf x y = refl
-  names-none h a o up (field name nullable shape parts rest) rf x y = absurd (omega (arith, x .source .leads .is, x .source .leads .above))
+  names-none h space en = q space en true go
+    where
+      go : AsksNames space s t low i r j true
+      go a o up end rf x y k = refl
+      go a o up (field name nullable shape parts rest) rf x y k = absurd (omega (arith, x .source .leads .is, x .source .leads .above))
 
-  module _ (past : floor < l) (g : Head) (e : g ≡ headAt s l) (found : ℕ) (f : Finds space t (labelAt s (space .n) (g .name) (g .nlen)) 0 r found) where
-    has-is : {a o up : ℕ} {name : List ℕ} {nullable : Bool} {shape : Shape} {parts rest : Fields} {b : Bool} (rf : Fields)
-        → Held space s floor l a o up (field name nullable shape parts rest) → hasName (labelAt s (space .n) (g .name) (g .nlen)) rf ≡ b → hasName name rf ≡ b
-    has-is rf x h = sym (ap (λ (k : List ℕ). hasName k rf) (read-name (x .source) g e)) ∙ h
+  module _ (past : low < i) where
+    pub names-past : n ≤ i → (space : Space) → n ≡ space .n → Asks fieldsHaveSameNames space s t floor l r false
+    names-past h space en = q space en false (λ a o up lf rf x y k. absurd (held-past lf past (omega arith) x))
 
-    pub names-lack : found ≡ 0 → Asks fieldsHaveSameNames space s t floor l r false
-    unfolding fieldsHaveSameNames
-    names-lack z a o up end rf x y = absurd (omega (arith, x .source .leads .is))
-    names-lack z a o up (field name nullable shape parts rest) rf x y = rw (has-is rf x (f .missing z _ _ _ rf (chain-held y) .has))
+    module _ (g : Head) (e : g ≡ headAt s i) (want : List ℕ) (ew : want ≡ labelAt s n (g .name) (g .nlen)) (h : Head) (eh : h ≡ headAt t j) (b : Bool)
+        (f : Among n t want r j h b) where
+      has-is : {space : Space} {a o up : ℕ} {name : List ℕ} {nullable : Bool} {shape : Shape} {parts rest : Fields} (rf : Fields) → n ≡ space .n
+          → Held space s low i a o up (field name nullable shape parts rest) → Chain space t r rf → Guess space t j rf → b ≡ hasName name rf
+      has-is {space} rf en x y k =
+          f space rf en eh y k
+          ∙ ap (λ (m : List ℕ). hasName m rf) ew
+          ∙ ap (λ (m : ℕ). hasName (labelAt s m (g .name) (g .nlen)) rf) en
+          ∙ ap (λ (m : List ℕ). hasName m rf) (read-name (x .source) g e)
 
-    pub names-on : (b : Bool) → ¬ (found ≡ 0) → Asks fieldsHaveSameNames space s t l (g .next) r b → Asks fieldsHaveSameNames space s t floor l r b
-    unfolding fieldsHaveSameNames
-    names-on b z k a o up end rf x y = absurd (omega (arith, x .source .leads .is))
-    names-on b z k a o up (field name nullable shape parts rest) rf x y =
-        let p : 0 < found = omega arith in
-        rw (has-is rf x (f .present p _ _ _ rf (chain-held y) .has)) (k _ _ _ rest rf (held-next x g e) y)
+      pub names-lack : not b ≡ true → (space : Space) → n ≡ space .n → Asks fieldsHaveSameNames space s t floor l r false
+      unfolding fieldsHaveSameNames
+      names-lack z space en = q space en false go
+        where
+          go : AsksNames space s t low i r j false
+          go a o up end rf x y k = absurd (omega (arith, x .source .leads .is))
+          go a o up (field name nullable shape parts rest) rf x y k = rw (sym (has-is rf en x y k) ∙ not-is b z)
+
+      pub names-on : not b ≡ false → (j′ : ℕ) → ((space : Space) (rf : Fields) → Guess space t j rf → Guess space t j′ rf) → Named n s t floor l r i (g .next) j′
+      unfolding fieldsHaveSameNames
+      names-on z j′ turn space en v m = q space en v go
+        where
+          go : AsksNames space s t low i r j v
+          go a o up end rf x y k = absurd (omega (arith, x .source .leads .is))
+          go a o up (field name nullable shape parts rest) rf x y k =
+              rw (sym (has-is rf en x y k) ∙ not-is b z) (m _ _ _ rest rf (held-next x g e) y (turn space rf k))
 
 -- the returns of the test for arities
 abbrev pub sameArity : Fields → Fields → Bool
@@ -218,6 +328,10 @@ eqb-next m n =
     let e : 1 + m ≡ suc m = omega arith in
     let f : 1 + n ≡ suc n = omega arith in
     ap₂ eqb e f ∙ eqb·suc-suc m n
+
+-- what the rest of the test says of the whole, in buffers of n records
+abbrev pub Counted : ℕ → List ℕ → List ℕ → ℕ → ℕ → ℕ → ℕ → ℕ → ℕ → Type 0
+Counted n s t floor l r low i j = (space : Space) → n ≡ space .n → (b : Bool) → Asks sameArity space s t low i j b → Asks sameArity space s t floor l r b
 
 module _ (space : Space) (s t : List ℕ) (floor l r : ℕ) where
   pub arity-none : l ≤ floor → Asks sameArity space s t floor l r (eqb r 0)

@@ -35,6 +35,16 @@ pub record Finds (space : Space) (s : List ℕ) (name : List ℕ) (floor link fo
   pub missing : found ≡ 0 → (r o up : ℕ) (t : Fields) → Held space s floor link r o up t → Missing name t
   pub present : 0 < found → (r o up : ℕ) (t : Fields) → Held space s floor link r o up t → Present space s found name t
 
+-- a record of a chain, whose name is tried before the chain is searched
+pub record Tried (space : Space) (s : List ℕ) (link : ℕ) (t : Fields) : Type 0 where
+  pub fields : Fields
+  pub chain : Chain space s link fields
+  pub among : (name : List ℕ) → hasName name fields ≡ true → hasName name t ≡ true
+
+-- a link that is 0, or leads to a record of a chain
+abbrev pub Guess : Space → List ℕ → ℕ → Fields → Type 0
+Guess space s link t = 0 < link → Tried space s link t
+
 -- the row of a field whose nullability is that of two heads
 abbrev pub rowOf : ℕ → Head → Head → ℕ → Row
 rowOf partner a b next = record { partner = partner; nullable = nullableIn a || nullableIn b; next = next }

@@ -6,14 +6,15 @@ ghost use lib.Dec.{eqb};
 ghost use Rattle.sheet.specs.Types.{Fields, arity};
 ghost use Rattle.sheet.specs.Head.{headAt};
 ghost use Rattle.sheet.specs.Read.{labelAt};
-ghost use Rattle.sheet.specs.Names.{sameBytes};
+ghost use Rattle.sheet.specs.Names.{sameBytes, hasName};
 ghost use Rattle.sheet.specs.Bounds.{Bounded};
 ghost use Rattle.coercion.specs.Nested.{fieldsHaveSameNames};
 ghost use Rattle.buffers.specs.Writes.{side};
 ghost use Rattle.buffers.specs.Region.{Held};
 ghost use Rattle.buffers.specs.Feeds.{RowIs};
 ghost use Rattle.buffers.specs.Typed.{Chain};
-ghost use Rattle.buffers.specs.Naming.{Finds, rowOf};
+ghost use Rattle.buffers.specs.declared.Space.{Space};
+ghost use Rattle.buffers.specs.Naming.{Finds, Guess, rowOf};
 use crate::Feed;
 use crate::Row;
 use crate::Space;
@@ -21,45 +22,92 @@ use crate::copy::is_nullable;
 use crate::write::look;
 use kinds::tests::either;
 use sheet::Head;
-use sheet::label::same_name;
+use sheet::label::label_at;
+use sheet::record::head_at;
 
-// Whether the name of a record of a side is that of a record of the other.
-fn same_names(sheet: &[u8], work: &[u8], n: usize, swap: bool, g: Head, h: Head) -> bool
-    requires { ⌜ (n < 65536) × (Bounded g × Bounded h) ⌝ }
-    ensures { λ r. ⌜ r ≡ sameBytes (labelAt (side swap (now (sheet .entry)) (now (work .entry))) n (g .name) (g .nlen)) (labelAt (side (not swap) (now (sheet .entry)) (now (work .entry))) n (h .name) (h .nlen)) ⌝ }
+// Whether two byte strings are the same. Names of one Struct mostly differ at their ends, so these are compared first.
+fn same(a: &[u8], b: &[u8]) -> bool
+    ensures { λ r. ⌜ r ≡ sameBytes (now (a .entry)) (now (b .entry)) ⌝ }
 {
-    if swap {
-        same_name(work, n, g, sheet, n, h)
-    } else {
-        same_name(sheet, n, g, work, n, h)
+    let mut i = a.len();
+    if i != b.len() {
+        return false;
     }
+    while 0 < i {
+        i -= 1;
+        if a[i] != b[i] {
+            return false;
+        }
+    }
+    true
 }
 
-// The first field of the chain at a link of the other side that has the name of record g of a side; 0 where there is none.
-fn find(
-    sheet: &[u8],
-    work: &[u8],
-    space: Space,
-    swap: bool,
-    g: Head,
-    floor: usize,
-    link: usize,
-) -> usize
-    requires { ⌜ (space .n ≤ 1024) × Bounded g ⌝ }
-    ensures { λ j. ⌜ Finds space (side (not swap) (now (sheet .entry)) (now (work .entry))) (labelAt (side swap (now (sheet .entry)) (now (work .entry))) (space .n) (g .name) (g .nlen)) floor link j ⌝ }
+// Whether a record has a name.
+fn is_named(t: &[u8], n: usize, h: Head, want: &[u8]) -> bool
+    requires { ⌜ (n < 65536) × Bounded h ⌝ }
+    ensures { λ r. ⌜ r ≡ sameBytes (now (want .entry)) (labelAt (now (t .entry)) n (h .name) (h .nlen)) ⌝ }
 {
-    if link <= floor {
-        return 0;
+    same(want, label_at(t, n, h.name, h.nlen))
+}
+
+// The first field of the chain at a link that has a name; 0 where there is none.
+fn find(t: &[u8], n: usize, want: &[u8], link: usize) -> usize
+    requires { ⌜ n ≤ 1024 ⌝ }
+    ensures { λ j. ⌜ ((space : Space) → n ≡ space .n → Finds space (now (t .entry)) (now (want .entry)) 0 link j) ⌝ }
+{
+    let mut floor = 0;
+    let mut j = link;
+    while floor < j {
+        if n <= j {
+            return 0;
+        }
+        let h = head_at(t, j);
+        if is_named(t, n, h, want) {
+            return j;
+        }
+        floor = j;
+        j = h.next;
     }
-    let n = space.n;
-    if n <= link {
-        return 0;
+    0
+}
+
+// Whether a field of the chain at r has a name. Record j of that chain, whose head is h, is tried first; 0 stands for none.
+fn is_among(t: &[u8], n: usize, want: &[u8], r: usize, j: usize, h: Head) -> bool
+    requires { ⌜ (n ≤ 1024) × Bounded h ⌝ }
+    ensures { λ b. ⌜ ((space : Space) (rf : Fields) → n ≡ space .n → h ≡ headAt (now (t .entry)) j → Chain space (now (t .entry)) r rf → Guess space (now (t .entry)) j rf → b ≡ hasName (now (want .entry)) rf) ⌝ }
+{
+    if 0 < j {
+        if is_named(t, n, h, want) {
+            return true;
+        }
     }
-    let h = look(sheet, work, !swap, link);
-    if same_names(sheet, work, n, swap, g, h) {
-        return link;
+    find(t, n, want, r) != 0
+}
+
+// Whether each name of the chain at a link of s is one of the chain at a link of t. Names mostly stand in one order, so the field at the same place is tried first.
+fn are_among(s: &[u8], t: &[u8], n: usize, floor: usize, l: usize, r: usize) -> bool
+    requires { ⌜ n ≤ 1024 ⌝ }
+    ensures { λ b. ⌜ ((space : Space) → n ≡ space .n → (a o up : ℕ) (lf rf : Fields) → Held space (now (s .entry)) floor l a o up lf → Chain space (now (t .entry)) r rf → b ≡ fieldsHaveSameNames lf rf) ⌝ }
+{
+    let mut low = floor;
+    let mut i = l;
+    let mut j = r;
+    while low < i {
+        if n <= i {
+            return false;
+        }
+        let g = head_at(s, i);
+        let h = head_at(t, j);
+        if !is_among(t, n, label_at(s, n, g.name, g.nlen), r, j, h) {
+            return false;
+        }
+        low = i;
+        i = g.next;
+        if 0 < j {
+            j = h.next;
+        }
     }
-    find(sheet, work, space, swap, g, link, h.next)
+    true
 }
 
 // Whether each name of the chain at a link of a side is one of the chain at a link of the other.
@@ -75,18 +123,32 @@ pub fn have_same_names(
     requires { ⌜ space .n ≤ 1024 ⌝ }
     ensures { λ b. ⌜ ((a o up : ℕ) (lf rf : Fields) → Held space (side swap (now (sheet .entry)) (now (work .entry))) floor l a o up lf → Chain space (side (not swap) (now (sheet .entry)) (now (work .entry))) r rf → b ≡ fieldsHaveSameNames lf rf) ⌝ }
 {
-    if l <= floor {
-        return true;
+    if swap {
+        are_among(work, sheet, space.n, floor, l, r)
+    } else {
+        are_among(sheet, work, space.n, floor, l, r)
     }
-    let n = space.n;
-    if n <= l {
-        return false;
+}
+
+// Whether the chains at a link of s and at one of t have as many fields.
+fn are_as_many(s: &[u8], t: &[u8], n: usize, floor: usize, l: usize, r: usize) -> bool
+    ensures { λ b. ⌜ ((space : Space) → n ≡ space .n → (a o up : ℕ) (lf rf : Fields) → Held space (now (s .entry)) floor l a o up lf → Chain space (now (t .entry)) r rf → b ≡ eqb (arity lf) (arity rf)) ⌝ }
+{
+    let mut low = floor;
+    let mut i = l;
+    let mut j = r;
+    while low < i {
+        if n <= i {
+            return false;
+        }
+        if j == 0 {
+            return false;
+        }
+        low = i;
+        i = head_at(s, i).next;
+        j = head_at(t, j).next;
     }
-    let g = look(sheet, work, swap, l);
-    if find(sheet, work, space, swap, g, 0, r) == 0 {
-        return false;
-    }
-    have_same_names(sheet, work, space, swap, l, g.next, r)
+    j == 0
 }
 
 // Whether the chains at two links have as many fields.
@@ -101,19 +163,24 @@ pub fn same_arity(
 ) -> bool
     ensures { λ b. ⌜ ((a o up : ℕ) (lf rf : Fields) → Held space (side swap (now (sheet .entry)) (now (work .entry))) floor l a o up lf → Chain space (side (not swap) (now (sheet .entry)) (now (work .entry))) r rf → b ≡ eqb (arity lf) (arity rf)) ⌝ }
 {
-    if l <= floor {
-        return r == 0;
+    if swap {
+        are_as_many(work, sheet, space.n, floor, l, r)
+    } else {
+        are_as_many(sheet, work, space.n, floor, l, r)
     }
+}
+
+// The record of the other side that has the name of record x of a side, in the chain at a link; 0 where there is none.
+fn partner(sheet: &[u8], work: &[u8], space: Space, swap: bool, x: Head, r: usize) -> usize
+    requires { ⌜ (space .n ≤ 1024) × Bounded x ⌝ }
+    ensures { λ j. ⌜ Finds space (side (not swap) (now (sheet .entry)) (now (work .entry))) (labelAt (side swap (now (sheet .entry)) (now (work .entry))) (space .n) (x .name) (x .nlen)) 0 r j ⌝ }
+{
     let n = space.n;
-    if n <= l {
-        return false;
+    if swap {
+        find(sheet, n, label_at(work, n, x.name, x.nlen), r)
+    } else {
+        find(work, n, label_at(sheet, n, x.name, x.nlen), r)
     }
-    if r == 0 {
-        return false;
-    }
-    let g = look(sheet, work, swap, l);
-    let h = look(sheet, work, !swap, r);
-    same_arity(sheet, work, space, swap, l, g.next, h.next)
 }
 
 // The row of a field whose type and nullability come from one record of the right, or from two.
@@ -132,7 +199,7 @@ fn named_row(sheet: &[u8], work: &[u8], space: Space, swap: bool, x: Head, r: us
     requires { ⌜ (space .n ≤ 1024) × Bounded x ⌝ }
     ensures { λ o. ⌜ ((l p : ℕ) → x ≡ headAt (side swap (now (sheet .entry)) (now (work .entry))) l → RowIs space swap (now (sheet .entry)) (now (work .entry)) Feed.Name l r p o) ⌝ }
 {
-    let j = find(sheet, work, space, swap, x, 0, r);
+    let j = partner(sheet, work, space, swap, x, r);
     let h = look(sheet, work, !swap, j);
     row_of(j, x, h, 0)
 }
@@ -155,7 +222,7 @@ fn named_place(
     if p == 0 {
         return row_of(0, x, y, next);
     }
-    row_of(find(sheet, work, space, swap, x, 0, r), x, y, next)
+    row_of(partner(sheet, work, space, swap, x, r), x, y, next)
 }
 
 // What feeds the field at a link of the left.

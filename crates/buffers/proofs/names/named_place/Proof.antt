@@ -4,7 +4,7 @@ use Rattle.buffers.proofs.names.named_place.Statement.{statement}
 use Rattle.buffers.proofs.names.named_place.Tie as tie
 use Rattle.buffers.proofs.names.named_place.Reads as reads
 use Rattle.buffers.proofs.names.named_place.Lts as lts
-use Rattle.buffers.proofs.names.find.Reads as find-reads
+use Rattle.buffers.proofs.names.partner.Reads as partner-reads
 use Rattle.buffers.proofs.names.row_of.Reads as row-of-reads
 
 -- src/names.rt:155:9
@@ -17,8 +17,8 @@ returns c =
     λ l ex ey. row-no-place _ (c .before .before .before .before .args .swap) _ _ l _ _ ex _ (c .before .before .before .before .args .y) (c .before .if1 .taken) (c .row-of .ensures)
 
 -- src/names.rt:157:12
-find-requires : tie.Need-find-requires
-find-requires c κs = search needs
+partner-requires : tie.Need-partner-requires
+partner-requires c κs = search needs
 
 -- src/names.rt:157:5
 row-of-requires-2 : tie.Need-row-of-requires-2
@@ -27,8 +27,8 @@ row-of-requires-2 c κs = search needs
 -- src/names.rt:140:1
 returns-2 : tie.Need-returns-2
 returns-2 c =
-    λ l ex ey. row-named-place _ (c .before .before .before .before .before .args .swap) _ _ l _ _ ex _ (c .before .find .ensures) _ _ ey (c .before .before .if1 .left) (c .row-of2 .ensures)
+    λ l ex ey. row-named-place _ (c .before .before .before .before .before .args .swap) _ _ l _ _ ex _ (c .before .partner .ensures) _ _ ey (c .before .before .if1 .left) (c .row-of2 .ensures)
 
 pub named-place-spec : {M : Type 1} → statement M
 named-place-spec =
-    tie.close (tie.spec row-of-requires returns find-requires row-of-requires-2 returns-2)
+    tie.close (tie.spec row-of-requires returns partner-requires row-of-requires-2 returns-2)

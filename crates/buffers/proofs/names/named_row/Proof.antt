@@ -4,13 +4,13 @@ use Rattle.buffers.proofs.names.named_row.Statement.{statement}
 use Rattle.buffers.proofs.names.named_row.Tie as tie
 use Rattle.buffers.proofs.names.named_row.Reads as reads
 use Rattle.buffers.proofs.names.named_row.Lts as lts
-use Rattle.buffers.proofs.names.find.Reads as find-reads
+use Rattle.buffers.proofs.names.partner.Reads as partner-reads
 use Rattle.buffers.proofs.names.row_of.Reads as row-of-reads
 use Rattle.buffers.proofs.write.look.Reads as look-reads
 
 -- src/names.rt:134:9
-find-requires : tie.Need-find-requires
-find-requires c κs = search needs
+partner-requires : tie.Need-partner-requires
+partner-requires c κs = search needs
 
 -- src/names.rt:135:9
 look-requires : tie.Need-look-requires
@@ -23,7 +23,7 @@ row-of-requires c κs = search needs
 -- src/names.rt:130:1
 returns : tie.Need-returns
 returns c =
-    λ l p ex. row-named _ (c .before .before .before .before .before .args .swap) _ _ l _ _ ex _ (c .before .before .find .ensures) p _ (c .before .look .ensures .0) (c .row-of .ensures)
+    λ l p ex. row-named _ (c .before .before .before .before .before .args .swap) _ _ l _ _ ex _ (c .before .before .partner .ensures) p _ (c .before .look .ensures .0) (c .row-of .ensures)
 
 pub named-row-spec : {M : Type 1} → statement M
-named-row-spec = tie.close (tie.spec find-requires look-requires row-of-requires returns)
+named-row-spec = tie.close (tie.spec partner-requires look-requires row-of-requires returns)
