@@ -1,6 +1,7 @@
 -- Fields that are fed by their names: on trees, and in the chains of two sources. Assumes nothing.
 use mathlib.Core.Path.{_≡_, refl, ap, ap₂, sym, subst, _∙_}
-use mathlib.Core.Bool.{Bool, true, false, not, _||_}
+use mathlib.Core.Bool.{Bool, true, false, _||_}
+use mathlib.Core.Logic.{inl, inr}
 use mathlib.Core.List.{List}
 use mathlib.Core.Option.{Option, none, some, Option·none-ne-some}
 use Prim.Native.Nat.{ℕ, suc, _+_, _<_, _≤_}
@@ -22,7 +23,9 @@ use Rattle.coercion.proofs.Maybe.{if-some}
 use Rattle.coercion.proofs.Weights.{weigh, nothing, one, nameLength, zoneLength, records-weigh, labels-weigh, differ-apart, by-name}
 use Rattle.buffers.specs.Region.{Held}
 use Rattle.buffers.specs.Typed.{Chain}
-use Rattle.buffers.specs.Naming.{Missing, Present, Finds, Tried, Guess}
+use Rattle.buffers.specs.Feeds.{EndOf}
+use Rattle.buffers.specs.Source.{Source}
+use Rattle.buffers.specs.Naming.{Missing, Picks, Finds, Tried, Guess}
 use Rattle.buffers.specs.declared.Space.{Space}
 use Rattle.buffers.proofs.Sources.{source-none, source-lower, link-inside, read-name}
 use Rattle.buffers.proofs.Chained.{held-next}
@@ -141,6 +144,73 @@ agree-not a b i n = go (sameBytes a b) refl
     go false e = refl
     go true e = absurd (n (ap (λ (x : List ℕ). getD x i 0) (same-equal a b e)))
 
+or-right : (a : Bool) {b : Bool} → b ≡ true → a || b ≡ true
+or-right true h = refl
+or-right false h = h
+
+-- a chain is its own end, and so is what stands behind the first field of an end
+pub end-self : (t : Fields) → EndOf t t
+end-self end = refl
+end-self (field name nullable shape parts rest) = inl refl
+
+no-field : {A : Type 0} {name : List ℕ} {nullable : Bool} {shape : Shape} {parts rest : Fields} → field name nullable shape parts rest ≡ end → A
+unfolding arity
+no-field {rest = rest} e = let q : 1 + arity rest ≡ 0 = ap (λ (x : Fields). arity x) e in absurd (omega arith)
+
+module _ (name : List ℕ) (nullable : Bool) (shape : Shape) (parts rest : Fields) where
+  pub end-next : (t : Fields) → EndOf (field name nullable shape parts rest) t → EndOf rest t
+  end-next end e = no-field e
+  end-next (field n b s p q) (inl e) = subst (EndOf rest) e (inr (end-self rest))
+  end-next (field n b s p q) (inr k) = inr (end-next q k)
+
+  -- the first field of an end is one of the chain, and the one that its name takes where no two have one
+  pub end-has : (t : Fields) → EndOf (field name nullable shape parts rest) t → hasName name t ≡ true
+  unfolding hasName
+  end-has end e = no-field e
+  end-has (field n b s p q) (inl e) = subst (λ (x : Fields). hasName name x ≡ true) e (rw (same-self name))
+  end-has (field n b s p q) (inr k) = or-right (sameBytes name n) (end-has q k)
+
+  pub end-takes : (t : Fields) → EndOf (field name nullable shape parts rest) t → repeats t ≡ false → (more : Fields) → withName name t more ≡ some (field name nullable shape parts more)
+  unfolding withName repeats
+  end-takes end e d more = no-field e
+  end-takes (field n b s p q) (inl e) d more = subst (λ (x : Fields). withName name x more ≡ some (field name nullable shape parts more)) e (rw (same-self name))
+  end-takes (field n b s p q) (inr k) d more = rw (other (sameBytes name n) refl) (end-takes q k (or-snd (hasName n q) (repeats q) d) more)
+    where
+      other : (t : Bool) → sameBytes name n ≡ t → sameBytes name n ≡ false
+      other false e = e
+      other true e =
+          never (sym (or-fst (hasName n q) (repeats q) d) ∙ sym (ap (λ (x : List ℕ). hasName x q) (same-equal name n e)) ∙ end-has q k)
+
+-- the name of a record, in a buffer of n records
+module _ (n : ℕ) (s want : List ℕ) (link : ℕ) (h : Head) (e : h ≡ headAt s link) where
+  pub name-is : {b : Bool} → b ≡ sameBytes want (labelAt s n (h .name) (h .nlen)) → (space : Space) → n ≡ space .n
+      → {floor r o up : ℕ} {label : List ℕ} {nullable : Bool} {shape : Shape} {parts rest : Fields}
+      → Source s (space .n) floor link r o up (field label nullable shape parts rest) → sameBytes want label ≡ b
+  name-is b space en a =
+      sym (b ∙ ap (λ (k : ℕ). sameBytes want (labelAt s k (h .name) (h .nlen))) en ∙ ap (sameBytes want) (read-name a h e))
+
+  -- a record that has the name, at an end of a chain
+  pub picks-here : {floor : ℕ} → floor < link → true ≡ sameBytes want (labelAt s n (h .name) (h .nlen)) → (space : Space) → n ≡ space .n
+      → {label : List ℕ} {nullable : Bool} {shape : Shape} {parts rest t : Fields} → Chain space s link (field label nullable shape parts rest)
+      → EndOf (field label nullable shape parts rest) t → Picks space s want t link
+  picks-here past b space en {label} {nullable} {shape} {parts} {rest} {t} c k =
+      let q : want ≡ label = same-equal want label (name-is b space en (c .held .source)) in
+      record {
+        missing = λ z. absurd (omega arith);
+        present =
+            λ p.
+            record {
+              label = label;
+              nullable = nullable;
+              shape = shape;
+              parts = parts;
+              rest = rest;
+              chain = c;
+              has = rw q (end-has label nullable shape parts rest t k);
+              takes = λ d more. rw q (end-takes label nullable shape parts rest t k d more);
+            };
+      }
+
 -- what the rest of a search says of the whole, in a buffer of n records
 abbrev pub Searched : ℕ → List ℕ → List ℕ → ℕ → ℕ → ℕ → Type 0
 Searched n s want start floor link = (space : Space) → n ≡ space .n → (found : ℕ) → Finds space s want floor link found → Finds space s want 0 start found
@@ -151,67 +221,51 @@ module _ (n : ℕ) (s : List ℕ) (want : List ℕ) (start floor link : ℕ) (q 
   unfolding hasName withName
   finds-none h space en =
       q space en 0
-      (record {
-        missing =
-            λ z r o up t a.
-            subst (Missing want) (sym (source-none h (a .source))) (record { has = refl; takes = λ more. refl });
+      (λ r o up t a.
+      record {
+        missing = λ z. subst (Missing want) (sym (source-none h (a .source))) (record { has = refl; takes = λ more. refl });
         present = λ p. absurd (omega arith);
       })
 
   module _ (past : floor < link) where
     pub finds-past : n ≤ link → (space : Space) → n ≡ space .n → Finds space s want 0 start 0
-    finds-past h space en =
-        q space en 0 (record { missing = λ z r o up t a. absurd (held-past t past (omega arith) a); present = λ p. absurd (omega arith) })
+    finds-past h space en = q space en 0 (λ r o up t a. absurd (held-past t past (omega arith) a))
 
     module _ (h : Head) (e : h ≡ headAt s link) where
-      same-is : {space : Space} {r o up : ℕ} {label : List ℕ} {nullable : Bool} {shape : Shape} {parts rest : Fields} {b : Bool} → n ≡ space .n
-          → b ≡ sameBytes want (labelAt s n (h .name) (h .nlen)) → Held space s floor link r o up (field label nullable shape parts rest) → sameBytes want label ≡ b
-      same-is en b a = sym (b ∙ ap (λ (k : ℕ). sameBytes want (labelAt s k (h .name) (h .nlen))) en ∙ ap (sameBytes want) (read-name (a .source) h e))
-
       pub finds-here : true ≡ sameBytes want (labelAt s n (h .name) (h .nlen)) → (space : Space) → n ≡ space .n → Finds space s want 0 start link
       unfolding hasName withName
-      finds-here b space en = q space en link (record { missing = λ z. absurd (omega arith); present = λ p. go })
+      finds-here b space en = q space en link go
         where
-          go : (r o up : ℕ) (t : Fields) → Held space s floor link r o up t → Present space s link want t
+          go : (r o up : ℕ) (t : Fields) → Held space s floor link r o up t → Picks space s want t link
           go r o up end a = absurd (omega (arith, a .source .leads .is))
           go r o up (field label nullable shape parts rest) a =
-              let q = same-is en b a in
-              record {
-                label = label;
-                nullable = nullable;
-                shape = shape;
-                parts = parts;
-                rest = rest;
-                chain = record { floor = floor; at = r; label = o; up = up; held = a };
-                has = rw q;
-                takes = λ more. rw q;
-              }
+              let c : Chain space s link (field label nullable shape parts rest) = record { floor = floor; at = r; label = o; up = up; held = a } in
+              picks-here n s want link h e past b space en c (inl refl)
 
       pub finds-on : false ≡ sameBytes want (labelAt s n (h .name) (h .nlen)) → Searched n s want start link (h .next)
-      unfolding hasName withName
-      finds-on b space en found f = q space en found (record { missing = lacks; present = has })
+      unfolding hasName withName repeats
+      finds-on b space en found f = q space en found go
         where
-          lacks : found ≡ 0 → (r o up : ℕ) (t : Fields) → Held space s floor link r o up t → Missing want t
-          lacks z r o up end a = absurd (omega (arith, a .source .leads .is))
-          lacks z r o up (field label nullable shape parts rest) a =
-              let q = same-is en b a in
-              let m = f .missing z _ _ _ rest (held-next a h e) in
-              record { has = rw q (m .has); takes = λ more. rw q (m .takes more) }
-
-          has : 0 < found → (r o up : ℕ) (t : Fields) → Held space s floor link r o up t → Present space s found want t
-          has p r o up end a = absurd (omega (arith, a .source .leads .is))
-          has p r o up (field label nullable shape parts rest) a =
-              let q = same-is en b a in
-              let m = f .present p _ _ _ rest (held-next a h e) in
+          go : (r o up : ℕ) (t : Fields) → Held space s floor link r o up t → Picks space s want t found
+          go r o up end a = absurd (omega (arith, a .source .leads .is))
+          go r o up (field label nullable shape parts rest) a =
+              let m = f _ _ _ rest (held-next a h e) in
+              let other : sameBytes want label ≡ false = name-is n s want link h e b space en (a .source) in
               record {
-                label = m .label;
-                nullable = m .nullable;
-                shape = m .shape;
-                parts = m .parts;
-                rest = m .rest;
-                chain = m .chain;
-                has = rw q (m .has);
-                takes = λ more. rw q (m .takes more);
+                missing = λ z. record { has = rw other (m .missing z .has); takes = λ more. rw other (m .missing z .takes more) };
+                present =
+                    λ p.
+                    let k = m .present p in
+                    record {
+                      label = k .label;
+                      nullable = k .nullable;
+                      shape = k .shape;
+                      parts = k .parts;
+                      rest = k .rest;
+                      chain = k .chain;
+                      has = rw other (k .has);
+                      takes = λ d more. rw other (k .takes (or-snd (hasName label rest) (repeats rest) d) more);
+                    };
               }
 
 -- what is asked of a held chain of the left and a chain of the right
@@ -221,53 +275,36 @@ Asks F space s t floor l r b = (a o up : ℕ) (lf rf : Fields) → Held space s 
 pub asks-past : (F : Fields → Fields → Bool) (space : Space) (s t : List ℕ) (floor l r : ℕ) (b : Bool) → floor < l → space .n ≤ l → Asks F space s t floor l r b
 asks-past F space s t floor l r b lo hi a o up lf rf x y = absurd (held-past lf lo hi x)
 
-not-is : {c : Bool} (b : Bool) → not b ≡ c → b ≡ not c
-not-is true h = ap not h
-not-is false h = ap not h
-
-or-right : (a : Bool) {b : Bool} → b ≡ true → a || b ≡ true
-or-right true h = refl
-or-right false h = h
-
 -- records of a chain that are tried: its first, and the next
 pub guess-first : {space : Space} {s : List ℕ} {link : ℕ} {t : Fields} → Chain space s link t → Guess space s link t
-guess-first {t = t} c p = record { fields = t; chain = c; among = λ name h. h }
+guess-first {t = t} c p = record { fields = t; chain = c; ends = end-self t }
 
 pub guess-next : (space : Space) (s : List ℕ) (link : ℕ) (h : Head) → h ≡ headAt s link → 0 < link → (t : Fields) → Guess space s link t → Guess space s (h .next) t
-unfolding hasName
-guess-next space s link h e p t f q = go (f p .fields) (f p .chain) (f p .among)
+guess-next space s link h e p t f q = go (f p .fields) (f p .chain) (f p .ends)
   where
-    go : (u : Fields) → Chain space s link u → ((name : List ℕ) → hasName name u ≡ true → hasName name t ≡ true) → Tried space s (h .next) t
-    go end c a = absurd (omega (arith, c .held .source .leads .is))
-    go (field label nullable shape parts rest) c a =
+    go : (u : Fields) → Chain space s link u → EndOf u t → Tried space s (h .next) t
+    go end c k = absurd (omega (arith, c .held .source .leads .is))
+    go (field label nullable shape parts rest) c k =
         record {
           fields = rest;
           chain = record { floor = link; at = _; label = _; up = _; held = held-next (c .held) h e };
-          among = λ name k. a name (or-right (sameBytes name label) k);
+          ends = end-next label nullable shape parts rest t k;
         }
 
--- the returns of the test for one name
+-- the returns of the search that tries a record first
 module _ (n : ℕ) (t want : List ℕ) (r j : ℕ) (h : Head) where
-  abbrev pub Among : Bool → Type 0
-  Among b = (space : Space) (rf : Fields) → n ≡ space .n → h ≡ headAt t j → Chain space t r rf → Guess space t j rf → b ≡ hasName want rf
+  abbrev pub Guesses : ℕ → Type 0
+  Guesses found = (space : Space) (rf : Fields) → n ≡ space .n → h ≡ headAt t j → Chain space t r rf → Guess space t j rf → Picks space t want rf found
 
-  pub among-here : 0 < j → true ≡ sameBytes want (labelAt t n (h .name) (h .nlen)) → Among true
-  unfolding hasName
-  among-here p b space rf en e y f = go (f p .fields) (f p .chain) (f p .among)
+  pub guess-here : 0 < j → true ≡ sameBytes want (labelAt t n (h .name) (h .nlen)) → Guesses j
+  guess-here p b space rf en e y f = go (f p .fields) (f p .chain) (f p .ends)
     where
-      go : (u : Fields) → Chain space t j u → ((name : List ℕ) → hasName name u ≡ true → hasName name rf ≡ true) → true ≡ hasName want rf
-      go end c a = absurd (omega (arith, c .held .source .leads .is))
-      go (field label nullable shape parts rest) c a =
-          let q : sameBytes want label ≡ true =
-          sym (b ∙ ap (λ (k : ℕ). sameBytes want (labelAt t k (h .name) (h .nlen))) en ∙ ap (sameBytes want) (read-name (c .held .source) h e)) in
-          sym (a want (rw q))
+      go : (u : Fields) → Chain space t j u → EndOf u rf → Picks space t want rf j
+      go end c k = absurd (omega (arith, c .held .source .leads .is))
+      go (field label nullable shape parts rest) c k = picks-here n t want j h e p b space en c k
 
-  pub among-found : (found : ℕ) → ((space : Space) → n ≡ space .n → Finds space t want 0 r found) → Among (not (eqb found 0))
-  among-found found f space rf en e y k = go (native.Mathlib.Decide.decLt 0 found)
-    where
-      go : Dec (0 < found) → not (eqb found 0) ≡ hasName want rf
-      go (yes p) = ap not (ne-eqb found 0 (λ z. absurd (omega arith))) ∙ sym (f space en .present p _ _ _ rf (chain-held y) .has)
-      go (no p) = ap not (eq-eqb found 0 (omega arith)) ∙ sym (f space en .missing (omega arith) _ _ _ rf (chain-held y) .has)
+  pub guess-found : (found : ℕ) → ((space : Space) → n ≡ space .n → Finds space t want 0 r found) → Guesses found
+  guess-found found f space rf en e y k = f space en _ _ _ rf (chain-held y)
 
 -- the test for all names, where record j of the right is tried first
 abbrev pub AsksNames : Space → List ℕ → List ℕ → ℕ → ℕ → ℕ → ℕ → Bool → Type 0
@@ -292,32 +329,30 @@ module _ (n : ℕ) (s t : List ℕ) (floor l r low i j : ℕ) (q : Named n s t f
     pub names-past : n ≤ i → (space : Space) → n ≡ space .n → Asks fieldsHaveSameNames space s t floor l r false
     names-past h space en = q space en false (λ a o up lf rf x y k. absurd (held-past lf past (omega arith) x))
 
-    module _ (g : Head) (e : g ≡ headAt s i) (want : List ℕ) (ew : want ≡ labelAt s n (g .name) (g .nlen)) (h : Head) (eh : h ≡ headAt t j) (b : Bool)
-        (f : Among n t want r j h b) where
-      has-is : {space : Space} {a o up : ℕ} {name : List ℕ} {nullable : Bool} {shape : Shape} {parts rest : Fields} (rf : Fields) → n ≡ space .n
-          → Held space s low i a o up (field name nullable shape parts rest) → Chain space t r rf → Guess space t j rf → b ≡ hasName name rf
-      has-is {space} rf en x y k =
-          f space rf en eh y k
-          ∙ ap (λ (m : List ℕ). hasName m rf) ew
-          ∙ ap (λ (m : ℕ). hasName (labelAt s m (g .name) (g .nlen)) rf) en
-          ∙ ap (λ (m : List ℕ). hasName m rf) (read-name (x .source) g e)
+    module _ (g : Head) (e : g ≡ headAt s i) (want : List ℕ) (ew : want ≡ labelAt s n (g .name) (g .nlen)) (h : Head) (eh : h ≡ headAt t j) (found : ℕ)
+        (f : Guesses n t want r j h found) where
+      has-is : {space : Space} {a o up : ℕ} {name : List ℕ} {nullable : Bool} {shape : Shape} {parts rest : Fields} {b : Bool} (rf : Fields) → n ≡ space .n
+          → Held space s low i a o up (field name nullable shape parts rest) → hasName want rf ≡ b → hasName name rf ≡ b
+      has-is rf en x k =
+          sym (ap (λ (m : List ℕ). hasName m rf) (ew ∙ ap (λ (m : ℕ). labelAt s m (g .name) (g .nlen)) en ∙ read-name (x .source) g e)) ∙ k
 
-      pub names-lack : not b ≡ true → (space : Space) → n ≡ space .n → Asks fieldsHaveSameNames space s t floor l r false
+      pub names-lack : found ≡ 0 → (space : Space) → n ≡ space .n → Asks fieldsHaveSameNames space s t floor l r false
       unfolding fieldsHaveSameNames
       names-lack z space en = q space en false go
         where
           go : AsksNames space s t low i r j false
           go a o up end rf x y k = absurd (omega (arith, x .source .leads .is))
-          go a o up (field name nullable shape parts rest) rf x y k = rw (sym (has-is rf en x y k) ∙ not-is b z)
+          go a o up (field name nullable shape parts rest) rf x y k = rw (has-is rf en x (f space rf en eh y k .missing z .has))
 
-      pub names-on : not b ≡ false → (j′ : ℕ) → ((space : Space) (rf : Fields) → Guess space t j rf → Guess space t j′ rf) → Named n s t floor l r i (g .next) j′
+      pub names-on : ¬ (found ≡ 0) → (j′ : ℕ) → ((space : Space) (rf : Fields) → Guess space t j rf → Guess space t j′ rf) → Named n s t floor l r i (g .next) j′
       unfolding fieldsHaveSameNames
       names-on z j′ turn space en v m = q space en v go
         where
           go : AsksNames space s t low i r j v
           go a o up end rf x y k = absurd (omega (arith, x .source .leads .is))
           go a o up (field name nullable shape parts rest) rf x y k =
-              rw (sym (has-is rf en x y k) ∙ not-is b z) (m _ _ _ rest rf (held-next x g e) y (turn space rf k))
+              let p : 0 < found = omega arith in
+              rw (has-is rf en x (f space rf en eh y k .present p .has)) (m _ _ _ rest rf (held-next x g e) y (turn space rf k))
 
 -- the returns of the test for arities
 abbrev pub sameArity : Fields → Fields → Bool

@@ -1,11 +1,12 @@
 -- Which fields of the right feed those of the left.
 use mathlib.Core.Path.{_≡_}
 use Prim.Native.Nat.{ℕ, _<_}
-use mathlib.Core.Bool.{Bool, not, _||_}
+use mathlib.Core.Bool.{Bool, false, not, _||_}
 use mathlib.Core.List.{List}
 use mathlib.Core.Logic.{_⊎_}
 use mathlib.Core.Option.{some}
-use Rattle.sheet.specs.Types.{Shape, Fields, end, field}
+use Rattle.sheet.specs.Types.{Shape, Fields, end, field, arity}
+use Rattle.sheet.specs.Names.{repeats}
 use Rattle.coercion.specs.Data.{DataType}
 use Rattle.coercion.specs.Nested.{byName}
 use Rattle.buffers.specs.Writes.{side}
@@ -15,12 +16,18 @@ use Rattle.buffers.specs.declared.Row.{Row}
 use Rattle.buffers.specs.declared.Feed.{Feed}
 use Rattle.buffers.specs.declared.Feed.the-variants as Feed
 
--- which chains give the fields of lf their types and join their nullability: rf is the right chain, pf the part of it at lf's place
+-- a chain is the part of another from a field on
+abbrev pub EndOf : Fields → Fields → Type 0
+EndOf t end = t ≡ end
+EndOf t (field name nullable shape parts rest) = (t ≡ field name nullable shape parts rest) ⊎ EndOf t rest
+
+-- which chains give the fields of lf their types and join their nullability: rf is the right chain, pf the part of it at lf's place.
+-- By name the right's names differ, so that whichever field has a name is the one
 abbrev pub Feeds : Feed → Fields → Fields → Fields → Fields → Fields → Type 0
 Feeds Feed.Place lf rf pf tf nf = (tf ≡ pf) × (nf ≡ pf)
 Feeds Feed.Own lf rf pf tf nf = (tf ≡ pf) × (nf ≡ lf)
-Feeds Feed.Name lf rf pf tf nf = (byName lf rf ≡ some tf) × ((nf ≡ tf) × (pf ≡ end))
-Feeds Feed.NameThenPlace lf rf pf tf nf = (byName lf rf ≡ some tf) × (nf ≡ pf)
+Feeds Feed.Name lf rf pf tf nf = (byName lf rf ≡ some tf) × ((nf ≡ tf) × ((EndOf pf rf × (repeats rf ≡ false)) × (arity pf ≡ arity lf)))
+Feeds Feed.NameThenPlace lf rf pf tf nf = (byName lf rf ≡ some tf) × ((nf ≡ pf) × (EndOf pf rf × (repeats rf ≡ false)))
 
 -- what feeds the first row of a chain, and the chains of the rows behind it
 pub record Fed (space : Space) (s : List ℕ) (feed : Feed) (nullable : Bool) (rest rf : Fields) (row : Row) (tf nf : Fields) : Type 0 where

@@ -6,11 +6,12 @@ use mathlib.Core.List.{List}
 use mathlib.Core.Option.{none, some}
 use Rattle.sheet.specs.Types.{Shape, Fields, field}
 use Rattle.sheet.specs.Head.{nullableIn}
-use Rattle.sheet.specs.Names.{hasName}
+use Rattle.sheet.specs.Names.{hasName, repeats}
 use Rattle.sheet.specs.declared.Head.{Head}
 use Rattle.coercion.specs.Nested.{withName}
 use Rattle.buffers.specs.Region.{Held}
 use Rattle.buffers.specs.Typed.{Chain}
+use Rattle.buffers.specs.Feeds.{EndOf}
 use Rattle.buffers.specs.declared.Space.{Space}
 use Rattle.buffers.specs.declared.Row.{Row}
 
@@ -19,7 +20,7 @@ pub record Missing (name : List ℕ) (t : Fields) : Type 0 where
   pub has : hasName name t ≡ false
   pub takes : (more : Fields) → withName name t more ≡ none
 
--- the field at a link is the first of a chain that has a name
+-- the field at a link is one of a chain that has a name, and the one that the name takes where no two have one
 pub record Present (space : Space) (s : List ℕ) (link : ℕ) (name : List ℕ) (t : Fields) : Type 0 where
   pub label : List ℕ
   pub nullable : Bool
@@ -28,18 +29,22 @@ pub record Present (space : Space) (s : List ℕ) (link : ℕ) (name : List ℕ)
   pub rest : Fields
   pub chain : Chain space s link (field label nullable shape parts rest)
   pub has : hasName name t ≡ true
-  pub takes : (more : Fields) → withName name t more ≡ some (field label nullable shape parts more)
+  pub takes : repeats t ≡ false → (more : Fields) → withName name t more ≡ some (field label nullable shape parts more)
 
--- what a search for a name says of whatever chain stands at a link: the link of the first field of that name, or 0
-pub record Finds (space : Space) (s : List ℕ) (name : List ℕ) (floor link found : ℕ) : Type 0 where
-  pub missing : found ≡ 0 → (r o up : ℕ) (t : Fields) → Held space s floor link r o up t → Missing name t
-  pub present : 0 < found → (r o up : ℕ) (t : Fields) → Held space s floor link r o up t → Present space s found name t
+-- what a search for a name in a chain says: the link of a field of that name, or 0
+pub record Picks (space : Space) (s : List ℕ) (name : List ℕ) (t : Fields) (found : ℕ) : Type 0 where
+  pub missing : found ≡ 0 → Missing name t
+  pub present : 0 < found → Present space s found name t
+
+-- a search says so of whatever chain stands at a link
+abbrev pub Finds : Space → List ℕ → List ℕ → ℕ → ℕ → ℕ → Type 0
+Finds space s name floor link found = (r o up : ℕ) (t : Fields) → Held space s floor link r o up t → Picks space s name t found
 
 -- a record of a chain, whose name is tried before the chain is searched
 pub record Tried (space : Space) (s : List ℕ) (link : ℕ) (t : Fields) : Type 0 where
   pub fields : Fields
   pub chain : Chain space s link fields
-  pub among : (name : List ℕ) → hasName name fields ≡ true → hasName name t ≡ true
+  pub ends : EndOf fields t
 
 -- a link that is 0, or leads to a record of a chain
 abbrev pub Guess : Space → List ℕ → ℕ → Fields → Type 0

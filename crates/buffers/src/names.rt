@@ -6,7 +6,7 @@ ghost use lib.Dec.{eqb};
 ghost use Rattle.sheet.specs.Types.{Fields, arity};
 ghost use Rattle.sheet.specs.Head.{headAt};
 ghost use Rattle.sheet.specs.Read.{labelAt};
-ghost use Rattle.sheet.specs.Names.{sameBytes, hasName};
+ghost use Rattle.sheet.specs.Names.{sameBytes};
 ghost use Rattle.sheet.specs.Bounds.{Bounded};
 ghost use Rattle.coercion.specs.Nested.{fieldsHaveSameNames};
 ghost use Rattle.buffers.specs.Writes.{side};
@@ -14,7 +14,7 @@ ghost use Rattle.buffers.specs.Region.{Held};
 ghost use Rattle.buffers.specs.Feeds.{RowIs};
 ghost use Rattle.buffers.specs.Typed.{Chain};
 ghost use Rattle.buffers.specs.declared.Space.{Space};
-ghost use Rattle.buffers.specs.Naming.{Finds, Guess, rowOf};
+ghost use Rattle.buffers.specs.Naming.{Finds, Picks, Guess, rowOf};
 use crate::Feed;
 use crate::Row;
 use crate::Space;
@@ -71,17 +71,17 @@ fn find(t: &[u8], n: usize, want: &[u8], link: usize) -> usize
     0
 }
 
-// Whether a field of the chain at r has a name. Record j of that chain, whose head is h, is tried first; 0 stands for none.
-fn is_among(t: &[u8], n: usize, want: &[u8], r: usize, j: usize, h: Head) -> bool
+// A field of the chain at r that has a name; 0 where there is none. Record j of that chain, whose head is h, is tried first; 0 stands for no record.
+fn find_from(t: &[u8], n: usize, want: &[u8], r: usize, j: usize, h: Head) -> usize
     requires { ⌜ (n ≤ 1024) × Bounded h ⌝ }
-    ensures { λ b. ⌜ ((space : Space) (rf : Fields) → n ≡ space .n → h ≡ headAt (now (t .entry)) j → Chain space (now (t .entry)) r rf → Guess space (now (t .entry)) j rf → b ≡ hasName (now (want .entry)) rf) ⌝ }
+    ensures { λ f. ⌜ ((space : Space) (rf : Fields) → n ≡ space .n → h ≡ headAt (now (t .entry)) j → Chain space (now (t .entry)) r rf → Guess space (now (t .entry)) j rf → Picks space (now (t .entry)) (now (want .entry)) rf f) ⌝ }
 {
     if 0 < j {
         if is_named(t, n, h, want) {
-            return true;
+            return j;
         }
     }
-    find(t, n, want, r) != 0
+    find(t, n, want, r)
 }
 
 // Whether each name of the chain at a link of s is one of the chain at a link of t. Names mostly stand in one order, so the field at the same place is tried first.
@@ -98,7 +98,7 @@ fn are_among(s: &[u8], t: &[u8], n: usize, floor: usize, l: usize, r: usize) -> 
         }
         let g = head_at(s, i);
         let h = head_at(t, j);
-        if !is_among(t, n, label_at(s, n, g.name, g.nlen), r, j, h) {
+        if find_from(t, n, label_at(s, n, g.name, g.nlen), r, j, h) == 0 {
             return false;
         }
         low = i;
@@ -170,16 +170,25 @@ pub fn same_arity(
     }
 }
 
-// The record of the other side that has the name of record x of a side, in the chain at a link; 0 where there is none.
-fn partner(sheet: &[u8], work: &[u8], space: Space, swap: bool, x: Head, r: usize) -> usize
-    requires { ⌜ (space .n ≤ 1024) × Bounded x ⌝ }
-    ensures { λ j. ⌜ Finds space (side (not swap) (now (sheet .entry)) (now (work .entry))) (labelAt (side swap (now (sheet .entry)) (now (work .entry))) (space .n) (x .name) (x .nlen)) 0 r j ⌝ }
+// The record of the other side that has the name of record x of a side, in the chain at r; 0 where there is none. Record p, whose head is y, is tried first.
+fn partner(
+    sheet: &[u8],
+    work: &[u8],
+    space: Space,
+    swap: bool,
+    x: Head,
+    y: Head,
+    r: usize,
+    p: usize,
+) -> usize
+    requires { ⌜ (space .n ≤ 1024) × (Bounded x × Bounded y) ⌝ }
+    ensures { λ j. ⌜ ((rf : Fields) → y ≡ headAt (side (not swap) (now (sheet .entry)) (now (work .entry))) p → Chain space (side (not swap) (now (sheet .entry)) (now (work .entry))) r rf → Guess space (side (not swap) (now (sheet .entry)) (now (work .entry))) p rf → Picks space (side (not swap) (now (sheet .entry)) (now (work .entry))) (labelAt (side swap (now (sheet .entry)) (now (work .entry))) (space .n) (x .name) (x .nlen)) rf j) ⌝ }
 {
     let n = space.n;
     if swap {
-        find(sheet, n, label_at(work, n, x.name, x.nlen), r)
+        find_from(sheet, n, label_at(work, n, x.name, x.nlen), r, p, y)
     } else {
-        find(work, n, label_at(sheet, n, x.name, x.nlen), r)
+        find_from(work, n, label_at(sheet, n, x.name, x.nlen), r, p, y)
     }
 }
 
@@ -195,13 +204,22 @@ fn row_of(partner: usize, a: Head, b: Head, next: usize) -> Row
 }
 
 // The row of a field that is fed by name.
-fn named_row(sheet: &[u8], work: &[u8], space: Space, swap: bool, x: Head, r: usize) -> Row
-    requires { ⌜ (space .n ≤ 1024) × Bounded x ⌝ }
-    ensures { λ o. ⌜ ((l p : ℕ) → x ≡ headAt (side swap (now (sheet .entry)) (now (work .entry))) l → RowIs space swap (now (sheet .entry)) (now (work .entry)) Feed.Name l r p o) ⌝ }
+fn named_row(
+    sheet: &[u8],
+    work: &[u8],
+    space: Space,
+    swap: bool,
+    x: Head,
+    y: Head,
+    r: usize,
+    p: usize,
+) -> Row
+    requires { ⌜ (space .n ≤ 1024) × (Bounded x × Bounded y) ⌝ }
+    ensures { λ o. ⌜ ((l : ℕ) → x ≡ headAt (side swap (now (sheet .entry)) (now (work .entry))) l → y ≡ headAt (side (not swap) (now (sheet .entry)) (now (work .entry))) p → RowIs space swap (now (sheet .entry)) (now (work .entry)) Feed.Name l r p o) ⌝ }
 {
-    let j = partner(sheet, work, space, swap, x, r);
+    let j = partner(sheet, work, space, swap, x, y, r, p);
     let h = look(sheet, work, !swap, j);
-    row_of(j, x, h, 0)
+    row_of(j, x, h, y.next)
 }
 
 // The row of a field that takes its type by name and its nullability by place.
@@ -215,14 +233,14 @@ fn named_place(
     r: usize,
     p: usize,
 ) -> Row
-    requires { ⌜ (space .n ≤ 1024) × Bounded x ⌝ }
+    requires { ⌜ (space .n ≤ 1024) × (Bounded x × Bounded y) ⌝ }
     ensures { λ o. ⌜ ((l : ℕ) → x ≡ headAt (side swap (now (sheet .entry)) (now (work .entry))) l → y ≡ headAt (side (not swap) (now (sheet .entry)) (now (work .entry))) p → RowIs space swap (now (sheet .entry)) (now (work .entry)) Feed.NameThenPlace l r p o) ⌝ }
 {
     let next = y.next;
     if p == 0 {
         return row_of(0, x, y, next);
     }
-    row_of(partner(sheet, work, space, swap, x, r), x, y, next)
+    row_of(partner(sheet, work, space, swap, x, y, r, p), x, y, next)
 }
 
 // What feeds the field at a link of the left.
@@ -244,7 +262,7 @@ pub fn row(
     match feed {
         Feed::Place => row_of(p, x, y, y.next),
         Feed::Own => row_of(p, x, x, y.next),
-        Feed::Name => named_row(sheet, work, space, swap, x, r),
+        Feed::Name => named_row(sheet, work, space, swap, x, y, r, p),
         Feed::NameThenPlace => named_place(sheet, work, space, swap, x, y, r, p),
     }
 }

@@ -9,7 +9,7 @@ use native.Mathlib.Omega.{arith}
 use lib.ListN.{length, length-append}
 use lib.Dec.{eqb}
 use borrow.Author.Tests.{eq-eqb, ne-eqb}
-use Rattle.sheet.specs.Types.{Shape, Fields, end, field, count, zoneBytes, ownLabels, labels}
+use Rattle.sheet.specs.Types.{Shape, Fields, end, field, arity, count, zoneBytes, ownLabels, labels}
 use Rattle.sheet.specs.Head.{headAt}
 use Rattle.sheet.specs.Encode.{linkTo}
 use Rattle.sheet.specs.declared.Head.{Head}
@@ -44,22 +44,15 @@ closed end = some end
 closed (field name nullable shape parts rest) = none
 
 end-joined : (c : DataType → DataType → Option DataType) (feed : Feed) (rf pf tf nf : Fields) → Feeds feed end rf pf tf nf → joinFields c end tf nf ≡ closed pf
-unfolding joinFields byName
+unfolding joinFields byName arity
 end-joined c Feed.Place rf end tf nf f = rw (f .0) (rw (f .1) refl)
 end-joined c Feed.Place rf (field name nullable shape parts rest) tf nf f = rw (f .0) (rw (f .1) refl)
 end-joined c Feed.Own rf end tf nf f = rw (f .0) (rw (f .1) refl)
 end-joined c Feed.Own rf (field name nullable shape parts rest) tf nf f = rw (f .0) (rw (f .1) refl)
 end-joined c Feed.Name rf end tf nf f = rw (f .1 .0) (rw (sym (Option·some-injective _ _ (f .0))) refl)
-end-joined c Feed.Name rf (field name nullable shape parts rest) tf nf f = absurd (never (f .1 .1))
-  where
-    never : field name nullable shape parts rest ≡ end → ⊥
-    never e = let q : _≡_ {A = ℕ} 1 0 = ap tell e in omega arith
-      where
-        tell : Fields → ℕ
-        tell end = 0
-        tell (field n b sh p q) = 1
-end-joined c Feed.NameThenPlace rf end tf nf f = rw (f .1) (rw (sym (Option·some-injective _ _ (f .0))) refl)
-end-joined c Feed.NameThenPlace rf (field name nullable shape parts rest) tf nf f = rw (f .1) (rw (sym (Option·some-injective _ _ (f .0))) refl)
+end-joined c Feed.Name rf (field name nullable shape parts rest) tf nf f = absurd (omega (arith, f .1 .1 .1))
+end-joined c Feed.NameThenPlace rf end tf nf f = rw (f .1 .0) (rw (sym (Option·some-injective _ _ (f .0))) refl)
+end-joined c Feed.NameThenPlace rf (field name nullable shape parts rest) tf nf f = rw (f .1 .0) (rw (sym (Option·some-injective _ _ (f .0))) refl)
 
 -- a field that nothing feeds
 join-short : (c : DataType → DataType → Option DataType) (name : List ℕ) (nullable : Bool) (shape : Shape) (parts rest tf nf : Fields) → Unfed tf nf

@@ -3,11 +3,11 @@ use mathlib.Core.Path.{_≡_, refl, ap, ap₂, sym, _∙_}
 use mathlib.Core.Bool.{Bool, true, false, not, _&&_}
 use mathlib.Core.List.{List}
 use mathlib.Core.Option.{Option, none, some}
-use Prim.Native.Nat.{ℕ, _+_, _<_}
+use Prim.Native.Nat.{ℕ, _+_}
 use native.Mathlib.Omega.{arith}
 use lib.Dec.{eqb}
 use borrow.Author.Tests.{eq-eqb, eqb-true, not-true}
-use Rattle.sheet.specs.Types.{Fields, end, arity, count, labels}
+use Rattle.sheet.specs.Types.{Fields, arity}
 use Rattle.sheet.specs.Head.{headAt}
 use Rattle.sheet.specs.Names.{repeats, namesDiffer}
 use Rattle.sheet.specs.declared.Head.{Head}
@@ -27,25 +27,8 @@ use Rattle.buffers.specs.declared.Out.the-variants.{No}
 use Rattle.buffers.specs.declared.Feed.the-variants as Feed
 use Rattle.buffers.proofs.Chained.{held-first}
 use Rattle.merge.proofs.Merging.{chain-first, means-for, merges-none}
-use Rattle.buffers.proofs.Naming.{Asks, sameArity, names-found, names-missing, by-name-fits}
+use Rattle.buffers.proofs.Naming.{Asks, sameArity, names-found, names-missing, by-name-fits, end-self}
 use Rattle.buffers.proofs.Fielding.{typed-reads}
-
--- a chain of nothing, at link 0
-pub chain-nothing : (space : Space) (s : List ℕ) → 0 < space .n → Chain space s 0 end
-unfolding count labels namesDiffer
-chain-nothing space s h =
-    record {
-      floor = 0;
-      at = 1;
-      label = 0;
-      up = 0;
-      held =
-          record {
-            source = record { leads = record { holds = tt; is = refl; above = omega arith; inside = omega arith }; right = tt; short = omega arith };
-            low = omega arith;
-            differ = refl;
-          };
-    }
 
 -- the names of a Struct's fields differ
 pub struct-differ : {space : Space} {s : List ℕ} {link : ℕ} {t : DataType} → t .shape .kind ≡ 35 → Typed space s link t → repeats (t .parts) ≡ false
@@ -84,6 +67,9 @@ module _ (c : DataType → DataType → Option DataType) (space : Space) (left :
     left-kind : ((eqb (x .kind) 35 && eqb (y .kind) 35) && alike) ≡ true → X .shape .kind ≡ 35
     left-kind h = typed-reads a ex .kind ∙ eqb-true (x .kind) 35 (and-fst _ (eqb (y .kind) 35) (and-fst _ alike h))
 
+    right-kind : ((eqb (x .kind) 35 && eqb (y .kind) 35) && alike) ≡ true → Y .shape .kind ≡ 35
+    right-kind h = typed-reads b ey .kind ∙ eqb-true (y .kind) 35 (and-snd (eqb (x .kind) 35) _ (and-fst _ alike h))
+
   -- no common type
   pub struct-none : ((eqb (x .kind) 35 && eqb (y .kind) 35) && alike) ≡ false → Merges (structCoercion c) space (left + 1) swap s w w l r g No
   unfolding structCoercion
@@ -94,9 +80,9 @@ module _ (c : DataType → DataType → Option DataType) (space : Space) (left :
     names {X} {Y} a b = fn _ _ _ (X .parts) (Y .parts) (held-first (a .chain .held) x ex) (chain-first y ey (b .chain))
 
     module _ (h : ((eqb (x .kind) 35 && eqb (y .kind) 35) && alike) ≡ true) (v : List ℕ) (o : Out) where
-      pub struct-named : named ≡ true → 0 < space .n → Under c space left swap s w v Feed.Name (shapeFor 35 0 0 0 false) (x .first) (y .first) 0 g o
+      pub struct-named : named ≡ true → Under c space left swap s w v Feed.Name (shapeFor 35 0 0 0 false) (x .first) (y .first) (y .first) g o
           → Merges (structCoercion c) space (left + 1) swap s w v l r g o
-      struct-named e full u =
+      struct-named e u =
           record {
             writes = u .writes;
             means =
@@ -107,7 +93,8 @@ module _ (c : DataType → DataType → Option DataType) (space : Space) (left :
                 let fits = by-name-fits (X .parts) (Y .parts) (f .fields) (struct-differ (left-kind a b h) a) (right .held .differ) (f .is) in
                 means-for space w v g (size X + size Y) (letters X + letters Y) o (omega (arith, fits .0)) (omega (arith, fits .1))
                 (struct-by-name c X Y (f .fields) (kinds a b ∙ h) n (f .is))
-                (u .means (X .parts) (Y .parts) end (f .fields) (f .fields) (chain-first x ex (a .chain)) right (chain-nothing space (side (not swap) s w) full) (f .is, (refl, refl))
+                (u .means (X .parts) (Y .parts) (Y .parts) (f .fields) (f .fields) (chain-first x ex (a .chain)) right right
+                (f .is, (refl, ((end-self (Y .parts), struct-differ (right-kind a b h) b), sym (eqb-true _ _ (sym (arities a b) ∙ and-snd (eqb (x .kind) 35 && eqb (y .kind) 35) alike h)))))
                 (omega (arith, fits .0)));
           }
 
@@ -134,9 +121,9 @@ module _ (c : DataType → DataType → Option DataType) (space : Space) (left :
         go true e X Y a b = rw (sym (arities a b) ∙ e) (rw (names-missing (X .parts) (Y .parts) (sym (names a b) ∙ rw e at h)) refl)
         go false e X Y a b = rw (sym (arities a b) ∙ e) refl
 
-    pub listed-merged : (alike && named) ≡ true → headAt (side swap s w) l .kind ≡ 35 → (v : List ℕ) (o : Out)
+    pub listed-merged : (alike && named) ≡ true → headAt (side swap s w) l .kind ≡ 35 → headAt (side (not swap) s w) r .kind ≡ 35 → (v : List ℕ) (o : Out)
         → Under c space left swap s w v Feed.NameThenPlace (shapeFor 35 0 0 0 false) (x .first) (y .first) (y .first) g o → Merges (listStruct c) space (left + 1) swap s w v l r g o
-    listed-merged h k v o u =
+    listed-merged h k k′ v o u =
         record {
           writes = u .writes;
           means =
@@ -147,5 +134,6 @@ module _ (c : DataType → DataType → Option DataType) (space : Space) (left :
               let fits = by-name-fits (X .parts) (Y .parts) (f .fields) (struct-differ (typed-reads a refl .kind ∙ k) a) (right .held .differ) (f .is) in
               means-for space w v g (size X + size Y) (letters X + letters Y) o (omega (arith, fits .0)) (omega (arith, fits .1))
               (struct-list (joinFields c (X .parts) (f .fields) (Y .parts)) ∙ rw (sym (arities a b) ∙ and-fst alike named h) (rw (f .is) refl))
-              (u .means (X .parts) (Y .parts) (Y .parts) (f .fields) (Y .parts) (chain-first x ex (a .chain)) right right (f .is, refl) (omega (arith, fits .0)));
+              (u .means (X .parts) (Y .parts) (Y .parts) (f .fields) (Y .parts) (chain-first x ex (a .chain)) right right
+              (f .is, (refl, (end-self (Y .parts), struct-differ (typed-reads b refl .kind ∙ k′) b))) (omega (arith, fits .0)));
         }

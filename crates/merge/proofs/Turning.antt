@@ -15,7 +15,7 @@ use Rattle.sheet.specs.Tests.{between}
 use Rattle.sheet.specs.Types.{Shape, Fields, end, field, arity, count, zoneBytes, labels}
 use Rattle.sheet.specs.Head.{headAt}
 use Rattle.sheet.specs.declared.Head.{Head}
-use Rattle.sheet.proofs.Tests.{never, and-fst}
+use Rattle.sheet.proofs.Tests.{never, and-fst, and-snd}
 use Rattle.coercion.specs.Data.{DataType, Rules, size, orElse, andThen}
 use Rattle.coercion.specs.Data as Data
 use Rattle.coercion.specs.Kinds.{isList}
@@ -380,9 +380,10 @@ module _ (rules : Rules) (c : DataType → DataType → Option DataType) (space 
           merges-as (nestedOf rules c) space swap s w v l r g o (left + 1) (omega arith)
           (λ X Y a b. rw (lists a b ∙ n) (rw (are a b 35 ∙ h) (rw (are a b 36 ∙ e) refl))) (m (left + 1))
 
--- the kind of the left, by a test of both
-pub left-is : (s : List ℕ) (link k j : ℕ) → k ≡ headAt s link .kind → (eqb k 35 && eqb j 35) ≡ true → headAt s link .kind ≡ 35
-left-is s link k j e q = sym e ∙ eqb-true k 35 (and-fst (eqb k 35) (eqb j 35) q)
+-- the kinds of both sides, by a test of the two
+pub both-are : (s t : List ℕ) (l r k j : ℕ) → k ≡ headAt s l .kind → j ≡ headAt t r .kind → (eqb k 35 && eqb j 35) ≡ true
+    → (headAt s l .kind ≡ 35) × (headAt t r .kind ≡ 35)
+both-are s t l r k j e f q = (sym e ∙ eqb-true k 35 (and-fst (eqb k 35) (eqb j 35) q), sym f ∙ eqb-true j 35 (and-snd (eqb k 35) (eqb j 35) q))
 
 -- the shape of two lists' common list, by their heads
 size-of : {h : Head} {t : DataType} → Reads h t → eqb (t .shape .kind) 34 ≡ true → t .shape .size ≡ h .quad

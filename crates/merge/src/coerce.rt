@@ -510,7 +510,7 @@ fn struct_rule(
                 0,
                 a,
                 b,
-                0,
+                b,
                 g,
             );
         }
@@ -548,7 +548,7 @@ fn list_struct(
     g: Goal,
 ) -> Out
     requires { ⌜ Room (now work) space × Ready space g ⌝ }
-    requires { ⌜ headAt (side swap (now sheet) (now work)) l .kind ≡ 35 ⌝ }
+    requires { ⌜ (headAt (side swap (now sheet) (now work)) l .kind ≡ 35) × (headAt (side (not swap) (now sheet) (now work)) r .kind ≡ 35) ⌝ }
     ensures { λ o. ⌜ Merges (listStruct (coercion (rulesOf question mask))) space (left + 1) swap (now (sheet .entry)) (now (work .entry)) (now (work .exit)) l r g o ⌝ }
 {
     let a = look(sheet, &*work, swap, l).first;

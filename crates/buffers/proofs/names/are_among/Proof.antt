@@ -7,7 +7,7 @@ use Rattle.buffers.proofs.names.are_among.Statement.{statement}
 use Rattle.buffers.proofs.names.are_among.Tie as tie
 use Rattle.buffers.proofs.names.are_among.Reads as reads
 use Rattle.buffers.proofs.names.are_among.Lts as lts
-use Rattle.buffers.proofs.names.is_among.Reads as is-among-reads
+use Rattle.buffers.proofs.names.find_from.Reads as find-from-reads
 use Rattle.sheet.proofs.label.label_at.Reads as label-at-reads
 use Rattle.sheet.proofs.record.head_at.Reads as head-at-reads
 
@@ -44,15 +44,15 @@ label-at-requires : tie.Need-label-at-requires Inv-loop μ-loop
 label-at-requires c κs =
     (omega arith, ((c .before .head-at .ensures .1 .name), omega (arith, (c .before .head-at .ensures .1 .nlen))))
 
--- src/names.rt:101:13
-is-among-requires : tie.Need-is-among-requires Inv-loop μ-loop
-is-among-requires c κs =
+-- src/names.rt:101:12
+find-from-requires : tie.Need-find-from-requires Inv-loop μ-loop
+find-from-requires c κs =
     ((c .before .before .before .before .before .before .before .before .pre), (c .before .head-at2 .ensures .1))
 
 -- src/names.rt:102:13
 returns-2 : tie.Need-returns-2 Inv-loop μ-loop
 returns-2 c =
-    names-lack _ _ _ _ _ _ _ _ _ (c .before .before .before .before .before .before .before .loop .inv) (c .before .before .before .before .before .before .loop-test .taken) _ (c .before .before .before .before .head-at .ensures .0) _ (c .before .before .label-at .ensures) _ (c .before .before .before .head-at2 .ensures .0) _ (c .before .is-among .ensures) (c .if2 .taken)
+    names-lack _ _ _ _ _ _ _ _ _ (c .before .before .before .before .before .before .before .loop .inv) (c .before .before .before .before .before .before .loop-test .taken) _ (c .before .before .before .before .head-at .ensures .0) _ (c .before .before .label-at .ensures) _ (c .before .before .before .head-at2 .ensures .0) _ (c .before .find-from .ensures) (c .if2 .taken)
 
 -- src/names.rt:95:5
 loop-less : tie.Need-loop-less Inv-loop μ-loop
@@ -62,7 +62,7 @@ loop-less c =
 -- src/names.rt:95:5
 loop-again : tie.Need-loop-again Inv-loop μ-loop
 loop-again c =
-    names-on _ _ _ _ _ _ _ _ _ (c .before .before .before .before .before .before .before .before .loop .inv) (c .before .before .before .before .before .before .before .loop-test .taken) _ (c .before .before .before .before .before .head-at .ensures .0) _ (c .before .before .before .label-at .ensures) _ (c .before .before .before .before .head-at2 .ensures .0) _ (c .before .before .is-among .ensures) (c .before .if2 .left) _ (λ space. guess-next space _ _ _ (c .before .before .before .before .head-at2 .ensures .0) (c .if3 .taken))
+    names-on _ _ _ _ _ _ _ _ _ (c .before .before .before .before .before .before .before .before .loop .inv) (c .before .before .before .before .before .before .before .loop-test .taken) _ (c .before .before .before .before .before .head-at .ensures .0) _ (c .before .before .before .label-at .ensures) _ (c .before .before .before .before .head-at2 .ensures .0) _ (c .before .before .find-from .ensures) (c .before .if2 .left) _ (λ space. guess-next space _ _ _ (c .before .before .before .before .head-at2 .ensures .0) (c .if3 .taken))
 
 -- src/names.rt:95:5
 loop-less-2 : tie.Need-loop-less-2 Inv-loop μ-loop
@@ -72,7 +72,7 @@ loop-less-2 c =
 -- src/names.rt:95:5
 loop-again-2 : tie.Need-loop-again-2 Inv-loop μ-loop
 loop-again-2 c =
-    names-on _ _ _ _ _ _ _ _ _ (c .before .before .before .before .before .before .before .before .loop .inv) (c .before .before .before .before .before .before .before .loop-test .taken) _ (c .before .before .before .before .before .head-at .ensures .0) _ (c .before .before .before .label-at .ensures) _ (c .before .before .before .before .head-at2 .ensures .0) _ (c .before .before .is-among .ensures) (c .before .if2 .left) _ (λ space rf k. k)
+    names-on _ _ _ _ _ _ _ _ _ (c .before .before .before .before .before .before .before .before .loop .inv) (c .before .before .before .before .before .before .before .loop-test .taken) _ (c .before .before .before .before .before .head-at .ensures .0) _ (c .before .before .before .label-at .ensures) _ (c .before .before .before .before .head-at2 .ensures .0) _ (c .before .before .find-from .ensures) (c .before .if2 .left) _ (λ space rf k. k)
 
 -- src/names.rt:88:1
 returns-3 : tie.Need-returns-3 Inv-loop μ-loop
@@ -90,7 +90,7 @@ are-among-spec =
     head-at-requires
     head-at-requires-2
     label-at-requires
-    is-among-requires
+    find-from-requires
     returns-2
     loop-less
     loop-again

@@ -62,7 +62,7 @@ returns-2 c =
 -- src/names.rt:161:1
 returns-3 : tie.Need-returns-3
 returns-3 c =
-    rw (c .before .enum-told3 .given .1) ((c .named-row .ensures) _ _ (c .before .before .before .before .look .ensures .0))
+    rw (c .before .enum-told3 .given .1) ((c .named-row .ensures) _ (c .before .before .before .before .look .ensures .0) (c .before .before .before .look2 .ensures .0))
 
 -- src/names.rt:161:1
 returns-4 : tie.Need-returns-4

@@ -12,7 +12,7 @@ use Rattle.buffers.proofs.Tying.{tied-kept}
 use Rattle.merge.proofs.Rewrapping.{index-none, index-full, value-none, value-full, wrapper-on}
 use Rattle.merge.proofs.Parents.{under-full, under-on, head-crowded, both-on, field-crowded, field-merged, map-left-end, map-right-end, map-on, after-passes}
 use mathlib.Core.Logic.{inl, inr}
-use Rattle.merge.proofs.Turning.{and-are, left-is, resolve-dictionary, resolve-runs, resolve-nested, wrap-both, wrap-left, wrap-right, wrap-none, unwrap-first, unwrap-full, unwrap-second, unwrap-second-full, unwrap-nested, wrapper-none, wrapper-both, wrapper-left-same, wrapper-left, wrapper-right-same, wrapper-right, nested-list, nested-listed, nested-struct, nested-map, nested-plain, list-merged}
+use Rattle.merge.proofs.Turning.{and-are, both-are, resolve-dictionary, resolve-runs, resolve-nested, wrap-both, wrap-left, wrap-right, wrap-none, unwrap-first, unwrap-full, unwrap-second, unwrap-second-full, unwrap-nested, wrapper-none, wrapper-both, wrapper-left-same, wrapper-left, wrapper-right-same, wrapper-right, nested-list, nested-listed, nested-struct, nested-map, nested-plain, list-merged}
 use Rattle.merge.proofs.Structs.{struct-none, struct-named, struct-placed, listed-none, listed-merged}
 use Prim.Native.Nat.{ℕ, _<_}
 use borrow.Fn.Kinds.{In}
@@ -671,7 +671,7 @@ list-struct-same-length t c =
 -- src/coerce.rt:560:9
 list-struct-returns : (t : ℕ) → list-struct-lts.Need-returns (list-struct-calls t) (list-struct-at t) list-struct.Post
 list-struct-returns t c =
-    listed-merged _ _ _ (c .before .before .before .before .before .before .before .before .before .before .before .before .before .before .before .before .args .swap) _ _ _ _ _ _ _ (c .before .before .before .before .before .before .before .before .before .before .before .before .look .ensures .0) (c .before .before .before .before .before .before .before .before .before .before .look2 .ensures .0) (c .before .before .before .before .before .before .before .before .same-arity .ensures) (c .before .before .before .before .before .before .have-same-names .ensures) (sym (c .before .before .before .before .before .both .ensures) ∙ (c .before .before .before .before .if1 .taken)) (c .before .before .before .before .before .before .before .before .before .before .before .before .before .before .before .before .pre .1 .1) _ _ (c .before .before .under .ensures)
+    listed-merged _ _ _ (c .before .before .before .before .before .before .before .before .before .before .before .before .before .before .before .before .args .swap) _ _ _ _ _ _ _ (c .before .before .before .before .before .before .before .before .before .before .before .before .look .ensures .0) (c .before .before .before .before .before .before .before .before .before .before .look2 .ensures .0) (c .before .before .before .before .before .before .before .before .same-arity .ensures) (c .before .before .before .before .before .before .have-same-names .ensures) (sym (c .before .before .before .before .before .both .ensures) ∙ (c .before .before .before .before .if1 .taken)) (c .before .before .before .before .before .before .before .before .before .before .before .before .before .before .before .before .pre .1 .1 .0) (c .before .before .before .before .before .before .before .before .before .before .before .before .before .before .before .before .pre .1 .1 .1) _ _ (c .before .before .under .ensures)
 
 -- src/coerce.rt:538:1
 list-struct-same-length-2 : (t : ℕ) → list-struct-lts.Need-same-length-2 (list-struct-calls t) (list-struct-at t) list-struct.Post
@@ -811,7 +811,7 @@ nested-is-list-question-requires t c κs =
 -- src/coerce.rt:383:13
 nested-list-struct-requires : (t : ℕ) → nested-lts.Need-list-struct-requires (nested-calls t) (nested-at t) nested.Post
 nested-list-struct-requires t c κs =
-    (omega (arith, (c .before .before .before .before .before .before .before .before .before .before .before .before .before .before .before .pre .0)), ((c .before .before .before .before .before .before .before .before .before .before .before .before .before .before .before .pre .1), left-is _ _ _ (c .before .before .before .before .before .before .before .before .before .kind-at2 .result) (c .before .before .before .before .before .before .before .before .before .before .before .kind-at .ensures) (sym (c .before .before .before .before .both2 .ensures) ∙ (c .before .before .before .if2 .taken))))
+    (omega (arith, (c .before .before .before .before .before .before .before .before .before .before .before .before .before .before .before .pre .0)), ((c .before .before .before .before .before .before .before .before .before .before .before .before .before .before .before .pre .1), both-are _ _ _ _ _ _ (c .before .before .before .before .before .before .before .before .before .before .before .kind-at .ensures) (c .before .before .before .before .before .before .before .before .before .kind-at2 .ensures) (sym (c .before .before .before .before .both2 .ensures) ∙ (c .before .before .before .if2 .taken))))
 
 -- src/coerce.rt:383:13
 nested-same-length-2 : (t : ℕ) → nested-lts.Need-same-length-2 (nested-calls t) (nested-at t) nested.Post
@@ -1389,7 +1389,7 @@ struct-rule-same-length t c =
 -- src/coerce.rt:500:13
 struct-rule-returns : (t : ℕ) → struct-rule-lts.Need-returns (struct-rule-calls t) (struct-rule-at t) struct-rule.Post
 struct-rule-returns t c =
-    struct-named _ _ _ (c .before .before .before .before .before .before .before .before .before .before .before .before .before .before .before .before .before .before .before .before .args .swap) _ _ _ _ _ _ _ (c .before .before .before .before .before .before .before .before .before .before .before .before .before .before .before .before .look .ensures .0) (c .before .before .before .before .before .before .before .before .before .before .before .before .before .before .look2 .ensures .0) (c .before .before .before .before .before .before .before .before .before .same-arity .ensures) (c .before .before .before .before .before .have-same-names .ensures) (and-are (c .before .before .before .before .before .before .before .before .before .before .before .both .ensures) refl (c .before .before .before .before .before .before .before .before .both2 .ensures) ∙ (c .before .before .before .before .before .before .before .if1 .taken)) _ _ (c .before .before .before .before .if2 .taken) (omega (arith, (c .before .before .before .before .before .before .before .before .before .before .before .before .before .before .before .before .before .before .before .before .pre .1 .1 .some), (c .before .before .before .before .before .before .before .before .before .before .before .before .before .before .before .before .before .before .before .before .pre .1 .1 .records))) (c .before .before .under .ensures)
+    struct-named _ _ _ (c .before .before .before .before .before .before .before .before .before .before .before .before .before .before .before .before .before .before .before .before .args .swap) _ _ _ _ _ _ _ (c .before .before .before .before .before .before .before .before .before .before .before .before .before .before .before .before .look .ensures .0) (c .before .before .before .before .before .before .before .before .before .before .before .before .before .before .look2 .ensures .0) (c .before .before .before .before .before .before .before .before .before .same-arity .ensures) (c .before .before .before .before .before .have-same-names .ensures) (and-are (c .before .before .before .before .before .before .before .before .before .before .before .both .ensures) refl (c .before .before .before .before .before .before .before .before .both2 .ensures) ∙ (c .before .before .before .before .before .before .before .if1 .taken)) _ _ (c .before .before .before .before .if2 .taken) (c .before .before .under .ensures)
 
 -- src/coerce.rt:517:9
 struct-rule-under-requires-2 : (t : ℕ) → struct-rule-lts.Need-under-requires-2 (struct-rule-calls t) (struct-rule-at t) struct-rule.Post
