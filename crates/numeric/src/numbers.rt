@@ -1,14 +1,18 @@
 // Numbers and decimals. Where the source has a function for each of four widths, one over the width's kind serves.
 ghost use mathlib.Core.Path.{_≡_};
+ghost use mathlib.Core.Bool.{true, _&&_};
 ghost use Prim.Native.Nat.{_+_, _<_, _≤_, max, min};
 ghost use Rattle.sheet.specs.Kind.{isDecimal, cap};
 ghost use Rattle.sheet.specs.Refusals.{biased};
 ghost use Rattle.coercion.specs.Numbers.{decimal, ahead, widerScale, widerPrecision, createDecimalType, getWiderDecimalType, getWiderDecimalTypeCrossVariant, digitsOf, fractionOf, takes, coerceNumericTypeToDecimal, getCommonDecimalType, decimalCoercion, floatCoercion, integerCoercion, numericalCoercion, sameFigures, binaryNumericCoercion};
+ghost use Rattle.coercion.specs.Data.{orElse};
+ghost use Rattle.coercion.specs.Kinds.{isInteger};
 ghost use Rattle.coercion.specs.Meaning.{figuresIn};
 use coercion::Common;
 use coercion::Figures;
 use kinds::tests::both;
 use kinds::tests::either;
+use kinds::tests::is_integer;
 use kinds::tests::is_numeric;
 use kinds::tests::is_signed;
 use kinds::tests::one_is;
@@ -83,6 +87,12 @@ fn wider_kind(k: u8, j: u8) -> u8
     ensures { λ r. ⌜ r ≡ max k j ⌝ }
 {
     if k < j { j } else { k }
+}
+
+fn narrower_kind(k: u8, j: u8) -> u8
+    ensures { λ r. ⌜ r ≡ min k j ⌝ }
+{
+    if j < k { j } else { k }
 }
 
 fn get_wider_decimal_type_cross_variant(l: Figures, r: Figures) -> Common
@@ -251,6 +261,25 @@ fn integer_coercion(k: u8, j: u8) -> Common
     }
 }
 
+// Two integers: the wider of two signed or two unsigned ones, and else the signed one that holds both, where there is one.
+fn wider_integer(k: u8, j: u8) -> Common
+    requires { ⌜ (isInteger k && isInteger j) ≡ true ⌝ }
+    ensures { λ c. ⌜ figuresIn c ≡ integerCoercion k j ⌝ }
+{
+    let low = narrower_kind(k, j);
+    let high = wider_kind(k, j);
+    if high <= 6 {
+        return of_kind(high);
+    }
+    if 7 <= low {
+        return of_kind(high);
+    }
+    if high == 10 {
+        return Common::Of(decimal_of(16, 20, 128));
+    }
+    of_kind(wider_kind(low, high - 3))
+}
+
 fn numerical_coercion(k: u8, j: u8) -> Common
     ensures { λ c. ⌜ figuresIn c ≡ numericalCoercion k j ⌝ }
 {
@@ -269,6 +298,19 @@ fn same_figures(l: Figures, r: Figures) -> bool
     )
 }
 
+// The rules for two numbers that are not the same. Of two integers neither is a decimal or a float.
+fn other_figures(l: Figures, r: Figures) -> Common
+    ensures { λ c. ⌜ figuresIn c ≡ orElse (decimalCoercion l r) (numericalCoercion (l .kind) (r .kind)) ⌝ }
+{
+    if both(is_integer(l.kind), is_integer(r.kind)) {
+        return wider_integer(l.kind, r.kind);
+    }
+    match decimal_coercion(l, r) {
+        Common::Of(f) => Common::Of(f),
+        Common::Nothing => numerical_coercion(l.kind, r.kind),
+    }
+}
+
 pub fn binary_numeric_coercion(l: Figures, r: Figures) -> Common
     ensures { λ c. ⌜ figuresIn c ≡ binaryNumericCoercion l r ⌝ }
 {
@@ -276,10 +318,7 @@ pub fn binary_numeric_coercion(l: Figures, r: Figures) -> Common
         if same_figures(l, r) {
             return Common::Of(l);
         }
-        return match decimal_coercion(l, r) {
-            Common::Of(f) => Common::Of(f),
-            Common::Nothing => numerical_coercion(l.kind, r.kind),
-        };
+        return other_figures(l, r);
     }
     Common::Nothing
 }
