@@ -11,3 +11,4 @@ pub mod Stamping
 pub mod Naming
 pub mod Rows
 pub mod Steps
+pub mod Turns

@@ -13,7 +13,7 @@ use Rattle.sheet.specs.Tests.{between}
 use Rattle.sheet.specs.declared.Head.{Head}
 use Rattle.sheet.proofs.Tests.{never}
 use Rattle.coercion.specs.declared.Figures.{Figures}
-use Rattle.coercion.specs.Data.{DataType, Question, list, union, compare, orElse, figuresOf, asType}
+use Rattle.coercion.specs.Data.{DataType, Question, list, union, compare, figuresOf, asType}
 use Rattle.coercion.specs.Kinds.{isString, isDate, isTime, isList}
 use Rattle.coercion.specs.Times.{isTimeWithValidUnit, zoneCoercion, temporalCoercion, temporalCoercionNonstrictTimezone}
 use Rattle.coercion.specs.Rules.{timeOfString, stringTemporalCoercion}
@@ -80,7 +80,3 @@ pub time-paired : (q : Question) (l r : DataType) → isListQuestion q ≡ false
 time-paired list l r h = never (sym h)
 time-paired union l r h = refl
 time-paired compare l r h = refl
-
--- a rule before others
-pub before-others : {o a b x y : Option DataType} → o ≡ orElse a b → a ≡ x → b ≡ y → o ≡ orElse x y
-before-others e f g = e ∙ ap₂ orElse f g

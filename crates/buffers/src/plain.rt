@@ -2,7 +2,7 @@
 ghost use mathlib.Core.Path.{_≡_};
 ghost use Prim.Native.Nat.{_<_};
 ghost use Rattle.sheet.specs.Bounds.{Bounded};
-ghost use Rattle.coercion.specs.Data.{DataType, orElse, figuresOf, asType};
+ghost use Rattle.coercion.specs.Data.{DataType, figuresOf, asType};
 ghost use Rattle.coercion.specs.Numbers.{binaryNumericCoercion};
 ghost use Rattle.coercion.specs.Times.{temporalCoercionNonstrictTimezone};
 ghost use Rattle.coercion.specs.Rules.{nullCoercion};
@@ -19,6 +19,8 @@ use coercion::Moment;
 use coercion::Side;
 use kinds::tests::both;
 use kinds::tests::either;
+use kinds::tests::is_numeric;
+use kinds::tests::is_string;
 use numeric::numbers::binary_numeric_coercion;
 use rules::sides::null_coercion;
 use rules::sides::string_numeric_coercion;
@@ -29,6 +31,7 @@ use rules::strings::string_coercion;
 use rules::times::temporal_coercion;
 use rules::times::timeunit_coercion;
 use sheet::Head;
+use sheet::figure::within;
 
 pub fn is_list_question(question: Question) -> bool
     ensures { λ b. ⌜ b ≡ isListQuestion (asked question) ⌝ }
@@ -68,19 +71,6 @@ pub fn list_size(x: Head, y: Head) -> usize
         }
     }
     0
-}
-
-// The first of two steps that says a type.
-fn or_step(a: Step, b: Step) -> Step
-    ensures { λ o. ⌜ ((l r : DataType) → stepOf o l r ≡ orElse (stepOf a l r) (stepOf b l r)) ⌝ }
-{
-    match a {
-        Step::Lay(f) => Step::Lay(f),
-        Step::Stamp(unit) => Step::Stamp(unit),
-        Step::Left => Step::Left,
-        Step::Right => Step::Right,
-        Step::Nothing => b,
-    }
 }
 
 fn of_common(c: Common) -> Step
@@ -184,17 +174,35 @@ fn string_time(question: Question, x: Head, y: Head) -> Step
     of_moment(string_temporal_coercion(x.kind, x.figure, y.kind, y.figure))
 }
 
-// The rules for types without parts, in the source's order.
+// The rules for types without parts. Of two kinds one rule at most says a type, so the tests find that rule and the others are not asked.
 pub(crate) fn plain(question: Question, mask: u64, x: Head, y: Head) -> Step
     ensures { λ o. ⌜ ((l r : DataType) → Reads x l → Reads y r → stepOf o l r ≡ plainRules (rulesOf question mask) l r) ⌝ }
 {
     let k = x.kind;
     let j = y.kind;
-    let binary = of_found(binary_coercion(k, j));
-    let time = or_step(string_time(question, x, y), binary);
-    let number = or_step(string_number(question, x, y), time);
-    let null = or_step(null(mask, x, y), number);
-    let string = or_step(of_found(string_coercion(k, j)), null);
-    let temporal = or_step(temporal(x, y), string);
-    or_step(numeric(x, y), temporal)
+    let n = is_numeric(k);
+    let m = is_numeric(j);
+    if both(n, m) {
+        return numeric(x, y);
+    }
+    if either(k == 1, j == 1) {
+        return null(mask, x, y);
+    }
+    let s = is_string(k);
+    let t = is_string(j);
+    if both(s, t) {
+        return of_found(string_coercion(k, j));
+    }
+    let worded = either(s, t);
+    if both(worded, either(n, m)) {
+        return string_number(question, x, y);
+    }
+    let timed = either(within(18, 24, k), within(18, 24, j));
+    if both(worded, timed) {
+        return string_time(question, x, y);
+    }
+    if timed {
+        return temporal(x, y);
+    }
+    of_found(binary_coercion(k, j))
 }
