@@ -91,6 +91,11 @@ means-more space w v g z y z′ y′ No none p q a = a
 means-more space w v g z y z′ y′ No (some t) p q a = a
 means-more space w v g z y z′ y′ Full m p q a = ⊎-elim (λ x. inl (omega arith)) (λ x. inr (omega arith)) a
 
+-- a zone that was laid from a buffer
+pub zone-laid : {space : Space} {w v : List ℕ} {g : Goal} {unit : ℕ} {u z : List ℕ} {o : Out} → u ≡ z → LaidZoned space w v g 22 unit u o
+    → LaidZoned space w v g 22 unit z o
+zone-laid {space} {w} {v} {g} {unit} {u} {z} {o} e k = subst (λ (x : List ℕ). LaidZoned space w v g 22 unit x o) e k
+
 zone-more : (a b : Zone) → length (zoneBytes (zoneCoercion a b)) ≤ length (zoneBytes a) + length (zoneBytes b)
 zone-more absent b = omega arith
 zone-more (present z) b = omega arith
@@ -110,15 +115,15 @@ module _ (space : Space) (swap : Bool) (s w : List ℕ) (l r : ℕ) (g : Goal) w
         go false true f h = refl
         go false false f h = refl
 
-    pub stamp-zoned : e ≡ true → {u : List ℕ} → u ≡ zone s w swap (space .n) x y → (v : List ℕ) (o : Out) → LaidZoned space w v g 22 unit u o
+    pub stamp-zoned : e ≡ true → (v : List ℕ) (o : Out) → LaidZoned space w v g 22 unit (zone s w swap (space .n) x y) o
         → (left : ℕ) → Merges (stepOf (Step.Stamp unit)) space left swap s w v l r g o
-    stamp-zoned z {u} eu v o k left =
+    stamp-zoned z v o k left =
         record {
           writes = k .writes;
           means =
               λ i j p q h.
-              let c : zoneCoercion (i .shape .zone) (j .shape .zone) ≡ present u =
-              common i j p q ∙ ap₂ (λ (d : Bool) (f : List ℕ). cond d (present f) absent) z (sym eu) in
+              let u = zone s w swap (space .n) x y in
+              let c : zoneCoercion (i .shape .zone) (j .shape .zone) ≡ present u = common i j p q ∙ ap (λ (d : Bool). cond d (present u) absent) z in
               subst (λ (d : Zone). Means space w v g (size i + size j) (letters i + letters j) o (some (zoned (ofUnit 22 unit) d))) (sym c)
               (means-more space w v g 1 (length u) (size i + size j) (letters i + letters j) o _ (omega arith)
               (omega (arith, zone-more (i .shape .zone) (j .shape .zone), ap (λ (d : Zone). length (zoneBytes d)) c)) (k .means));

@@ -6,6 +6,7 @@ ghost use lib.ListN.{length};
 ghost use Rattle.sheet.specs.Bounds.{Filled};
 ghost use Rattle.buffers.specs.Writes.{side};
 ghost use Rattle.buffers.specs.Region.{Room, Ready};
+ghost use Rattle.buffers.specs.Goal.{LaidZoned};
 ghost use Rattle.buffers.specs.Plain.{rulesOf, plainRules};
 ghost use Rattle.buffers.specs.Steps.{stepOf, placeOf, eitherZone};
 ghost use Rattle.buffers.specs.Typed.{Merges};
@@ -72,6 +73,25 @@ fn zone_into<'a>(
     fill(z, 0, z.len(), buf)
 }
 
+// Writes a Timestamp of a unit with the zone of two records of which one has a zone. All of the zone is read before one byte is written.
+fn stamp_zoned(
+    sheet: &[u8],
+    work: &mut [u8],
+    space: Space,
+    swap: bool,
+    unit: u8,
+    x: Head,
+    y: Head,
+    g: Goal,
+) -> Out
+    requires { ⌜ Room (now work) space × Ready space g ⌝ }
+    ensures { λ o. ⌜ LaidZoned space (now (work .entry)) (now (work .exit)) g 22 unit (eitherZone (side swap (now (sheet .entry)) (now (work .entry))) (side (not swap) (now (sheet .entry)) (now (work .entry))) (space .n) x y) o ⌝ }
+{
+    let mut buf = [0u8; 255];
+    let k = zone_into(sheet, &*work, space.n, swap, x, y, &mut buf);
+    lay_zoned(work, space, g, 22, unit, &buf[..k])
+}
+
 // Writes a Timestamp of a unit with the zone of two types: the left's if it has one, else the right's.
 fn stamp(
     sheet: &[u8],
@@ -86,12 +106,10 @@ fn stamp(
     requires { ⌜ Room (now work) space × Ready space g ⌝ }
     ensures { λ o. ⌜ ((left : ℕ) → Merges (stepOf (Step.Stamp unit)) space left swap (now (sheet .entry)) (now (work .entry)) (now (work .exit)) l r g o) ⌝ }
 {
-    let mut buf = [0u8; 255];
     let x = look(sheet, &*work, swap, l);
     let y = look(sheet, &*work, !swap, r);
-    let k = zone_into(sheet, &*work, space.n, swap, x, y, &mut buf);
     if either(is_zoned(x), is_zoned(y)) {
-        return lay_zoned(work, space, g, 22, unit, &buf[..k]);
+        return stamp_zoned(sheet, work, space, swap, unit, x, y, g);
     }
     lay_plain(work, space, g, 22, unit, 0)
 }
