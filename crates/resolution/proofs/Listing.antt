@@ -1,13 +1,13 @@
 -- What a list of types is asked before it is folded. Assumes nothing.
 use mathlib.Core.Path.{_≡_, refl, ap, sym, _∙_}
-use mathlib.Core.Bool.{Bool, true, false, not, _&&_, _||_, or-false, or-assoc}
+use mathlib.Core.Bool.{Bool, true, false, cond, not, _&&_, _||_, or-false, or-assoc}
 use mathlib.Core.List.{List, [], _∷_}
 use Prim.Native.Nat.{ℕ, zero, suc, _+_, _*_, _<_, _≤_}
 use native.Mathlib.Omega.{arith}
 use lib.Bits.{bitOr}
 use lib.Count.{ones, onesIn}
 use lib.Dec.{ltb, eqb, leb·zero}
-use borrow.Author.Tests.{eqb-true, lt-ltb, lt-leb}
+use borrow.Author.Tests.{eqb-true, ne-eqb, lt-ltb, lt-leb}
 use Rattle.sheet.specs.Tests.{between}
 use Rattle.sheet.specs.Types.{Shape, Fields, end, field}
 use Rattle.sheet.specs.Head.{headAt}
@@ -17,18 +17,26 @@ use Rattle.coercion.specs.Data.{DataType, typesOf}
 use Rattle.coercion.specs.Rules.{isNull}
 use Rattle.coercion.specs.Answers.{Category, array, boolean, numeric, dateTime, composite, unknown, notSupported, ownCategory, categoryOf, isCategory, hasCategory, asNumber, categoriesIn, categoriesFit, allEqual}
 use Rattle.coercion.specs.Meaning.{categoryBit, isSupported}
-use Rattle.rules.proofs.Cores.{Found}
+use Rattle.rules.proofs.Cores.{core-own}
 use Rattle.buffers.specs.Source.{SameTypes}
 use Rattle.buffers.specs.Typed.{Typed}
 use Rattle.buffers.specs.declared.Space.{Space}
 use Rattle.buffers.proofs.Sources.{link-inside}
 use Rattle.buffers.proofs.Chained.{held-next}
 use Rattle.merge.proofs.Merging.{typed-same}
-use Rattle.resolution.specs.Reached.{Listed, categoryBits}
+use Rattle.resolution.specs.Reached.{Listed, Found, categoryBits, seenBits}
+
+pub unnot : (b : Bool) {c : Bool} → not b ≡ c → b ≡ not c
+unnot true e = ap not e
+unnot false e = ap not e
 
 -- the answer to a question on whatever types stand at a link past floor
 abbrev pub Tells : {A : Type 0} → (List DataType → A) → Space → List ℕ → ℕ → ℕ → A → Type 0
 Tells F space s floor link a = (ts : Fields) → Listed space s floor link ts → a ≡ F (typesOf ts)
+
+-- what the types that are left tell of G is what all of them tell of F
+abbrev pub Onward : {A : Type 0} → (List DataType → A) → (List DataType → A) → Space → List ℕ → ℕ → ℕ → ℕ → ℕ → Type 0
+Onward {A} F G space s floor link last at = (a : A) → Tells G space s last at a → Tells F space s floor link a
 
 -- the first of the listed types
 pub listed-typed : {space : Space} {s : List ℕ} {floor link : ℕ} {name : List ℕ} {nullable : Bool} {shape : Shape} {parts rest : Fields}
@@ -118,30 +126,30 @@ module _ (space : Space) (s : List ℕ) (floor link : ℕ) (past : floor < link)
       has-next notSupported t ts refl
       ∙ ap (λ (b : Bool). b || hasCategory notSupported ts) (none-supported (category t) ∙ ap not (ap isSupported (sym (found-category k f x)) ∙ sym es ∙ z))
 
-  pub unsupported-on : (h : Head) → h ≡ headAt s link → (b : Bool) → e ≡ true → Tells (hasCategory notSupported) space s link (h .next) b
-      → Tells (hasCategory notSupported) space s floor link b
-  unsupported-on h eh b z g =
-      tells-next (hasCategory notSupported) space s floor link b past h eh (hasCategory notSupported) g (λ t ts x. sym (first-is t ts z x))
+  -- a type of a category adds its bit
+  pub seen-on : (bits : ℕ) (h : Head) → h ≡ headAt s link → (more : ℕ) → more ≡ bitOr bits (categoryBit (ownCategory k)) → e ≡ true → (r : ℕ)
+      → Tells (seenBits more) space s link (h .next) r → Tells (seenBits bits) space s floor link r
+  unfolding seenBits categoryBits
+  seen-on bits h eh more em z r g =
+      tells-next (seenBits bits) space s floor link r past h eh (seenBits more) g
+      (λ t ts x.
+      ap (λ (m : ℕ). cond (hasCategory notSupported ts) 255 (categoryBits m ts)) (em ∙ ap (λ (c : Category). bitOr bits (categoryBit c)) (found-category k f x))
+      ∙ ap (λ (b : Bool). cond b 255 (categoryBits bits (t ∷ ts))) (sym (first-is t ts z x)))
 
-  pub unsupported-here : e ≡ false → Tells (hasCategory notSupported) space s floor link true
-  unsupported-here z = tells-first (hasCategory notSupported) space s floor link true past (λ t ts x. sym (first-is t ts z x))
+  -- one of none says all
+  pub seen-here : (bits : ℕ) → e ≡ false → Tells (seenBits bits) space s floor link 255
+  unfolding seenBits
+  seen-here bits z =
+      tells-first (seenBits bits) space s floor link 255 past (λ t ts x. ap (λ (b : Bool). cond b 255 (categoryBits bits (t ∷ ts))) (sym (first-is t ts z x)))
 
-pub unsupported-none : (space : Space) (s : List ℕ) (floor link : ℕ) → link ≤ floor → Tells (hasCategory notSupported) space s floor link false
-unfolding hasCategory
-unsupported-none space s floor link h = tells-none (hasCategory notSupported) space s floor link false h refl
+pub seen-none : (space : Space) (s : List ℕ) (floor link bits : ℕ) → link ≤ floor → Tells (seenBits bits) space s floor link bits
+unfolding seenBits categoryBits hasCategory
+seen-none space s floor link bits h = tells-none (seenBits bits) space s floor link bits h refl
 
--- the bits of the categories
-module _ (space : Space) (s : List ℕ) (floor link bits : ℕ) where
-  pub bits-none : link ≤ floor → Tells (categoryBits bits) space s floor link bits
-  unfolding categoryBits
-  bits-none h = tells-none (categoryBits bits) space s floor link bits h refl
-
-  pub bits-on : floor < link → (h : Head) → h ≡ headAt s link → (k : ℕ) → Found s (space .n) link k → (more : ℕ) → more ≡ bitOr bits (categoryBit (ownCategory k)) → (r : ℕ)
-      → Tells (categoryBits more) space s link (h .next) r → Tells (categoryBits bits) space s floor link r
-  unfolding categoryBits
-  bits-on past h eh k f more em r g =
-      tells-next (categoryBits bits) space s floor link r past h eh (categoryBits more) g
-      (λ t ts x. ap (λ (m : ℕ). categoryBits m ts) (em ∙ ap (λ (c : Category). bitOr bits (categoryBit c)) (found-category k f x)))
+-- a kind below the wrappers is that of a record's own
+pub own-found : (s : List ℕ) (n link : ℕ) (h : Head) → h ≡ headAt s link → h .kind < 37 → Found s n link (h .kind)
+own-found s n link h e q =
+    core-own s n link h e {w = false} (sym (rw (ne-eqb (h .kind) 37 (omega arith), ne-eqb (h .kind) 38 (omega arith)))) refl
 
 -- a fact of each flag, and of each five flags, by one computed test
 abbrev every : (Bool → Bool) → Bool
@@ -223,13 +231,13 @@ one-at-most (suc zero) = refl
 one-at-most (suc (suc n)) = rw (lt-ltb 1 (suc (suc n)) (omega arith), lt-leb (suc (suc n)) 1 (omega arith), leb·zero (suc (suc n)))
 
 -- whether the categories allow an answer
-module _ (space : Space) (s : List ℕ) (link : ℕ) {u : Bool} (un : Tells (hasCategory notSupported) space s 0 link u) where
-  pub fitting-not : u ≡ true → Tells categoriesFit space s 0 link false
-  fitting-not z ts l = rw (sym (un ts l) ∙ z)
+fit-bits : (ts : List DataType) → not (ltb 1 (ones (seenBits 0 ts))) ≡ categoriesFit ts
+unfolding seenBits ones onesIn
+fit-bits ts = go (hasCategory notSupported ts)
+  where
+    go : (u : Bool) → not (ltb 1 (ones (cond u 255 (categoryBits 0 ts)))) ≡ cond u false (between 0 1 (categoriesIn ts))
+    go true = refl
+    go false = ap (λ (x : ℕ). not (ltb 1 x)) (ones-are ts) ∙ one-at-most (categoriesIn ts)
 
-  pub fitting-by : u ≡ false → (bits : ℕ) → Tells (categoryBits 0) space s 0 link bits → (m : Bool) → m ≡ ltb 1 (ones bits) → Tells categoriesFit space s 0 link (not m)
-  fitting-by z bits g m em ts l =
-      ap not (em ∙ ap (λ (x : ℕ). ltb 1 (ones x)) (g ts l))
-      ∙ ap (λ (x : ℕ). not (ltb 1 x)) (ones-are (typesOf ts))
-      ∙ one-at-most (categoriesIn (typesOf ts))
-      ∙ sym (rw (sym (un ts l) ∙ z))
+pub fitting : (space : Space) (s : List ℕ) (link bits : ℕ) → Tells (seenBits 0) space s 0 link bits → (m : Bool) → m ≡ ltb 1 (ones bits) → Tells categoriesFit space s 0 link (not m)
+fitting space s link bits g m em ts l = ap not (em ∙ ap (λ (x : ℕ). ltb 1 (ones x)) (g ts l)) ∙ fit-bits (typesOf ts)

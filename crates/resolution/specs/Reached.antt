@@ -1,16 +1,17 @@
 -- An answer that was reached in work space, whatever types a sheet lists.
 use mathlib.Core.Path.{_≡_}
 use Prim.Native.Nat.{ℕ, _+_, _*_, _<_, _≤_}
-use mathlib.Core.Bool.{Bool, true, false}
+use mathlib.Core.Bool.{Bool, true, false, cond}
 use mathlib.Core.List.{List, [], _∷_}
 use mathlib.Core.Option.{Option, none, some}
 use lib.ListN.{length, getD}
 use lib.Bits.{bitOr}
-use Rattle.sheet.specs.Types.{Fields, count, labels}
+use Rattle.sheet.specs.Types.{Shape, Fields, field, count, labels}
 use Rattle.sheet.specs.Names.{namesDiffer}
 use Rattle.sheet.specs.Carried.{FieldsRight}
+use Rattle.sheet.specs.Holds.{Leads}
 use Rattle.coercion.specs.Data.{DataType, size, single, typesOf}
-use Rattle.coercion.specs.Answers.{categoryOf}
+use Rattle.coercion.specs.Answers.{ownCategory, categoryOf, hasCategory, notSupported}
 use Rattle.coercion.specs.Meaning.{categoryBit}
 use Rattle.buffers.specs.Region.{Held, Inside, Wrote}
 use Rattle.buffers.specs.Typed.{Typed}
@@ -76,6 +77,16 @@ pub record Shifted (space : Space) (w v : List ℕ) (d : Spot) : Type 0 where
 unfoldable pub categoryBits : ℕ → List DataType → ℕ
 categoryBits bits [] = bits
 categoryBits bits (t ∷ ts) = categoryBits (bitOr bits (categoryBit (categoryOf (t .shape) (t .parts)))) ts
+
+-- the same, and all bits where a type of the list has no category
+unfoldable pub seenBits : ℕ → List DataType → ℕ
+seenBits bits ts = cond (hasCategory notSupported ts) 255 (categoryBits bits ts)
+
+-- a kind that has the category of the type at a link
+abbrev pub Found : List ℕ → ℕ → ℕ → ℕ → Type 0
+Found s n link k =
+    (floor i o : ℕ) (name : List ℕ) (nullable : Bool) (shape : Shape) (parts rest : Fields) → Leads s n floor link i o (field name nullable shape parts rest)
+    → ownCategory k ≡ categoryOf shape parts
 
 -- bytes were moved to another place, and nothing else has changed
 pub record Moved (w v : List ℕ) (from to len : ℕ) : Type 0 where

@@ -3,9 +3,9 @@ ghost use mathlib.Core.Path.{_≡_};
 ghost use Prim.Native.Nat.{_≤_};
 ghost use Rattle.sheet.specs.Types.{Fields};
 ghost use Rattle.coercion.specs.Data.{DataType, typesOf};
-ghost use Rattle.coercion.specs.Answers.{allEqual, notSupported, hasCategory, categoriesFit};
+ghost use Rattle.coercion.specs.Answers.{allEqual, categoriesFit};
 ghost use Rattle.buffers.specs.Typed.{Typed};
-ghost use Rattle.resolution.specs.Reached.{Listed, categoryBits};
+ghost use Rattle.resolution.specs.Reached.{Listed, Found, seenBits};
 use buffers::Space;
 use buffers::alike::same_type;
 use rules::category::core_kind;
@@ -19,59 +19,55 @@ pub(crate) fn all_equal(sheet: &[u8], space: Space, first: usize, floor: usize, 
     requires { ⌜ space .n ≤ 1024 ⌝ }
     ensures { λ b. ⌜ ((t : DataType) (ts : Fields) → Typed space (now (sheet .entry)) first t → Listed space (now (sheet .entry)) floor link ts → b ≡ allEqual t (typesOf ts)) ⌝ }
 {
-    let n = space.n;
-    if link <= floor {
-        return true;
-    }
-    if n <= link {
-        return false;
-    }
-    let next = head_at(sheet, link).next;
-    if same_type(sheet, n, link, sheet, n, first, true) {
-        return all_equal(sheet, space, first, link, next);
-    }
-    false
-}
-
-// Whether a type at a link, past floor, has no category.
-fn is_any_unsupported(sheet: &[u8], space: Space, floor: usize, link: usize) -> bool
-    requires { ⌜ space .n ≤ 1024 ⌝ }
-    ensures { λ b. ⌜ ((ts : Fields) → Listed space (now (sheet .entry)) floor link ts → b ≡ hasCategory notSupported (typesOf ts)) ⌝ }
-{
-    let n = space.n;
-    if link <= floor {
-        return false;
-    }
-    if n <= link {
-        return false;
-    }
-    let next = head_at(sheet, link).next;
-    if is_supported(core_kind(sheet, n, link)) {
-        return is_any_unsupported(sheet, space, link, next);
+    let mut last = floor;
+    let mut at = link;
+    while last < at {
+        if space.n <= at {
+            return false;
+        }
+        let next = head_at(sheet, at).next;
+        if !same_type(sheet, space.n, at, sheet, space.n, first, true) {
+            return false;
+        }
+        last = at;
+        at = next;
     }
     true
 }
 
-// The bits of the categories of the types at a link, past floor, with those that were seen before.
-fn categories(sheet: &[u8], space: Space, floor: usize, link: usize, bits: u8) -> u8
-    requires { ⌜ space .n ≤ 1024 ⌝ }
-    ensures { λ r. ⌜ ((ts : Fields) → Listed space (now (sheet .entry)) floor link ts → r ≡ categoryBits bits (typesOf ts)) ⌝ }
+// The kind below all wrappers of record r, which is its own where it is no wrapper.
+fn value_kind(sheet: &[u8], n: usize, r: usize) -> u8
+    ensures { λ k. ⌜ Found (now (sheet .entry)) n r k ⌝ }
 {
-    let n = space.n;
-    if link <= floor {
-        return bits;
+    let kind = head_at(sheet, r).kind;
+    if kind < 37 {
+        return kind;
     }
-    if n <= link {
-        return bits;
+    core_kind(sheet, n, r)
+}
+
+// The bits of the categories of the types at a link; all bits where a type has no category.
+fn categories(sheet: &[u8], space: Space, link: usize) -> u8
+    requires { ⌜ space .n ≤ 1024 ⌝ }
+    ensures { λ r. ⌜ ((ts : Fields) → Listed space (now (sheet .entry)) 0 link ts → r ≡ seenBits 0 (typesOf ts)) ⌝ }
+{
+    let mut bits = 0u8;
+    let mut last = 0;
+    let mut at = link;
+    while last < at {
+        if space.n <= at {
+            return bits;
+        }
+        let next = head_at(sheet, at).next;
+        let kind = value_kind(sheet, space.n, at);
+        if !is_supported(kind) {
+            return 255;
+        }
+        bits = with_category(bits, kind);
+        last = at;
+        at = next;
     }
-    let next = head_at(sheet, link).next;
-    categories(
-        sheet,
-        space,
-        link,
-        next,
-        with_category(bits, core_kind(sheet, n, link)),
-    )
+    bits
 }
 
 // Whether the categories of the types at a link allow an answer.
@@ -79,8 +75,5 @@ pub(crate) fn is_fitting(sheet: &[u8], space: Space, link: usize) -> bool
     requires { ⌜ space .n ≤ 1024 ⌝ }
     ensures { λ b. ⌜ ((ts : Fields) → Listed space (now (sheet .entry)) 0 link ts → b ≡ categoriesFit (typesOf ts)) ⌝ }
 {
-    if is_any_unsupported(sheet, space, 0, link) {
-        return false;
-    }
-    !is_mixed(categories(sheet, space, 0, link, 0))
+    !is_mixed(categories(sheet, space, link))
 }
