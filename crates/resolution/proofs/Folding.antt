@@ -31,8 +31,8 @@ use Rattle.buffers.specs.declared.Out.the-variants.{Done, No, Full}
 use Rattle.buffers.proofs.Sources.{source-none, link-inside}
 use Rattle.buffers.proofs.Chained.{held-next, labels-sum}
 use Rattle.merge.proofs.Merging.{typed-kind, type-differ, single-letters}
-use Rattle.resolution.specs.Reached.{front, Listed, Fits, AnswerIs, Enclosed, Within, Reached, Candidate, Shifted, Steps, Folds}
-use Rattle.resolution.proofs.Shifting.{candidate-typed}
+use Rattle.resolution.specs.Reached.{front, Listed, Fits, AnswerIs, Enclosed, Within, Reached, Candidate, Shifted, Mirrored, Steps, Folds}
+use Rattle.resolution.proofs.Shifting.{candidate-typed, mirrored-typed}
 use Rattle.resolution.proofs.Listing.{listed-typed, listed-next}
 
 -- the goal at the front
@@ -320,29 +320,25 @@ module _ (rules : Rules) (space : Space) {s w : List ℕ} {link : ℕ} (past : 0
       of-two u o k (field name nullable shape parts (field name₂ nullable₂ shape₂ parts₂ (field name₃ nullable₃ shape₃ parts₃ rest))) a f =
           let b = listed-next (listed-next a h e) h₂ e₂ .held .source .leads in absurd (omega (arith, b .is, b .above))
 
-      pub pair-on : {v : List ℕ} (u : List ℕ) {d : Spot} (o : Out) → CopiedField space s w v (h .next) front (Done d) → Steps (coercion rules) space s v u link d o → Reached (pairAnswer rules) space s w u 0 link o
+      pub pair-on : {v : List ℕ} (u : List ℕ) (o : Out) → Mirrored space s w v → Merges (coercion rules) space (2 * space .n) false s v u link (h .next) foremost o
+          → Reached (pairAnswer rules) space s w u 0 link o
       unfolding count labels
-      pair-on u o m g =
+      pair-on {v} u o m g =
           record {
-            within = within-trans (within-kept room (m .kept)) (g .within);
+            within =
+                record {
+                  long = g .writes .kept .long ∙ m .long;
+                  above = λ j q. g .writes .kept .above j (omega (arith, room .half)) ∙ m .above j (omega arith);
+                };
             means =
                 of-two u o
                 (λ name name₂ nullable nullable₂ shape shape₂ parts parts₂ a f.
+                let x = typeOf shape parts in
+                let y = typeOf shape₂ parts₂ in
                 let f₂ = fits-behind name nullable shape parts (field name₂ nullable₂ shape₂ parts₂ end) f in
-                g .means (typeOf shape parts) (typeOf shape₂ parts₂) (listed-typed a)
-                (copied-candidate name₂ nullable₂ shape₂ parts₂ end m (listed-next a h e) (fits-rest name nullable shape parts (field name₂ nullable₂ shape₂ parts₂ end) f))
-                (omega (arith, fits-few name₂ nullable₂ shape₂ parts₂ end f₂)) (omega (arith, fits-short name₂ nullable₂ shape₂ parts₂ end f₂)));
-          }
-
-      pub pair-lost : (v : List ℕ) (o : Out) → Undone o → CopiedField space s w v (h .next) front o → Reached (pairAnswer rules) space s w v 0 link No
-      pair-lost v o n m =
-          record {
-            within = within-kept room (m .kept);
-            means =
-                of-two v No
-                (λ name name₂ nullable nullable₂ shape shape₂ parts parts₂ a f.
-                absurd
-                (uncopied o n name₂ nullable₂ shape₂ parts₂ end m (listed-next a h e) (fits-rest name nullable shape parts (field name₂ nullable₂ shape₂ parts₂ end) f)));
+                let few = fits-few name₂ nullable₂ shape₂ parts₂ end f₂ in
+                answered space v u (size x + size y) (letters x + letters y) o (coercion rules x y) (omega arith) (omega (arith, fits-short name₂ nullable₂ shape₂ parts₂ end f₂))
+                (g .means x y (listed-typed a) (mirrored-typed space s w v room m (listed-typed (listed-next a h e))) (omega arith)));
           }
 
 -- `type_union_resolution` by its two tests

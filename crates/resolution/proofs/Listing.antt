@@ -17,14 +17,14 @@ use Rattle.coercion.specs.Data.{DataType, typesOf}
 use Rattle.coercion.specs.Rules.{isNull}
 use Rattle.coercion.specs.Answers.{Category, array, boolean, numeric, dateTime, composite, unknown, notSupported, ownCategory, categoryOf, isCategory, hasCategory, asNumber, categoriesIn, categoriesFit, allEqual}
 use Rattle.coercion.specs.Meaning.{categoryBit, isSupported}
-use Rattle.rules.proofs.Cores.{core-own}
+use Rattle.rules.proofs.Cores.{Found, core-own}
 use Rattle.buffers.specs.Source.{SameTypes}
 use Rattle.buffers.specs.Typed.{Typed}
 use Rattle.buffers.specs.declared.Space.{Space}
 use Rattle.buffers.proofs.Sources.{link-inside}
 use Rattle.buffers.proofs.Chained.{held-next}
 use Rattle.merge.proofs.Merging.{typed-same}
-use Rattle.resolution.specs.Reached.{Listed, Found, categoryBits, seenBits}
+use Rattle.resolution.specs.Reached.{Listed, categoryBits, seenBits}
 
 pub unnot : (b : Bool) {c : Bool} → not b ≡ c → b ≡ not c
 unnot true e = ap not e

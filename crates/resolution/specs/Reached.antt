@@ -6,12 +6,11 @@ use mathlib.Core.List.{List, [], _∷_}
 use mathlib.Core.Option.{Option, none, some}
 use lib.ListN.{length, getD}
 use lib.Bits.{bitOr}
-use Rattle.sheet.specs.Types.{Shape, Fields, field, count, labels}
+use Rattle.sheet.specs.Types.{Fields, count, labels}
 use Rattle.sheet.specs.Names.{namesDiffer}
 use Rattle.sheet.specs.Carried.{FieldsRight}
-use Rattle.sheet.specs.Holds.{Leads}
 use Rattle.coercion.specs.Data.{DataType, size, single, typesOf}
-use Rattle.coercion.specs.Answers.{ownCategory, categoryOf, hasCategory, notSupported}
+use Rattle.coercion.specs.Answers.{categoryOf, hasCategory, notSupported}
 use Rattle.coercion.specs.Meaning.{categoryBit}
 use Rattle.buffers.specs.Region.{Held, Inside, Wrote}
 use Rattle.buffers.specs.Typed.{Typed}
@@ -82,18 +81,18 @@ categoryBits bits (t ∷ ts) = categoryBits (bitOr bits (categoryBit (categoryOf
 unfoldable pub seenBits : ℕ → List DataType → ℕ
 seenBits bits ts = cond (hasCategory notSupported ts) 255 (categoryBits bits ts)
 
--- a kind that has the category of the type at a link
-abbrev pub Found : List ℕ → ℕ → ℕ → ℕ → Type 0
-Found s n link k =
-    (floor i o : ℕ) (name : List ℕ) (nullable : Bool) (shape : Shape) (parts rest : Fields) → Leads s n floor link i o (field name nullable shape parts rest)
-    → ownCategory k ≡ categoryOf shape parts
-
 -- bytes were moved to another place, and nothing else has changed
 pub record Moved (w v : List ℕ) (from to len : ℕ) : Type 0 where
   pub long : length v ≡ length w
   pub moved : (j : ℕ) → j < len → getD v (to + j) 0 ≡ getD w (from + j) 0
   pub below : (j : ℕ) → j < to → getD v j 0 ≡ getD w j 0
   pub above : (j : ℕ) → to + len ≤ j → getD v j 0 ≡ getD w j 0
+
+-- the sheet's bytes were laid in the first half, as far as it has them, and nothing else has changed
+pub record Mirrored (space : Space) (s w v : List ℕ) : Type 0 where
+  pub long : length v ≡ length w
+  pub same : (j : ℕ) → j < space .half → j < length s → getD v j 0 ≡ getD s j 0
+  pub above : (j : ℕ) → space .half ≤ j → getD v j 0 ≡ getD w j 0
 
 -- a type of the sheet was merged with the candidate
 pub record Steps (coerce : DataType → DataType → Option DataType) (space : Space) (s w v : List ℕ) (link : ℕ) (d : Spot) (o : Out) : Type 0 where

@@ -9,6 +9,7 @@ ghost use Rattle.buffers.specs.Plain.{rulesOf};
 ghost use Rattle.resolution.specs.Reached.{Reached, Steps, Folds};
 use crate::list::all_equal;
 use crate::list::is_fitting;
+use crate::shift::mirror;
 use crate::shift::shift;
 use buffers::Goal;
 use buffers::Out;
@@ -131,7 +132,7 @@ pub(crate) fn type_union_resolution(
     Out::No
 }
 
-// The common type of the two types at a link, where there are two.
+// The common type of the two types at a link, where there are two. The second is read from a copy of the sheet's bytes.
 pub(crate) fn pair(
     sheet: &[u8],
     work: &mut [u8],
@@ -156,9 +157,24 @@ pub(crate) fn pair(
     if head_at(sheet, next).next != 0 {
         return Out::No;
     }
-    match copy_field(sheet, work, space, false, next, Spot { at: 1, label: 0 }) {
-        Out::Done(d) => step(sheet, work, space, question, mask, link, d),
-        Out::No => Out::No,
-        Out::Full => Out::No,
-    }
+    mirror(sheet, work, space);
+    let g = Goal {
+        at: 1,
+        label: 0,
+        nlen: 0,
+        nullable: false,
+    };
+    let records = 2 * space.n;
+    coerce(
+        sheet,
+        work,
+        space,
+        question,
+        mask,
+        records,
+        false,
+        link,
+        next,
+        g,
+    )
 }

@@ -1,11 +1,14 @@
 // What a list is asked before it is folded: whether its types are all the same, and of which categories they are.
 ghost use mathlib.Core.Path.{_≡_};
-ghost use Prim.Native.Nat.{_≤_};
-ghost use Rattle.sheet.specs.Types.{Fields};
+ghost use mathlib.Core.Bool.{Bool};
+ghost use mathlib.Core.List.{List};
+ghost use Prim.Native.Nat.{ℕ, _≤_};
+ghost use Rattle.sheet.specs.Types.{Shape, Fields, field};
+ghost use Rattle.sheet.specs.Holds.{Leads};
 ghost use Rattle.coercion.specs.Data.{DataType, typesOf};
-ghost use Rattle.coercion.specs.Answers.{allEqual, categoriesFit};
+ghost use Rattle.coercion.specs.Answers.{allEqual, ownCategory, categoryOf, categoriesFit};
 ghost use Rattle.buffers.specs.Typed.{Typed};
-ghost use Rattle.resolution.specs.Reached.{Listed, Found, seenBits};
+ghost use Rattle.resolution.specs.Reached.{Listed, seenBits};
 use buffers::Space;
 use buffers::alike::same_type;
 use rules::category::core_kind;
@@ -37,7 +40,7 @@ pub(crate) fn all_equal(sheet: &[u8], space: Space, first: usize, floor: usize, 
 
 // The kind below all wrappers of record r, which is its own where it is no wrapper.
 fn value_kind(sheet: &[u8], n: usize, r: usize) -> u8
-    ensures { λ k. ⌜ Found (now (sheet .entry)) n r k ⌝ }
+    ensures { λ k. ⌜ ((floor i o : ℕ) (name : List ℕ) (nullable : Bool) (shape : Shape) (parts rest : Fields) → Leads (now (sheet .entry)) n floor r i o (field name nullable shape parts rest) → ownCategory k ≡ categoryOf shape parts) ⌝ }
 {
     let kind = head_at(sheet, r).kind;
     if kind < 37 {
