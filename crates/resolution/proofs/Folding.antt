@@ -137,6 +137,10 @@ module _ (rules : Rules) {space : Space} {s w : List ℕ} {link : ℕ} {d : Spot
         short = omega (arith, coercion-shorter rules x c t (type-differ x a) (k .differ) q, single-letters t, single-letters x, single-letters c);
       }
 
+-- what the fold of the types that are left says is what the fold of all of them says
+abbrev pub FoldsOn : (DataType → List DataType → Option DataType) → Space → List ℕ → List ℕ → ℕ → ℕ → Spot → List ℕ → ℕ → ℕ → Spot → Type 0
+FoldsOn fold space s w₀ floor link d w last at e = (v : List ℕ) (o : Out) → Folds fold space s w v last at e o → Folds fold space s w₀ v floor link d o
+
 stops : (rules : Rules) (space : Space) (v : List ℕ) (ts : List DataType) (m : Option DataType) → AnswerIs space v No m → AnswerIs space v No (andThen m (λ t. foldFrom rules t ts))
 stops rules space v ts none a = tt
 stops rules space v ts (some t) a = absurd a

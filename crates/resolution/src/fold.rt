@@ -57,22 +57,26 @@ fn fold_from(
     requires { ⌜ Room (now work) space × (Inside space d × (1 < space .n)) ⌝ }
     ensures { λ o. ⌜ Folds (foldFrom (rulesOf Question.List mask)) space (now (sheet .entry)) (now (work .entry)) (now (work .exit)) floor link d o ⌝ }
 {
-    if link <= floor {
-        return Out::Done(d);
+    let mut last = floor;
+    let mut at = link;
+    let mut end = d;
+    while last < at {
+        if space.n <= at {
+            return Out::No;
+        }
+        let h = head_at(sheet, at);
+        let next = h.next;
+        if h.kind != 1 {
+            match step(sheet, work, space, Question::List, mask, at, end) {
+                Out::Done(e) => end = e,
+                Out::No => return Out::No,
+                Out::Full => return Out::No,
+            }
+        }
+        last = at;
+        at = next;
     }
-    if space.n <= link {
-        return Out::No;
-    }
-    let h = head_at(sheet, link);
-    let next = h.next;
-    if h.kind == 1 {
-        return fold_from(sheet, work, space, mask, link, next, d);
-    }
-    match step(sheet, work, space, Question::List, mask, link, d) {
-        Out::Done(e) => fold_from(sheet, work, space, mask, link, next, e),
-        Out::No => Out::No,
-        Out::Full => Out::No,
-    }
+    Out::Done(end)
 }
 
 // The first type at a link past floor that is not Null, folded with those behind it.
