@@ -31,7 +31,7 @@ use Rattle.buffers.specs.declared.Out.the-variants.{Done, No, Full}
 use Rattle.buffers.proofs.Sources.{source-none, link-inside}
 use Rattle.buffers.proofs.Chained.{held-next, labels-sum}
 use Rattle.merge.proofs.Merging.{typed-kind, type-differ, single-letters}
-use Rattle.resolution.specs.Reached.{front, Listed, Fits, AnswerIs, Enclosed, Within, Reached, Candidate, Shifted, Mirrored, Steps, Folds}
+use Rattle.resolution.specs.Reached.{front, Listed, Fits, AnswerIs, Enclosed, Within, Reached, Candidate, Shifted, Mirrored, Entry, Steps, Folds}
 use Rattle.resolution.proofs.Shifting.{candidate-typed, mirrored-typed}
 use Rattle.resolution.proofs.Listing.{listed-typed, listed-next}
 
@@ -54,7 +54,7 @@ enclosed space Full a = tt
 
 -- the candidate was moved, then merged
 pub stepped : {A : DataType → DataType → Option DataType} (space : Space) {s w v u : List ℕ} {link : ℕ} {d : Spot} (o : Out) → Room w space → Inside space d → Shifted space w v d
-    → Merges A space (2 * space .n) false s v u link 1 foremost o → Steps A space s w u link d o
+    → Merges A space (2 * space .n) false s v u link 1 foremost o → Steps A space (Candidate space w d) s w u link o
 stepped {A} space {w = w} {v} {u} {d = d} o room inside a m =
     record {
       within =
@@ -66,6 +66,20 @@ stepped {A} space {w = w} {v} {u} {d = d} o room inside a m =
       means =
           λ x c t k h l.
           answered space v u (size x + size c) (letters x + letters c) o (A x c) h l (m .means x c t (candidate-typed space w v d c room inside a k) (omega arith));
+    }
+
+-- the sheet was laid in the first half, then two of its types were merged
+pub met : {A : DataType → DataType → Option DataType} (space : Space) {s w v u : List ℕ} {link other : ℕ} (o : Out) → Room w space → Mirrored space s w v
+    → Merges A space (2 * space .n) false s v u link other foremost o → Steps A space (Typed space s other) s w u link o
+met {A} space {s} {w} {v} {u} o room a m =
+    record {
+      within =
+          record {
+            long = m .writes .kept .long ∙ a .long;
+            above = λ j h. m .writes .kept .above j (omega (arith, room .half)) ∙ a .above j (omega arith);
+          };
+      inside = enclosed space o (m .writes .passes);
+      means = λ x c t k h l. answered space v u (size x + size c) (letters x + letters c) o (A x c) h l (m .means x c t (mirrored-typed space s w v room a k) (omega arith));
     }
 
 within-self : {space : Space} (w : List ℕ) → Within space w w
@@ -125,112 +139,126 @@ module _ {space : Space} {records bytes : ℕ} (name : List ℕ) (nullable : Boo
   fits-behind = record { few = omega (arith, fits-few); short = omega (arith, fits-short) }
 
 -- the common type of a listed type and a candidate is the next candidate
-module _ (rules : Rules) {space : Space} {s w : List ℕ} {link : ℕ} {d : Spot} {x c : DataType} (t : DataType) (a : Typed space s link x) (k : Candidate space w d c)
+module _ (rules : Rules) {space : Space} {s : List ℕ} {link : ℕ} {x c : DataType} (t : DataType) (a : Typed space s link x) (k : TypeRight c)
     (q : coercion rules x c ≡ some t) where
   next-candidate : {v : List ℕ} {e : Spot} → Wrote space v front e (single t) → Candidate space v e t
-  next-candidate b = let r = coercion-right rules x c t (typed-right x a) (k .right, k .differ) q in record { wrote = b; right = r .0; differ = r .1 }
+  next-candidate b = let r = coercion-right rules x c t (typed-right x a) k q in record { wrote = b; right = r .0; differ = r .1 }
 
   next-fits : (rest : Fields) → size c + (size x + count rest) < space .n → letters c + (letters x + length (labels rest)) ≤ space .m → Fits space (size t) (letters t) rest
   next-fits rest h g =
       record {
-        few = omega (arith, coercion-smaller rules x c t (type-differ x a) (k .differ) q);
-        short = omega (arith, coercion-shorter rules x c t (type-differ x a) (k .differ) q, single-letters t, single-letters x, single-letters c);
+        few = omega (arith, coercion-smaller rules x c t (type-differ x a) (k .1) q);
+        short = omega (arith, coercion-shorter rules x c t (type-differ x a) (k .1) q, single-letters t, single-letters x, single-letters c);
       }
 
 -- what the fold of the types that are left says is what the fold of all of them says
 abbrev pub FoldsOn : (DataType → List DataType → Option DataType) → Space → List ℕ → List ℕ → ℕ → ℕ → Spot → List ℕ → ℕ → ℕ → Spot → Type 0
-FoldsOn fold space s w₀ floor link d w last at e = (v : List ℕ) (o : Out) → Folds fold space s w v last at e o → Folds fold space s w₀ v floor link d o
+FoldsOn fold space s w₀ floor link d w last at e =
+    (v : List ℕ) (o : Out) → Folds fold space (Candidate space w e) s w v last at o → Folds fold space (Candidate space w₀ d) s w₀ v floor link o
+
+-- a candidate is a type that a list may have
+pub candidate-right : {space : Space} {w : List ℕ} {d : Spot} (c : DataType) → Candidate space w d c → TypeRight c
+candidate-right c k = (k .right, k .differ)
+
+pub entry-typed : {space : Space} {s : List ℕ} {first : ℕ} (c : DataType) → Entry space s first c → Typed space s first c
+entry-typed c k = listed-typed (k .listed)
+
+pub entry-right : {space : Space} {s : List ℕ} {first : ℕ} (c : DataType) → Entry space s first c → TypeRight c
+entry-right c k = typed-right c (entry-typed c k)
+
+pub steps-as : {A : DataType → DataType → Option DataType} {space : Space} {Is Was : DataType → Type 0} {s w v : List ℕ} {link : ℕ} {o : Out} → ((c : DataType) → Is c → Was c)
+    → Steps A space Was s w v link o → Steps A space Is s w v link o
+steps-as f m = record { within = m .within; inside = m .inside; means = λ x c t k h l. m .means x c t (f c k) h l }
 
 stops : (rules : Rules) (space : Space) (v : List ℕ) (ts : List DataType) (m : Option DataType) → AnswerIs space v No m → AnswerIs space v No (andThen m (λ t. foldFrom rules t ts))
 stops rules space v ts none a = tt
 stops rules space v ts (some t) a = absurd a
 
+-- no type is left
 module _ (rules : Rules) (space : Space) {s w : List ℕ} {floor link : ℕ} {d : Spot} where
-  -- no type is left
-  pub folds-end : link ≤ floor → Folds (foldFrom rules) space s w w floor link d (Done d)
+  pub folds-end : link ≤ floor → Folds (foldFrom rules) space (Candidate space w d) s w w floor link (Done d)
   unfolding foldFrom typesOf
   folds-end h = record { within = within-self w; means = λ c types k a f. go c types k a }
     where
       go : (c : DataType) (types : Fields) → Candidate space w d c → Listed space s floor link types → AnswerIs space w (Done d) (foldFrom rules c (typesOf types))
       go c types k a = subst (λ (t : Fields). AnswerIs space w (Done d) (foldFrom rules c (typesOf t))) (sym (source-none h (a .held .source))) (k .wrote)
 
+module _ (rules : Rules) (space : Space) (Is : DataType → Type 0) {s w : List ℕ} {floor link : ℕ} where
   -- a link that leads nowhere
-  pub folds-lost : floor < link → space .n ≤ link → Folds (foldFrom rules) space s w w floor link d No
+  pub folds-lost : floor < link → space .n ≤ link → Folds (foldFrom rules) space Is s w w floor link No
   folds-lost h g = record { within = within-self w; means = λ c types k a f. absurd (unlisted types h g a) }
 
   module _ (past : floor < link) (h : Head) (e : h ≡ headAt s link) where
     -- a Null is skipped
-    pub folds-null : {v : List ℕ} (o : Out) → h .kind ≡ 1 → Folds (foldFrom rules) space s w v link (h .next) d o → Folds (foldFrom rules) space s w v floor link d o
+    pub folds-null : {v : List ℕ} (o : Out) → h .kind ≡ 1 → Folds (foldFrom rules) space Is s w v link (h .next) o → Folds (foldFrom rules) space Is s w v floor link o
     unfolding foldFrom typesOf
     folds-null {v} o n m = record { within = m .within; means = go }
       where
-        go : (c : DataType) (types : Fields) → Candidate space w d c → Listed space s floor link types → Fits space (size c) (letters c) types → AnswerIs space v o (foldFrom rules c (typesOf types))
+        go : (c : DataType) (types : Fields) → Is c → Listed space s floor link types → Fits space (size c) (letters c) types → AnswerIs space v o (foldFrom rules c (typesOf types))
         go c end k a f = absurd (some-listed past a)
         go c (field name nullable shape parts rest) k a f =
             rw (eq-eqb (shape .kind) 1 (sym (typed-kind h e (listed-typed a)) ∙ n)) (m .means c rest k (listed-next a h e) (fits-rest name nullable shape parts rest f))
 
     module _ {v : List ℕ} (n : h .kind ≡ 1 → ⊥) where
       -- what a step says of the first type
-      first : {o : Out} → Steps (coercion rules) space s w v link d o → (c : DataType) (name : List ℕ) (nullable : Bool) (shape : Shape) (parts rest : Fields) → Candidate space w d c
+      first : {o : Out} → Steps (coercion rules) space Is s w v link o → (c : DataType) (name : List ℕ) (nullable : Bool) (shape : Shape) (parts rest : Fields) → Is c
           → Listed space s floor link (field name nullable shape parts rest) → Fits space (size c) (letters c) (field name nullable shape parts rest) → AnswerIs space v o (coercion rules (typeOf shape parts) c)
       first m c name nullable shape parts rest k a f =
           m .means (typeOf shape parts) c (listed-typed a) k (omega (arith, fits-few name nullable shape parts rest f)) (omega (arith, fits-short name nullable shape parts rest f))
 
       -- the candidate gives way to the next
-      pub folds-on : {u : List ℕ} {d′ : Spot} (o : Out) → Steps (coercion rules) space s w v link d (Done d′) → Folds (foldFrom rules) space s v u link (h .next) d′ o
-          → Folds (foldFrom rules) space s w u floor link d o
+      pub folds-on : {u : List ℕ} {d′ : Spot} → ((c : DataType) → Is c → TypeRight c) → (o : Out) → Steps (coercion rules) space Is s w v link (Done d′)
+          → Folds (foldFrom rules) space (Candidate space v d′) s v u link (h .next) o → Folds (foldFrom rules) space Is s w u floor link o
       unfolding foldFrom typesOf
-      folds-on {u} {d′} o m g = record { within = within-trans (m .within) (g .within); means = go }
+      folds-on {u} {d′} right o m g = record { within = within-trans (m .within) (g .within); means = go }
         where
-          more : (c x : DataType) (rest : Fields) → Candidate space w d c → Typed space s link x → Listed space s link (h .next) rest → size c + (size x + count rest) < space .n
+          more : (c x : DataType) (rest : Fields) → TypeRight c → Typed space s link x → Listed space s link (h .next) rest → size c + (size x + count rest) < space .n
               → letters c + (letters x + length (labels rest)) ≤ space .m → (r : Option DataType) → coercion rules x c ≡ r → AnswerIs space v (Done d′) r
               → AnswerIs space u o (andThen r (λ t. foldFrom rules t (typesOf rest)))
           more c x rest k a b p q none i z = absurd z
           more c x rest k a b p q (some t) i z = g .means t rest (next-candidate rules t a k i z) b (next-fits rules t a k i rest p q)
 
-          go : (c : DataType) (types : Fields) → Candidate space w d c → Listed space s floor link types → Fits space (size c) (letters c) types → AnswerIs space u o (foldFrom rules c (typesOf types))
+          go : (c : DataType) (types : Fields) → Is c → Listed space s floor link types → Fits space (size c) (letters c) types → AnswerIs space u o (foldFrom rules c (typesOf types))
           go c end k a f = absurd (some-listed past a)
           go c (field name nullable shape parts rest) k a f =
               rw (ne-eqb (shape .kind) 1 (λ q. n (typed-kind h e (listed-typed a) ∙ q)))
-              (more c (typeOf shape parts) rest k (listed-typed a) (listed-next a h e) (fits-few name nullable shape parts rest f) (fits-short name nullable shape parts rest f)
+              (more c (typeOf shape parts) rest (right c k) (listed-typed a) (listed-next a h e) (fits-few name nullable shape parts rest f) (fits-short name nullable shape parts rest f)
               (coercion rules (typeOf shape parts) c) refl (first m c name nullable shape parts rest k a f))
 
       -- there is no common type
-      pub folds-no : Steps (coercion rules) space s w v link d No → Folds (foldFrom rules) space s w v floor link d No
+      pub folds-no : Steps (coercion rules) space Is s w v link No → Folds (foldFrom rules) space Is s w v floor link No
       unfolding foldFrom typesOf
       folds-no m = record { within = m .within; means = go }
         where
-          go : (c : DataType) (types : Fields) → Candidate space w d c → Listed space s floor link types → Fits space (size c) (letters c) types → AnswerIs space v No (foldFrom rules c (typesOf types))
+          go : (c : DataType) (types : Fields) → Is c → Listed space s floor link types → Fits space (size c) (letters c) types → AnswerIs space v No (foldFrom rules c (typesOf types))
           go c end k a f = absurd (some-listed past a)
           go c (field name nullable shape parts rest) k a f =
               rw (ne-eqb (shape .kind) 1 (λ q. n (typed-kind h e (listed-typed a) ∙ q)))
               (stops rules space v (typesOf rest) (coercion rules (typeOf shape parts) c) (first m c name nullable shape parts rest k a f))
 
       -- there is always room
-      pub folds-full : Steps (coercion rules) space s w v link d Full → Folds (foldFrom rules) space s w v floor link d No
+      pub folds-full : Steps (coercion rules) space Is s w v link Full → Folds (foldFrom rules) space Is s w v floor link No
       folds-full m = record { within = m .within; means = go }
         where
-          go : (c : DataType) (types : Fields) → Candidate space w d c → Listed space s floor link types → Fits space (size c) (letters c) types → AnswerIs space v No (foldFrom rules c (typesOf types))
+          go : (c : DataType) (types : Fields) → Is c → Listed space s floor link types → Fits space (size c) (letters c) types → AnswerIs space v No (foldFrom rules c (typesOf types))
           go c end k a f = absurd (some-listed past a)
           go c (field name nullable shape parts rest) k a f = absurd (first m c name nullable shape parts rest k a f)
+
+abbrev nameLength : Fields → ℕ
+nameLength end = 0
+nameLength (field name nullable shape parts rest) = length name
 
 -- a listed type that was copied to the front
 module _ {space : Space} {s w v : List ℕ} {floor link : ℕ} where
   copied : (o : Out) (name : List ℕ) (nullable : Bool) (shape : Shape) (parts rest : Fields) → CopiedField space s w v link front o
-      → Listed space s floor link (field name nullable shape parts rest) → Fits space 0 0 (field name nullable shape parts rest) → AnswerIs space v o (some (typeOf shape parts))
-  copied o name nullable shape parts rest m a f = go o (m .means name nullable shape parts rest (listed-chain a))
+      → Listed space s floor link (field name nullable shape parts rest) → size (typeOf shape parts) < space .n → letters (typeOf shape parts) ≤ space .m
+      → AnswerIs space v o (some (typeOf shape parts))
+  copied o name nullable shape parts rest m a few short = go o (m .means name nullable shape parts rest (listed-chain a))
     where
       go : (o : Out) → ChainIs space v front (1 + count parts) (length name + letters (typeOf shape parts)) o (some (field name nullable shape parts end)) → AnswerIs space v o (some (typeOf shape parts))
       go (Done d) c = subst (Wrote space v front d) (listed-plain a) c
       go No c = c
-      go Full c =
-          ⊎-elim (λ h. omega (arith, fits-few name nullable shape parts rest f))
-          (λ h. omega (arith, f .short, labels-sum name nullable shape parts rest, length-append name (zoneBytes (shape .zone)))) c
-
-  copied-candidate : {d : Spot} (name : List ℕ) (nullable : Bool) (shape : Shape) (parts rest : Fields) → CopiedField space s w v link front (Done d)
-      → Listed space s floor link (field name nullable shape parts rest) → Fits space 0 0 (field name nullable shape parts rest) → Candidate space v d (typeOf shape parts)
-  copied-candidate {d} name nullable shape parts rest m a f =
-      let r = typed-right (typeOf shape parts) (listed-typed a) in record { wrote = copied (Done d) name nullable shape parts rest m a f; right = r .0; differ = r .1 }
+      go Full c = ⊎-elim (λ h. omega arith) (λ h. omega (arith, ap nameLength (listed-plain a))) c
 
 -- no answer, whatever is listed
 nothing-reached : {A : List DataType → Option DataType} (space : Space) {s w : List ℕ} {floor link : ℕ}
@@ -256,41 +284,34 @@ module _ (rules : Rules) (space : Space) {s w : List ℕ} {floor link : ℕ} whe
             rw (eq-eqb (shape .kind) 1 (sym (typed-kind h e (listed-typed a)) ∙ n)) (m .means rest (listed-next a h e) (fits-rest name nullable shape parts rest f))
 
     -- the first type that is not Null is the candidate
-    pub types-on : {v u : List ℕ} {d : Spot} (o : Out) → (h .kind ≡ 1 → ⊥) → Room w space → CopiedField space s w v link front (Done d)
-        → Folds (foldFrom rules) space s v u link (h .next) d o → Reached (foldTypes rules) space s w u floor link o
+    pub types-on : {v : List ℕ} (o : Out) → (h .kind ≡ 1 → ⊥) → Folds (foldFrom rules) space (Entry space s link) s w v link (h .next) o
+        → Reached (foldTypes rules) space s w v floor link o
     unfolding foldTypes typesOf
-    types-on {u = u} o n room m g = record { within = within-trans (within-kept room (m .kept)) (g .within); means = go }
+    types-on {v} o n g = record { within = g .within; means = go }
       where
-        go : (types : Fields) → Listed space s floor link types → Fits space 0 0 types → AnswerIs space u o (foldTypes rules (typesOf types))
+        go : (types : Fields) → Listed space s floor link types → Fits space 0 0 types → AnswerIs space v o (foldTypes rules (typesOf types))
         go end a f = absurd (some-listed past a)
         go (field name nullable shape parts rest) a f =
             rw (ne-eqb (shape .kind) 1 (λ q. n (typed-kind h e (listed-typed a) ∙ q)))
-            (g .means (typeOf shape parts) rest (copied-candidate name nullable shape parts rest m a f) (listed-next a h e)
+            (g .means (typeOf shape parts) rest (record { floor = floor; name = name; nullable = nullable; rest = rest; listed = a }) (listed-next a h e)
             (record { few = omega (arith, fits-few name nullable shape parts rest f); short = omega (arith, fits-short name nullable shape parts rest f) }))
 
-abbrev Undone : Out → Type 0
-Undone (Done d) = ⊥
-Undone No = Unit
-Undone Full = Unit
-
--- what is listed can be copied
-uncopied : {space : Space} {s w v : List ℕ} {floor link : ℕ} (o : Out) → Undone o → (name : List ℕ) (nullable : Bool) (shape : Shape) (parts rest : Fields) → CopiedField space s w v link front o
-    → Listed space s floor link (field name nullable shape parts rest) → Fits space 0 0 (field name nullable shape parts rest) → ⊥
-uncopied (Done d) n name nullable shape parts rest m a f = n
-uncopied No n name nullable shape parts rest m a f = copied No name nullable shape parts rest m a f
-uncopied Full n name nullable shape parts rest m a f = copied Full name nullable shape parts rest m a f
-
-pub types-lost : {A : List DataType → Option DataType} {space : Space} {s w v : List ℕ} {floor link : ℕ} (o : Out) → Undone o → floor < link → Room w space
-    → CopiedField space s w v link front o → Reached A space s w v floor link No
-types-lost {A} {space} {s} {v = v} {floor} {link} o n past room m = record { within = within-kept room (m .kept); means = go }
-  where
-    go : (types : Fields) → Listed space s floor link types → Fits space 0 0 types → AnswerIs space v No (A (typesOf types))
-    go end a f = absurd (some-listed past a)
-    go (field name nullable shape parts rest) a f = absurd (uncopied o n name nullable shape parts rest m a f)
+-- a listed type with no type behind it is the answer
+pub folds-alone : (rules : Rules) (space : Space) {s w v : List ℕ} {first floor link : ℕ} (o : Out) → Room w space → link ≤ floor → CopiedField space s w v first front o
+    → Folds (foldFrom rules) space (Entry space s first) s w v floor link o
+unfolding foldFrom typesOf
+folds-alone rules space {s} {w} {v} {first} {floor} {link} o room h m =
+    record {
+      within = within-kept room (m .kept);
+      means =
+          λ c types k a f.
+          subst (λ (t : Fields). AnswerIs space v o (foldFrom rules c (typesOf t))) (sym (source-none h (a .held .source)))
+          (copied o (k .name) (k .nullable) (c .shape) (c .parts) (k .rest) m (k .listed) (omega (arith, f .few)) (omega (arith, f .short)));
+    }
 
 -- the one pair
-module _ (rules : Rules) (space : Space) {s w : List ℕ} {link : ℕ} (past : 0 < link) (h : Head) (e : h ≡ headAt s link) where
-  pub pair-one : h .next ≡ 0 → Reached (pairAnswer rules) space s w w 0 link No
+module _ (rules : Rules) (space : Space) {s : List ℕ} {link : ℕ} (past : 0 < link) (h : Head) (e : h ≡ headAt s link) where
+  pub pair-one : {w : List ℕ} → h .next ≡ 0 → Reached (pairAnswer rules) space s w w 0 link No
   unfolding typesOf
   pair-one z = nothing-reached space go
     where
@@ -301,7 +322,7 @@ module _ (rules : Rules) (space : Space) {s w : List ℕ} {link : ℕ} (past : 0
           absurd (omega (arith, listed-next a h e .held .source .leads .is, listed-next a h e .held .source .leads .above))
 
   module _ (more : h .next ≡ 0 → ⊥) (h₂ : Head) (e₂ : h₂ ≡ headAt s (h .next)) where
-    pub pair-many : (h₂ .next ≡ 0 → ⊥) → Reached (pairAnswer rules) space s w w 0 link No
+    pub pair-many : {w : List ℕ} → (h₂ .next ≡ 0 → ⊥) → Reached (pairAnswer rules) space s w w 0 link No
     unfolding typesOf
     pair-many z = nothing-reached space go
       where
@@ -311,7 +332,7 @@ module _ (rules : Rules) (space : Space) {s w : List ℕ} {link : ℕ} (past : 0
         go (field name nullable shape parts (field name₂ nullable₂ shape₂ parts₂ end)) a f = absurd (z (listed-next (listed-next a h e) h₂ e₂ .held .source .leads .is))
         go (field name nullable shape parts (field name₂ nullable₂ shape₂ parts₂ (field name₃ nullable₃ shape₃ parts₃ rest))) a f = refl
 
-    module _ (last : h₂ .next ≡ 0) (room : Room w space) where
+    module _ (last : h₂ .next ≡ 0) where
       -- what is said of two types says all
       of-two : (u : List ℕ) (o : Out) → ((name name₂ : List ℕ) (nullable nullable₂ : Bool) (shape shape₂ : Shape) (parts parts₂ : Fields)
           → Listed space s 0 link (field name nullable shape parts (field name₂ nullable₂ shape₂ parts₂ end)) → Fits space 0 0 (field name nullable shape parts (field name₂ nullable₂ shape₂ parts₂ end))
@@ -324,25 +345,17 @@ module _ (rules : Rules) (space : Space) {s w : List ℕ} {link : ℕ} (past : 0
       of-two u o k (field name nullable shape parts (field name₂ nullable₂ shape₂ parts₂ (field name₃ nullable₃ shape₃ parts₃ rest))) a f =
           let b = listed-next (listed-next a h e) h₂ e₂ .held .source .leads in absurd (omega (arith, b .is, b .above))
 
-      pub pair-on : {v : List ℕ} (u : List ℕ) (o : Out) → Mirrored space s w v → Merges (coercion rules) space (2 * space .n) false s v u link (h .next) foremost o
-          → Reached (pairAnswer rules) space s w u 0 link o
+      pub pair-on : {w : List ℕ} (u : List ℕ) (o : Out) → Steps (coercion rules) space (Typed space s (h .next)) s w u link o → Reached (pairAnswer rules) space s w u 0 link o
       unfolding count labels
-      pair-on {v} u o m g =
+      pair-on u o g =
           record {
-            within =
-                record {
-                  long = g .writes .kept .long ∙ m .long;
-                  above = λ j q. g .writes .kept .above j (omega (arith, room .half)) ∙ m .above j (omega arith);
-                };
+            within = g .within;
             means =
                 of-two u o
                 (λ name name₂ nullable nullable₂ shape shape₂ parts parts₂ a f.
-                let x = typeOf shape parts in
-                let y = typeOf shape₂ parts₂ in
                 let f₂ = fits-behind name nullable shape parts (field name₂ nullable₂ shape₂ parts₂ end) f in
-                let few = fits-few name₂ nullable₂ shape₂ parts₂ end f₂ in
-                answered space v u (size x + size y) (letters x + letters y) o (coercion rules x y) (omega arith) (omega (arith, fits-short name₂ nullable₂ shape₂ parts₂ end f₂))
-                (g .means x y (listed-typed a) (mirrored-typed space s w v room m (listed-typed (listed-next a h e))) (omega arith)));
+                g .means (typeOf shape parts) (typeOf shape₂ parts₂) (listed-typed a) (listed-typed (listed-next a h e))
+                (omega (arith, fits-few name₂ nullable₂ shape₂ parts₂ end f₂)) (omega (arith, fits-short name₂ nullable₂ shape₂ parts₂ end f₂)));
           }
 
 -- `type_union_resolution` by its two tests
@@ -372,7 +385,7 @@ module _ (rules : Rules) (space : Space) {s : List ℕ} {link : ℕ} (past : 0 <
       go (field name nullable shape parts rest) a f =
           let t = typeOf shape parts in
           subst (AnswerIs space v o) (sym (by-tests rules t (typesOf rest) true (categoriesFit (t ∷ typesOf rest)) (sym q ∙ compared t rest (listed-typed a) (listed-next a h e)) refl))
-          (copied o name nullable shape parts rest m a f)
+          (copied o name nullable shape parts rest m a (omega (arith, fits-few name nullable shape parts rest f)) (omega (arith, fits-short name nullable shape parts rest f)))
 
   module _ (differ : same ≡ false) (fit : Bool) (fits : (ts : Fields) → Listed space s 0 link ts → fit ≡ categoriesFit (typesOf ts)) where
     told : (types : Fields) → Listed space s 0 link types → typeUnionResolution rules (typesOf types) ≡ cond fit (foldTypes rules (typesOf types)) none

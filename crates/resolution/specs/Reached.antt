@@ -6,7 +6,7 @@ use mathlib.Core.List.{List, [], _∷_}
 use mathlib.Core.Option.{Option, none, some}
 use lib.ListN.{length, getD}
 use lib.Bits.{bitOr}
-use Rattle.sheet.specs.Types.{Fields, count, labels}
+use Rattle.sheet.specs.Types.{Fields, field, count, labels}
 use Rattle.sheet.specs.Names.{namesDiffer}
 use Rattle.sheet.specs.Carried.{FieldsRight}
 use Rattle.coercion.specs.Data.{DataType, size, single, typesOf}
@@ -94,14 +94,21 @@ pub record Mirrored (space : Space) (s w v : List ℕ) : Type 0 where
   pub same : (j : ℕ) → j < space .half → j < length s → getD v j 0 ≡ getD s j 0
   pub above : (j : ℕ) → space .half ≤ j → getD v j 0 ≡ getD w j 0
 
--- a type of the sheet was merged with the candidate
-pub record Steps (coerce : DataType → DataType → Option DataType) (space : Space) (s w v : List ℕ) (link : ℕ) (d : Spot) (o : Out) : Type 0 where
+-- a type that the sheet lists at a record
+pub record Entry (space : Space) (s : List ℕ) (first : ℕ) (c : DataType) : Type 0 where
+  pub floor : ℕ
+  pub name : List ℕ
+  pub nullable : Bool
+  pub rest : Fields
+  pub listed : Listed space s floor first (field name nullable (c .shape) (c .parts) rest)
+
+-- a type of the sheet was merged with a candidate, which stands as `Is` says
+pub record Steps (coerce : DataType → DataType → Option DataType) (space : Space) (Is : DataType → Type 0) (s w v : List ℕ) (link : ℕ) (o : Out) : Type 0 where
   pub within : Within space w v
   pub inside : Enclosed space o
-  pub means : (x c : DataType) → Typed space s link x → Candidate space w d c → size x + size c < space .n → letters x + letters c ≤ space .m → AnswerIs space v o (coerce x c)
+  pub means : (x c : DataType) → Typed space s link x → Is c → size x + size c < space .n → letters x + letters c ≤ space .m → AnswerIs space v o (coerce x c)
 
--- the candidate was folded with the types at a link past floor
-pub record Folds (fold : DataType → List DataType → Option DataType) (space : Space) (s w v : List ℕ) (floor link : ℕ) (d : Spot) (o : Out) : Type 0 where
+-- such a candidate was folded with the types at a link past floor
+pub record Folds (fold : DataType → List DataType → Option DataType) (space : Space) (Is : DataType → Type 0) (s w v : List ℕ) (floor link : ℕ) (o : Out) : Type 0 where
   pub within : Within space w v
-  pub means : (c : DataType) (types : Fields) → Candidate space w d c → Listed space s floor link types → Fits space (size c) (letters c) types
-      → AnswerIs space v o (fold c (typesOf types))
+  pub means : (c : DataType) (types : Fields) → Is c → Listed space s floor link types → Fits space (size c) (letters c) types → AnswerIs space v o (fold c (typesOf types))

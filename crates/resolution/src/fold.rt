@@ -6,7 +6,8 @@ ghost use Rattle.coercion.specs.Data.{DataType};
 ghost use Rattle.coercion.specs.Answers.{coercion, foldFrom, foldTypes, typeUnionResolution, pairAnswer};
 ghost use Rattle.buffers.specs.Region.{Room, Inside};
 ghost use Rattle.buffers.specs.Plain.{rulesOf};
-ghost use Rattle.resolution.specs.Reached.{Reached, Steps, Folds};
+ghost use Rattle.buffers.specs.Typed.{Typed};
+ghost use Rattle.resolution.specs.Reached.{Reached, Candidate, Entry, Steps, Folds};
 use crate::list::all_equal;
 use crate::list::is_fitting;
 use crate::shift::mirror;
@@ -31,7 +32,7 @@ fn step(
     d: Spot,
 ) -> Out
     requires { ⌜ Room (now work) space × (Inside space d × (1 < space .n)) ⌝ }
-    ensures { λ o. ⌜ Steps (coercion (rulesOf question mask)) space (now (sheet .entry)) (now (work .entry)) (now (work .exit)) link d o ⌝ }
+    ensures { λ o. ⌜ Steps (coercion (rulesOf question mask)) space (Candidate space (now (work .entry)) d) (now (sheet .entry)) (now (work .entry)) (now (work .exit)) link o ⌝ }
 {
     shift(work, space, d);
     let g = Goal {
@@ -42,6 +43,41 @@ fn step(
     };
     let left = 2 * space.n;
     coerce(sheet, work, space, question, mask, left, false, link, 1, g)
+}
+
+// The common type of the types at two links of the sheet. The second is read from a copy of the sheet's bytes.
+fn meet(
+    sheet: &[u8],
+    work: &mut [u8],
+    space: Space,
+    question: Question,
+    mask: u64,
+    link: usize,
+    other: usize,
+) -> Out
+    requires { ⌜ Room (now work) space × (1 < space .n) ⌝ }
+    ensures { λ o. ⌜ Steps (coercion (rulesOf question mask)) space (Typed space (now (sheet .entry)) other) (now (sheet .entry)) (now (work .entry)) (now (work .exit)) link o ⌝ }
+{
+    mirror(sheet, work, space);
+    let g = Goal {
+        at: 1,
+        label: 0,
+        nlen: 0,
+        nullable: false,
+    };
+    let records = 2 * space.n;
+    coerce(
+        sheet,
+        work,
+        space,
+        question,
+        mask,
+        records,
+        false,
+        link,
+        other,
+        g,
+    )
 }
 
 // The candidate that ends at d, folded with the types at a link past floor. Nulls are skipped.
@@ -55,7 +91,7 @@ fn fold_from(
     d: Spot,
 ) -> Out
     requires { ⌜ Room (now work) space × (Inside space d × (1 < space .n)) ⌝ }
-    ensures { λ o. ⌜ Folds (foldFrom (rulesOf Question.List mask)) space (now (sheet .entry)) (now (work .entry)) (now (work .exit)) floor link d o ⌝ }
+    ensures { λ o. ⌜ Folds (foldFrom (rulesOf Question.List mask)) space (Candidate space (now (work .entry)) d) (now (sheet .entry)) (now (work .entry)) (now (work .exit)) floor link o ⌝ }
 {
     let mut last = floor;
     let mut at = link;
@@ -77,6 +113,37 @@ fn fold_from(
         at = next;
     }
     Out::Done(end)
+}
+
+// The type of record `first`, folded with the types at a link past floor. Nulls are skipped.
+fn fold_first(
+    sheet: &[u8],
+    work: &mut [u8],
+    space: Space,
+    mask: u64,
+    first: usize,
+    floor: usize,
+    link: usize,
+) -> Out
+    requires { ⌜ Room (now work) space × (1 < space .n) ⌝ }
+    ensures { λ o. ⌜ Folds (foldFrom (rulesOf Question.List mask)) space (Entry space (now (sheet .entry)) first) (now (sheet .entry)) (now (work .entry)) (now (work .exit)) floor link o ⌝ }
+{
+    if link <= floor {
+        return copy_field(sheet, work, space, false, first, Spot { at: 1, label: 0 });
+    }
+    if space.n <= link {
+        return Out::No;
+    }
+    let h = head_at(sheet, link);
+    let next = h.next;
+    if h.kind == 1 {
+        return fold_first(sheet, work, space, mask, first, link, next);
+    }
+    match meet(sheet, work, space, Question::List, mask, link, first) {
+        Out::Done(e) => fold_from(sheet, work, space, mask, link, next, e),
+        Out::No => Out::No,
+        Out::Full => Out::No,
+    }
 }
 
 // The first type at a link past floor that is not Null, folded with those behind it.
@@ -102,11 +169,7 @@ fn fold_types(
     if h.kind == 1 {
         return fold_types(sheet, work, space, mask, link, next);
     }
-    match copy_field(sheet, work, space, false, link, Spot { at: 1, label: 0 }) {
-        Out::Done(d) => fold_from(sheet, work, space, mask, link, next, d),
-        Out::No => Out::No,
-        Out::Full => Out::No,
-    }
+    fold_first(sheet, work, space, mask, link, link, next)
 }
 
 // `type_union_resolution`, of the types at a link.
@@ -136,7 +199,7 @@ pub(crate) fn type_union_resolution(
     Out::No
 }
 
-// The common type of the two types at a link, where there are two. The second is read from a copy of the sheet's bytes.
+// The common type of the two types at a link, where there are two.
 pub(crate) fn pair(
     sheet: &[u8],
     work: &mut [u8],
@@ -161,24 +224,5 @@ pub(crate) fn pair(
     if head_at(sheet, next).next != 0 {
         return Out::No;
     }
-    mirror(sheet, work, space);
-    let g = Goal {
-        at: 1,
-        label: 0,
-        nlen: 0,
-        nullable: false,
-    };
-    let records = 2 * space.n;
-    coerce(
-        sheet,
-        work,
-        space,
-        question,
-        mask,
-        records,
-        false,
-        link,
-        next,
-        g,
-    )
+    meet(sheet, work, space, question, mask, link, next)
 }

@@ -8,7 +8,7 @@ use Rattle.coercion.specs.Answers.{foldFrom}
 use Rattle.buffers.specs.Region.{Room, Inside}
 use Rattle.buffers.specs.Plain.{rulesOf}
 use Rattle.buffers.specs.declared.Question.the-variants as Question
-use Rattle.resolution.proofs.Folding.{FoldsOn, room-within, folds-end, folds-lost, folds-null, folds-on, folds-no, folds-full}
+use Rattle.resolution.proofs.Folding.{FoldsOn, candidate-right, room-within, folds-end, folds-lost, folds-null, folds-on, folds-no, folds-full}
 use Rattle.resolution.proofs.fold.fold_from.Statement.{statement}
 use Rattle.resolution.proofs.fold.fold_from.Tie as tie
 use Rattle.resolution.proofs.fold.fold_from.Reads as reads
@@ -24,93 +24,93 @@ abbrev μ-loop : tie.MeasureT-loop
 μ-loop sheet work₀ space mask floor link last₀ at₀ end₀ work last at end =
     space .n - last
 
--- src/fold.rt:63:5
+-- src/fold.rt:99:5
 loop-holds : tie.Need-loop-holds Inv-loop μ-loop
 loop-holds c =
     ((c .before .before .pre), (refl, λ v o g. g))
 
--- src/fold.rt:65:13
+-- src/fold.rt:101:13
 same-length : tie.Need-same-length Inv-loop μ-loop
 same-length c =
     (c .before .before .before .loop .inv .1 .0)
 
--- src/fold.rt:65:13
+-- src/fold.rt:101:13
 returns : tie.Need-returns Inv-loop μ-loop
 returns c =
-    (c .before .before .before .loop .inv .1 .1) _ _ (folds-lost (rulesOf Question.List _) _ (c .before .before .loop-test .taken) (c .if1 .taken))
+    (c .before .before .before .loop .inv .1 .1) _ _ (folds-lost (rulesOf Question.List _) _ _ (c .before .before .loop-test .taken) (c .if1 .taken))
 
--- src/fold.rt:67:13
+-- src/fold.rt:103:13
 head-at-requires : tie.Need-head-at-requires Inv-loop μ-loop
 head-at-requires c κs =
     search needs
 
--- src/fold.rt:70:19
+-- src/fold.rt:106:19
 step-requires : tie.Need-step-requires Inv-loop μ-loop
 step-requires c κs =
     (c .before .before .before .before .before .before .before .loop .inv .0)
 
--- src/fold.rt:71:27
+-- src/fold.rt:107:27
 enum-known-e : tie.Need-enum-known-e Inv-loop μ-loop
 enum-known-e c =
     search needs
 
--- src/fold.rt:72:28
+-- src/fold.rt:108:28
 enum-told : tie.Need-enum-told Inv-loop μ-loop
 enum-told c =
     search needs
 
--- src/fold.rt:72:28
+-- src/fold.rt:108:28
 same-length-2 : tie.Need-same-length-2 Inv-loop μ-loop
 same-length-2 c =
     (c .before .before .before .before .step .ensures .within .long) ∙ (c .before .before .before .before .before .before .before .before .before .before .before .before .loop .inv .1 .0)
 
--- src/fold.rt:72:28
+-- src/fold.rt:108:28
 returns-2 : tie.Need-returns-2 Inv-loop μ-loop
 returns-2 c =
-    (c .before .before .before .before .before .before .before .before .before .before .before .before .loop .inv .1 .1) _ _ (folds-no (rulesOf Question.List _) _ (c .before .before .before .before .before .before .before .before .before .before .before .loop-test .taken) _ (c .before .before .before .before .before .before .before .before .head-at .ensures .0) (c .before .before .before .before .before .before .if2 .taken) (rw (c .enum-told .given .1) at (c .before .before .before .before .step .ensures)))
+    (c .before .before .before .before .before .before .before .before .before .before .before .before .loop .inv .1 .1) _ _ (folds-no (rulesOf Question.List _) _ _ (c .before .before .before .before .before .before .before .before .before .before .before .loop-test .taken) _ (c .before .before .before .before .before .before .before .before .head-at .ensures .0) (c .before .before .before .before .before .before .if2 .taken) (rw (c .enum-told .given .1) at (c .before .before .before .before .step .ensures)))
 
--- src/fold.rt:73:30
+-- src/fold.rt:109:30
 enum-told-2 : tie.Need-enum-told-2 Inv-loop μ-loop
 enum-told-2 c =
     search needs
 
--- src/fold.rt:73:30
+-- src/fold.rt:109:30
 same-length-3 : tie.Need-same-length-3 Inv-loop μ-loop
 same-length-3 c =
     (c .before .before .before .before .step .ensures .within .long) ∙ (c .before .before .before .before .before .before .before .before .before .before .before .before .loop .inv .1 .0)
 
--- src/fold.rt:73:30
+-- src/fold.rt:109:30
 returns-3 : tie.Need-returns-3 Inv-loop μ-loop
 returns-3 c =
-    (c .before .before .before .before .before .before .before .before .before .before .before .before .loop .inv .1 .1) _ _ (folds-full (rulesOf Question.List _) _ (c .before .before .before .before .before .before .before .before .before .before .before .loop-test .taken) _ (c .before .before .before .before .before .before .before .before .head-at .ensures .0) (c .before .before .before .before .before .before .if2 .taken) (rw (c .enum-told2 .given .1) at (c .before .before .before .before .step .ensures)))
+    (c .before .before .before .before .before .before .before .before .before .before .before .before .loop .inv .1 .1) _ _ (folds-full (rulesOf Question.List _) _ _ (c .before .before .before .before .before .before .before .before .before .before .before .loop-test .taken) _ (c .before .before .before .before .before .before .before .before .head-at .ensures .0) (c .before .before .before .before .before .before .if2 .taken) (rw (c .enum-told2 .given .1) at (c .before .before .before .before .step .ensures)))
 
--- src/fold.rt:63:5
+-- src/fold.rt:99:5
 loop-less : tie.Need-loop-less Inv-loop μ-loop
 loop-less c =
     omega arith
 
--- src/fold.rt:63:5
+-- src/fold.rt:99:5
 loop-again : tie.Need-loop-again Inv-loop μ-loop
 loop-again c =
     let m = rw (c .before .e .given .1) at (c .before .before .before .before .before .step .ensures) in
-    ((room-within (m .within) (c .before .before .before .before .before .before .before .before .before .before .before .before .before .loop .inv .0 .0), (m .inside, (c .before .before .before .before .before .before .before .before .before .before .before .before .before .loop .inv .0 .1 .1))), (m .within .long ∙ (c .before .before .before .before .before .before .before .before .before .before .before .before .before .loop .inv .1 .0), λ v o g. (c .before .before .before .before .before .before .before .before .before .before .before .before .before .loop .inv .1 .1) v o (folds-on (rulesOf Question.List _) _ (c .before .before .before .before .before .before .before .before .before .before .before .before .loop-test .taken) _ (c .before .before .before .before .before .before .before .before .before .head-at .ensures .0) (c .before .before .before .before .before .before .before .if2 .taken) o m g)))
+    ((room-within (m .within) (c .before .before .before .before .before .before .before .before .before .before .before .before .before .loop .inv .0 .0), (m .inside, (c .before .before .before .before .before .before .before .before .before .before .before .before .before .loop .inv .0 .1 .1))), (m .within .long ∙ (c .before .before .before .before .before .before .before .before .before .before .before .before .before .loop .inv .1 .0), λ v o g. (c .before .before .before .before .before .before .before .before .before .before .before .before .before .loop .inv .1 .1) v o (folds-on (rulesOf Question.List _) _ _ (c .before .before .before .before .before .before .before .before .before .before .before .before .loop-test .taken) _ (c .before .before .before .before .before .before .before .before .before .head-at .ensures .0) (c .before .before .before .before .before .before .before .if2 .taken) candidate-right o m g)))
 
--- src/fold.rt:63:5
+-- src/fold.rt:99:5
 loop-less-2 : tie.Need-loop-less-2 Inv-loop μ-loop
 loop-less-2 c =
     omega arith
 
--- src/fold.rt:63:5
+-- src/fold.rt:99:5
 loop-again-2 : tie.Need-loop-again-2 Inv-loop μ-loop
 loop-again-2 c =
-    ((c .before .before .before .before .before .before .loop .inv .0), ((c .before .before .before .before .before .before .loop .inv .1 .0), λ v o g. (c .before .before .before .before .before .before .loop .inv .1 .1) v o (folds-null (rulesOf Question.List _) _ (c .before .before .before .before .before .loop-test .taken) _ (c .before .before .head-at .ensures .0) o (c .if2 .left) g)))
+    ((c .before .before .before .before .before .before .loop .inv .0), ((c .before .before .before .before .before .before .loop .inv .1 .0), λ v o g. (c .before .before .before .before .before .before .loop .inv .1 .1) v o (folds-null (rulesOf Question.List _) _ _ (c .before .before .before .before .before .loop-test .taken) _ (c .before .before .head-at .ensures .0) o (c .if2 .left) g)))
 
--- src/fold.rt:48:1
+-- src/fold.rt:84:1
 same-length-4 : tie.Need-same-length-4 Inv-loop μ-loop
 same-length-4 c =
     (c .before .loop .inv .1 .0)
 
--- src/fold.rt:48:1
+-- src/fold.rt:84:1
 returns-4 : tie.Need-returns-4 Inv-loop μ-loop
 returns-4 c =
     (c .before .loop .inv .1 .1) _ _ (folds-end (rulesOf Question.List _) _ (c .loop-test .left))
