@@ -14,6 +14,7 @@ use Rattle.sheet.specs.Holds.{Plain}
 use Rattle.sheet.specs.Refusals.{numberOf}
 use Rattle.sheet.specs.Refusals as Sheet
 use Rattle.sheet.specs.declared.Refusal.{Refusal}
+use Rattle.refusals.proofs.Verdicts.{checked-number, number-some}
 use Rattle.sheet.proofs.Tests.{or-fst, or-snd}
 use Rattle.sheet.proofs.Accepted.{accepted-carried}
 use Rattle.sheet.proofs.Chains.{encode-length}
@@ -31,7 +32,7 @@ use Rattle.resolution.specs.Reached.{front, Listed, Fits, AnswerIs, Reached}
 use Rattle.answers.specs.Call.{Call, badMask, badPair, refusal, Reply, refused, nothing, written, Outcome, cleared, atFront, settled, answer, outcome}
 use Rattle.answers.specs.Code.{callOf, Measured, Spared, isShort, laterRefusal, zeroed, Emits, Reports}
 use Rattle.answers.proofs.Emitting.{drop-same}
-use Rattle.answers.proofs.Refusing.{measured-n, measured-m, measured-half, measured-few, measured-short, measured-leads, accepted-refusal, sheet-refusal, number-some, checked-refused}
+use Rattle.answers.proofs.Refusing.{measured-n, measured-m, measured-half, measured-few, measured-short, measured-leads, accepted-refusal, sheet-refusal}
 
 -- a refused call changes nothing
 refused-outcome : (c : Call) (k : ℕ) → ¬ (k ≡ 0) → refusal c ≡ k → record { reply = refused k; output = c .output; work = c .work } ≡ outcome c
@@ -41,7 +42,7 @@ refused-outcome c k h e = rw (e, ne-eqb k 0 h)
 pub refused-sheet : (c : Call) (r : Refusal) (k : ℕ) → record { number = numberOf r; n = 0; m = 0 } ≡ Sheet.verdict (c .sheet) → k ≡ numberOf r
     → record { reply = refused k; output = c .output; work = c .work } ≡ outcome c
 refused-sheet c r k h e =
-    let z : Sheet.refusal (c .sheet) ≡ numberOf r = checked-refused (c .sheet) (numberOf r) h in
+    let z : Sheet.refusal (c .sheet) ≡ numberOf r = checked-number (c .sheet) (numberOf r) 0 0 h in
     refused-outcome c k (λ x. number-some r (sym e ∙ x)) (sheet-refusal c (λ x. number-some r (sym z ∙ x)) ∙ z ∙ sym e)
 
 module _ (c : Call) (space : Space) (measured : Measured (c .sheet) space) (k : ℕ)

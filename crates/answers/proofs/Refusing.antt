@@ -12,11 +12,10 @@ use Rattle.sheet.specs.Encode.{linkTo}
 use Rattle.sheet.specs.Head.{headAt}
 use Rattle.sheet.specs.Read.{recordsOf, labelsOf, start, read}
 use Rattle.sheet.specs.Holds.{Plain, Holds, Leads}
-use Rattle.sheet.specs.Refusals.{Condition, firstMet, Verdict, verdict, numberOf}
+use Rattle.sheet.specs.Refusals.{Condition, firstMet, Verdict, verdict}
 use Rattle.sheet.specs.Refusals as Sheet
 use Rattle.sheet.specs.declared.Head.{Head}
-use Rattle.sheet.specs.declared.Refusal.{Refusal}
-use Rattle.sheet.specs.declared.Refusal.the-variants as Refusal
+use Rattle.refusals.proofs.Verdicts.{checked-number, verdict-is}
 use Rattle.sheet.proofs.Reading.{start-leads}
 use Rattle.sheet.proofs.Accepted.{accepted-holds, accepted-carried, accepted-n, accepted-m, accepted-length}
 use Rattle.coercion.specs.Data.{Question}
@@ -156,32 +155,9 @@ unfolding refusal Sheet.refusal
 sheet-refusal c h = met-first (Sheet.conditions (c .sheet)) (later c) h
 
 -- what the check of a sheet says
-verdict-number : (s : List ℕ) → verdict s .number ≡ Sheet.refusal s
-unfolding verdict
-verdict-number s = go (eqb (Sheet.refusal s) 0) refl
-  where
-    go : (b : Bool) → eqb (Sheet.refusal s) 0 ≡ b
-        → cond {A = Verdict} b (record { number = 0; n = recordsOf s; m = labelsOf s }) (record { number = Sheet.refusal s; n = 0; m = 0 }) .number ≡ Sheet.refusal s
-    go true e = sym (eqb-true (Sheet.refusal s) 0 e)
-    go false e = refl
-
-pub number-some : (r : Refusal) → ¬ (numberOf r ≡ 0)
-number-some Refusal.Torn e = omega arith
-number-some Refusal.Kind e = omega arith
-number-some Refusal.Chain e = omega arith
-number-some Refusal.Figure e = omega arith
-number-some Refusal.Label e = omega arith
-
-pub checked-refused : (s : List ℕ) (k : ℕ) → record { number = k; n = 0; m = 0 } ≡ verdict s → Sheet.refusal s ≡ k
-checked-refused s k h = sym (verdict-number s) ∙ ap (λ (v : Verdict). v .number) (sym h)
-
-verdict-is : (s : List ℕ) → Sheet.refusal s ≡ 0 → verdict s ≡ record { number = 0; n = recordsOf s; m = labelsOf s }
-unfolding verdict
-verdict-is s z = rw z
-
 pub checked-accepted : (s : List ℕ) (n m : ℕ) → record { number = 0; n = n; m = m } ≡ verdict s → Measured s (record { n = n; m = m; half = length s })
 checked-accepted s n m h =
-    let z : Sheet.refusal s ≡ 0 = sym (verdict-number s) ∙ ap (λ (v : Verdict). v .number) (sym h) in
+    let z = checked-number s 0 n m h in
     let e = h ∙ verdict-is s z in
     record {
       unrefused = z;

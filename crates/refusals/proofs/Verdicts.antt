@@ -1,6 +1,6 @@
 -- What `check` answers, from what it found. Assumes nothing.
 use mathlib.Core.Path.{_≡_, refl, ap, ap₂, sym, subst, _∙_}
-use mathlib.Core.Bool.{Bool, true, false, not, _||_, _&&_}
+use mathlib.Core.Bool.{Bool, true, false, cond, not, _||_, _&&_}
 use mathlib.Core.List.{List, [], _∷_, _++_}
 use Prim.Native.Nat.{ℕ, zero, suc, _+_, _*_, _-_, _<_, _≤_}
 use native.Mathlib.Omega.{arith}
@@ -12,12 +12,14 @@ use Rattle.sheet.specs.Types.{Fields, end, field, count}
 use Rattle.sheet.specs.Head.{headAt, labelled}
 use Rattle.sheet.specs.Read.{recordsOf, labelsOf, start, read, walkFrom}
 use Rattle.sheet.specs.Names.{namesDiffer}
-use Rattle.sheet.specs.Refusals.{Met, met, walk, torn, anyFrom, badKind, linked, badChain, recordRight, anyWrong, badFigure, labelRight, misplaced, badLabel, refusal, Verdict, verdict}
+use Rattle.sheet.specs.Refusals.{Met, met, walk, torn, anyFrom, badKind, linked, badChain, recordRight, anyWrong, badFigure, labelRight, misplaced, badLabel, refusal, Verdict, verdict, numberOf}
 use Rattle.sheet.specs.Holds.{Plain, Holds}
 use Rattle.refusals.specs.Walk.{passHead, passAll, Says, Walks}
 use Rattle.refusals.specs.Limits.{Fits}
 use Rattle.refusals.specs.Found.{outset, Found}
 use Rattle.refusals.specs.declared.Progress.{Progress}
+use Rattle.sheet.specs.declared.Refusal.{Refusal}
+use Rattle.sheet.specs.declared.Refusal.the-variants as Refusal
 use Rattle.refusals.specs.declared.Walked.{Walked}
 use Rattle.refusals.specs.declared.Walked.the-variants.{Came, Lost}
 use Rattle.sheet.proofs.Tests.{all-not, all-cons, all-nil, one-is, one-cons, one-nil, not-of}
@@ -158,3 +160,28 @@ module _ (s : List ℕ) (n m link : ℕ) (p : Progress) (found : Found s n m lin
             found-sheet h =
                 says-accepted s (found .fits .whole) (found .kinds) chain-right figures-right
                 (one-cons _ placed (one-cons _ (sym (names 0 (read s) holds (omega (arith, due-is))) ∙ h) one-nil)) n m (found .fits .records) (found .fits .labels)
+
+-- what a verdict says of the refusal number
+verdict-number : (s : List ℕ) → verdict s .number ≡ refusal s
+unfolding verdict
+verdict-number s = go (eqb (refusal s) 0) refl
+  where
+    go : (b : Bool) → eqb (refusal s) 0 ≡ b
+        → cond {A = Verdict} b (record { number = 0; n = recordsOf s; m = labelsOf s }) (record { number = refusal s; n = 0; m = 0 }) .number ≡ refusal s
+    go true e = sym (eqb-true (refusal s) 0 e)
+    go false e = refl
+
+pub checked-number : (s : List ℕ) (k n m : ℕ) → record { number = k; n = n; m = m } ≡ verdict s → refusal s ≡ k
+checked-number s k n m h = sym (verdict-number s) ∙ ap (λ (v : Verdict). v .number) (sym h)
+
+pub verdict-is : (s : List ℕ) → refusal s ≡ 0 → verdict s ≡ record { number = 0; n = recordsOf s; m = labelsOf s }
+unfolding verdict
+verdict-is s z = rw z
+
+-- no refusal of the code has the number 0
+pub number-some : (r : Refusal) → ¬ (numberOf r ≡ 0)
+number-some Refusal.Torn e = omega arith
+number-some Refusal.Kind e = omega arith
+number-some Refusal.Chain e = omega arith
+number-some Refusal.Figure e = omega arith
+number-some Refusal.Label e = omega arith

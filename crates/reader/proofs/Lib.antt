@@ -1,0 +1,5 @@
+mod Taking
+mod Asks
+mod Moves
+pub mod Stands
+pub mod Laying
