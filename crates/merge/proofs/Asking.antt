@@ -28,7 +28,7 @@ use Rattle.buffers.specs.declared.Out.{Out}
 use Rattle.buffers.specs.declared.Out.the-variants.{Done, No, Full}
 use Rattle.merge.proofs.Orders.{ask-turns, plain-turns}
 use Rattle.merge.proofs.Merging.{typed-same, merges-as, merges-left, merges-none}
-use Rattle.merge.proofs.Turning.{kind-of}
+use Rattle.wrappers.proofs.Values.{kind-of}
 
 -- the rules of a question that looks at names, and of one that does not
 list-turns : (q : Data.Question) (rules : Rules) (c : DataType → DataType → Option DataType) (x y : DataType) → isListQuestion q ≡ true → resolved rules c x y ≡ turnsFor q rules c x y

@@ -9,7 +9,6 @@ use native.Mathlib.Omega.{arith}
 use lib.ListN.{length, length-append}
 use Rattle.sheet.specs.Types.{Shape, Fields, end, field, count, zoneBytes, labels}
 use Rattle.sheet.specs.Names.{namesDiffer}
-use Rattle.sheet.specs.Encode.{linkTo, headOf}
 use Rattle.sheet.specs.Head.{headAt}
 use Rattle.sheet.specs.declared.Head.{Head}
 use Rattle.sheet.proofs.Repeating.{head-is}
@@ -30,10 +29,10 @@ use Rattle.buffers.specs.declared.Out.the-variants.{Done, No, Full}
 use Rattle.buffers.proofs.Sources.{source-lower, read-nullable}
 use Rattle.buffers.proofs.Frames.{kept-self}
 use Rattle.buffers.proofs.Copying.{held-side}
-use Rattle.buffers.proofs.Chained.{held-first}
 use Rattle.buffers.proofs.Laying.{no-record}
 use Rattle.buffers.proofs.Fielding.{typed-reads}
 use Rattle.buffers.proofs.Stamping.{means-more}
+use Rattle.wrappers.proofs.Values.{side-twice}
 
 -- what a source holds stays while the second half is written
 pub chain-side : (swap : Bool) (space : Space) (s w v : List ℕ) (at label : ℕ) {link : ℕ} {t : Fields} → Room w space → Kept space w v at label → Chain space (side swap s w) link t
@@ -46,11 +45,6 @@ pub typed-side : (swap : Bool) (space : Space) (s w v : List ℕ) (at label : �
 typed-side swap space s w v at label room k a =
     record { name = a .name; nullable = a .nullable; rest = a .rest; chain = chain-side swap space s w v at label room k (a .chain) }
 
-module _ {space : Space} {s : List ℕ} {link : ℕ} {name : List ℕ} {nullable : Bool} {shape : Shape} {parts rest : Fields} (h : Head) (e : h ≡ headAt s link)
-    (a : Chain space s link (field name nullable shape parts rest)) where
-  pub chain-first : Chain space s (h .first) parts
-  chain-first = record { floor = link; at = _; label = _; up = _; held = held-first (a .held) h e }
-
 -- the kind of a type
 pub typed-kind : {space : Space} {s : List ℕ} {link : ℕ} {t : DataType} (h : Head) → h ≡ headAt s link → Typed space s link t → h .kind ≡ t .shape .kind
 typed-kind h e a = sym (typed-reads a e .kind)
@@ -61,26 +55,26 @@ pub typed-same : {space : Space} {s t : List ℕ} {i j : ℕ} (named : Bool) {e 
 typed-same named f a b =
     f _ _ _ _ _ _ _ _ _ _ _ _ _ _ _ _ (source-lower 0 (omega arith) (a .chain .held .source)) (source-lower 0 (omega arith) (b .chain .held .source))
 
--- the sides of a pair, the other way round
-pub side-twice : (swap : Bool) (s w : List ℕ) → side (not (not swap)) s w ≡ side swap s w
-side-twice true s w = refl
-side-twice false s w = refl
-
 -- the same meaning, for more room
 pub means-for : (space : Space) (w v : List ℕ) (g : Goal) {z y : ℕ} (z′ y′ : ℕ) (o : Out) {m m′ : Option DataType} → z ≤ z′ → y ≤ y′ → m ≡ m′ → Means space w v g z y o m
     → Means space w v g z′ y′ o m′
 means-for space w v g {z} {y} z′ y′ o {m} p q e a = subst (Means space w v g z′ y′ o) e (means-more space w v g z y z′ y′ o m p q a)
 
 module _ {A : DataType → DataType → Option DataType} (B : DataType → DataType → Option DataType) (space : Space) (swap : Bool) (s w v : List ℕ) (l r : ℕ) (g : Goal) (o : Out) where
-  -- a rule that says the same of the types at hand
+  -- a rule that says the same of the types at hand, where no more records are left in them
+  pub merges-within : {left : ℕ} (left′ : ℕ) → left′ ≤ left
+      → ((x y : DataType) → Typed space (side swap s w) l x → Typed space (side (not swap) s w) r y → size x + size y ≤ left′ → A x y ≡ B x y)
+      → Merges A space left swap s w v l r g o → Merges B space left′ swap s w v l r g o
+  merges-within left′ h f m =
+      record {
+        writes = m .writes;
+        means = λ x y a b q. means-for space w v g (size x + size y) (letters x + letters y) o (omega arith) (omega arith) (f x y a b q) (m .means x y a b (omega arith));
+      }
+
   pub merges-as : {left : ℕ} (left′ : ℕ) → left′ ≤ left
       → ((x y : DataType) → Typed space (side swap s w) l x → Typed space (side (not swap) s w) r y → A x y ≡ B x y)
       → Merges A space left swap s w v l r g o → Merges B space left′ swap s w v l r g o
-  merges-as left′ h f m =
-      record {
-        writes = m .writes;
-        means = λ x y a b q. means-for space w v g (size x + size y) (letters x + letters y) o (omega arith) (omega arith) (f x y a b) (m .means x y a b (omega arith));
-      }
+  merges-as left′ h f m = merges-within left′ h (λ x y a b q. f x y a b) m
 
   -- the sides exchanged
   pub merges-swapped : (left : ℕ) → ((x y : DataType) → Typed space (side swap s w) l x → Typed space (side (not swap) s w) r y → A y x ≡ B x y)

@@ -34,7 +34,8 @@ use Rattle.buffers.proofs.Sources.{read-shape}
 use Rattle.buffers.proofs.Frames.{stands-frame, kept-trans, kept-wider}
 use Rattle.buffers.proofs.Chained.{labels-sum}
 use Rattle.buffers.proofs.Laying.{no-record}
-use Rattle.merge.proofs.Merging.{chain-side, typed-side, chain-first, chain-some, means-for, merges-none}
+use Rattle.wrappers.proofs.Values.{chain-first}
+use Rattle.merge.proofs.Merging.{chain-side, typed-side, chain-some, means-for, merges-none}
 use Rattle.buffers.proofs.Rows.{chain-end, chain-link, chain-typed, chain-nullable}
 use Rattle.buffers.proofs.Fielding.{name-length}
 

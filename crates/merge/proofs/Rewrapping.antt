@@ -2,7 +2,7 @@
 use mathlib.Core.Path.{_≡_, refl, ap, ap₂, sym, subst, subst₂, _∙_}
 use mathlib.Core.Bool.{Bool, true, false, not, _&&_}
 use mathlib.Core.List.{List, [], _∷_}
-use mathlib.Core.Logic.{inl, inr, ⊎-elim}
+use mathlib.Core.Logic.{_⊎_, inl, inr, ⊎-elim}
 use mathlib.Core.Option.{Option, none, some}
 use Prim.Native.Nat.{ℕ, _+_, _<_, _≤_}
 use native.Mathlib.Omega.{arith}
@@ -26,7 +26,7 @@ use Rattle.coercion.proofs.NestedRight.{coercion-sound}
 use Rattle.buffers.specs.Writes.{side}
 use Rattle.buffers.specs.Region.{Room, region, Kept, Grows, Wrote, CopiedHead}
 use Rattle.buffers.specs.Goal.{letters, Means, Writes, typeOf, shapeFor, Tied}
-use Rattle.merge.specs.Turns.{IsWrapper, rewrap, rewrapped}
+use Rattle.merge.specs.Turns.{rewrap, rewrapped}
 use Rattle.buffers.specs.Typed.{Chain, Typed, Merges, ChainIs, CopiedField, isView, Viewed}
 use Rattle.merge.specs.Merge.{MergesField, fieldOf}
 use Rattle.buffers.specs.declared.Space.{Space}
@@ -38,8 +38,11 @@ use Rattle.buffers.proofs.Frames.{kept-trans, kept-wider, wrote-frame}
 use Rattle.buffers.proofs.Chained.{labels-sum}
 use Rattle.buffers.proofs.Laying.{named-kept}
 use Rattle.buffers.proofs.Tying.{tied-kept, chain-tied}
-use Rattle.merge.proofs.Merging.{chain-side, typed-side, typed-kind, chain-first, means-for}
+use Rattle.merge.proofs.Merging.{chain-side, typed-side, typed-kind, means-for}
 use Rattle.buffers.proofs.Rows.{chain-next}
+use Rattle.wrappers.specs.Ways.{isWrapper}
+use Rattle.wrappers.proofs.Cores.{wrapper-is, two-parts}
+use Rattle.wrappers.proofs.Values.{chain-first}
 use Rattle.merge.proofs.Parents.{Parent, parent-copied, parent-wrote, kept-on, writes-on}
 
 -- what a test rules out
@@ -91,12 +94,6 @@ view-plain t h e =
     (subst (λ (k : ℕ). partsRight k (arity (t .parts)) ≡ true) e (h .0 .filled))
     (subst (λ (k : ℕ). figuresRight k (t .shape .figure) (t .shape .scale) (t .shape .size) (t .shape .sorted) (isZoned (t .shape .zone)) ≡ true) e (h .0 .figures))
 
--- a wrapper has two parts
-two-parts : (k n : ℕ) → IsWrapper k → partsRight k n ≡ true → n ≡ 2
-unfolding partsRight between
-two-parts k n (inl e) h = eqb-true n 2 (subst (λ (i : ℕ). partsRight i n ≡ true) e h)
-two-parts k n (inr e) h = eqb-true n 2 (subst (λ (i : ℕ). partsRight i n ≡ true) e h)
-
 -- the parts of a Dictionary have neither a name nor a nullability
 bare-part : {name : List ℕ} {nullable : Bool} {shape : Shape} {parts : Fields} → FieldRight 37 name nullable shape parts → (name ≡ []) × (nullable ≡ false)
 unfolding namesParts between
@@ -134,7 +131,7 @@ refilled z t = field (z .name₁) (z .null₁) (z .shape₁) (z .parts₁) (befo
 rewrap-view : (k : ℕ) (z : Two) (t : DataType) → eqb k 37 ≡ true → eqb (t .shape .kind) 27 ≡ true → rewrap k (wrapperOf z) t ≡ some t
 rewrap-view k z t e q = rw e (rw q refl)
 
-rewrap-stays : (k : ℕ) (z : Two) (t : DataType) → IsWrapper k → (k ≡ 37 → (z .name₂ ≡ []) × (z .null₂ ≡ false)) → (eqb k 37 && eqb (t .shape .kind) 27) ≡ false
+rewrap-stays : (k : ℕ) (z : Two) (t : DataType) → (k ≡ 37) ⊎ (k ≡ 38) → (k ≡ 37 → (z .name₂ ≡ []) × (z .null₂ ≡ false)) → (eqb k 37 && eqb (t .shape .kind) 27) ≡ false
     → rewrap k (wrapperOf z) t ≡ some (typeOf (z .shape) (refilled z t))
 rewrap-stays k z t (inl e) bare n =
     let q : eqb k 37 ≡ true = eq-eqb k 37 e in
@@ -160,7 +157,7 @@ means-before space w v u g z y No none k a = tt
 means-before space w v u g z y No (some t) k a = absurd a
 means-before space w v u g z y Full m k a = a
 
-module _ (rules : Rules) (space : Space) (left : ℕ) (swap : Bool) (s w : List ℕ) (k l r : ℕ) (g : Goal) (room : Room w space) (is : IsWrapper k)
+module _ (rules : Rules) (space : Space) (left : ℕ) (swap : Bool) (s w : List ℕ) (k l r : ℕ) (g : Goal) (room : Room w space) (is : isWrapper k ≡ true)
     (h : Head) (eh : h ≡ headAt (side swap s w) l) (ek : headAt (side swap s w) l .kind ≡ k) (j : Head) (ej : j ≡ headAt (side swap s w) (h .first)) where
   abbrev answer : DataType → DataType → Option DataType
   answer = rewrapped k (coercion rules)
@@ -311,7 +308,7 @@ module _ (rules : Rules) (space : Space) (left : ℕ) (swap : Bool) (s w : List 
         said z i z₁ y₁ le t sound c false q =
             let n = ap (λ (x : ℕ). eqb k 37 && eqb x 27) (sym (value-kind z i t c)) ∙ q in
             let m : Means space w v₄ g z₁ y₁ (Done e) (some (typeOf (z .shape) (refilled z t))) = parent-wrote v₄ (refilled z t) (parent z i) refl kept₄ c in
-            subst (λ (x : Option DataType). Means space w v₅ g z₁ y₁ o x) (sym (rewrap-stays k z t is (i .bare) n))
+            subst (λ (x : Option DataType). Means space w v₅ g z₁ y₁ o x) (sym (rewrap-stays k z t (wrapper-is k is) (i .bare) n))
             (subst₂ (λ (o : Out) (u : List ℕ). Means space w u g z₁ y₁ o (some (typeOf (z .shape) (refilled z t)))) (sym (vw .stays q .0)) (sym (vw .stays q .1)) m)
         said z i z₁ y₁ le t sound c true q =
             let p = and-fst (eqb k 37) (eqb (headAt (region space v₄) (b .at) .kind) 27) q in

@@ -26,7 +26,8 @@ use Rattle.buffers.specs.declared.Out.{Out}
 use Rattle.buffers.specs.declared.Out.the-variants.{No}
 use Rattle.buffers.specs.declared.Feed.the-variants as Feed
 use Rattle.buffers.proofs.Chained.{held-first}
-use Rattle.merge.proofs.Merging.{chain-first, means-for, merges-none}
+use Rattle.wrappers.proofs.Values.{chain-first}
+use Rattle.merge.proofs.Merging.{means-for, merges-none}
 use Rattle.buffers.proofs.Naming.{Asks, sameArity, names-found, names-missing, by-name-fits, end-self}
 use Rattle.buffers.proofs.Fielding.{typed-reads}
 

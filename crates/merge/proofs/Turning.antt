@@ -2,17 +2,13 @@
 use mathlib.Core.Path.{_≡_, refl, ap, ap₂, sym, subst, _∙_}
 use mathlib.Core.Bool.{Bool, true, false, cond, not, _&&_, _||_}
 use mathlib.Core.List.{List}
-use mathlib.Core.Logic.{inl, inr}
 use mathlib.Core.Option.{Option, none, some}
 use Prim.Native.Nat.{ℕ, _+_, _<_, _≤_}
 use native.Mathlib.Omega.{arith}
-use lib.ListN.{length, length-append}
 use lib.Dec.{eqb}
 use borrow.Author.Tests.{eq-eqb, ne-eqb, eqb-true}
 use Rattle.sheet.specs.Kind as Kind
-use Rattle.sheet.specs.Kind.{partsRight}
-use Rattle.sheet.specs.Tests.{between}
-use Rattle.sheet.specs.Types.{Shape, Fields, end, field, arity, count, zoneBytes, labels}
+use Rattle.sheet.specs.Types.{Shape, Fields, end}
 use Rattle.sheet.specs.Head.{headAt}
 use Rattle.sheet.specs.declared.Head.{Head}
 use Rattle.sheet.proofs.Tests.{never, and-fst, and-snd}
@@ -20,17 +16,17 @@ use Rattle.coercion.specs.Data.{DataType, Rules, size, orElse, andThen}
 use Rattle.coercion.specs.Data as Data
 use Rattle.coercion.specs.Kinds.{isList}
 use Rattle.coercion.specs.Same.{sameType}
-use Rattle.coercion.specs.Wrappers.{valueIn, isOf, wrapperCoercion}
+use Rattle.coercion.specs.Wrappers.{isOf, wrapperCoercion}
 use Rattle.coercion.specs.Nested.{before, joinFields, listShape, listOf, listCoercion, structCoercion, mapCoercion}
-use Rattle.coercion.specs.Answers.{bothParts, listStruct}
+use Rattle.coercion.specs.Answers.{bothParts, listStruct, coercion}
 use Rattle.buffers.specs.Source.{SameTypes}
 use Rattle.buffers.specs.Writes.{side}
 use Rattle.buffers.specs.Region.{Room, Kept}
-use Rattle.buffers.specs.Goal.{letters, Means, CopiedType, typeOf, shapeFor}
+use Rattle.buffers.specs.Goal.{letters, Means, CopiedType, shapeFor}
 use Rattle.buffers.specs.Steps.{Reads, listKind, listSize}
 use Rattle.buffers.specs.Plain.{isListQuestion, plainRules}
-use Rattle.merge.specs.Turns.{structRule, nestedOf, listRule, mapRule, IsWrapper, bothWrapped, rewrapped, eitherWrapped, resolved, unwrapped}
-use Rattle.buffers.specs.Typed.{Chain, Typed, Merges}
+use Rattle.merge.specs.Turns.{structRule, nestedOf, listRule, mapRule, bothWrapped, rewrapped, eitherWrapped, resolved, unwrapped}
+use Rattle.buffers.specs.Typed.{Typed, Merges}
 use Rattle.merge.specs.Merge.{Under}
 use Rattle.buffers.specs.declared.Space.{Space}
 use Rattle.buffers.specs.declared.Spot.{Spot}
@@ -39,23 +35,17 @@ use Rattle.buffers.specs.declared.Out.{Out}
 use Rattle.buffers.specs.declared.Out.the-variants.{Done, No, Full}
 use Rattle.buffers.specs.declared.Feed.the-variants as Feed
 use Rattle.buffers.proofs.Frames.{kept-trans}
-use Rattle.buffers.proofs.Chained.{room-kept, labels-sum}
 use Rattle.buffers.proofs.Laying.{named-kept}
-use Rattle.merge.proofs.Merging.{typed-side, chain-first, typed-same, side-twice, means-for, merges-as, merges-swapped, merges-left, merges-right, merges-none}
-use Rattle.buffers.proofs.Rows.{chain-typed, chain-next}
+use Rattle.merge.proofs.Merging.{typed-side, typed-same, means-for, merges-within, merges-as, merges-swapped, merges-left, merges-right, merges-none}
+use Rattle.wrappers.specs.Ways.{isWrapper}
+use Rattle.wrappers.specs.Walks.{Way}
+use Rattle.wrappers.proofs.Choosing.{typed-whole, way-rule}
+use Rattle.wrappers.proofs.Values.{side-twice, kind-of, kind-is, chain-first, Two, typed-two, value-of}
 use Rattle.buffers.proofs.Fielding.{typed-reads}
 
 -- the test of two tests, by what each is
 pub and-are : {a b p q r : Bool} → p ≡ a → q ≡ b → r ≡ (p && q) → (a && b) ≡ r
 and-are e f h = sym (h ∙ ap₂ _&&_ e f)
-
--- the kind of a type, by its head
-module _ {space : Space} {s : List ℕ} {link k : ℕ} (e : k ≡ headAt s link .kind) where
-  pub kind-of : {t : DataType} → Typed space s link t → t .shape .kind ≡ k
-  kind-of a = typed-reads a refl .kind ∙ sym e
-
-  pub kind-is : {t : DataType} (x : ℕ) → Typed space s link t → isOf x t ≡ eqb k x
-  kind-is x a = ap (λ (i : ℕ). eqb i x) (kind-of a)
 
 -- what was merged after something else was written at the same goal
 means-after : (space : Space) (w v u : List ℕ) (g : Goal) (z y : ℕ) (o : Out) (m : Option DataType) → Kept space w v (g .at) (g .label + g .nlen) → Means space v u g z y o m → Means space w u g z y o m
@@ -102,34 +92,6 @@ module _ {A : DataType → DataType → Option DataType} (B : DataType → DataT
         means = λ x y a b q. or-none space w v u g (size x + size y) (letters x + letters y) o (A x y) (B x y) (m .means x y a b q) (k .means x y a b q);
       }
 
--- two parts
-pub record Two (t : Fields) : Type 0 where
-  pub n : List ℕ
-  pub b : Bool
-  pub s : Shape
-  pub p : Fields
-  pub n₂ : List ℕ
-  pub b₂ : Bool
-  pub s₂ : Shape
-  pub p₂ : Fields
-  pub is : t ≡ field n b s p (field n₂ b₂ s₂ p₂ end)
-
-two-of : (t : Fields) → arity t ≡ 2 → Two t
-unfolding arity
-two-of end e = absurd (omega arith)
-two-of (field n b s p end) e = absurd (omega arith)
-two-of (field n b s p (field n₂ b₂ s₂ p₂ end)) e = record { n = n; b = b; s = s; p = p; n₂ = n₂; b₂ = b₂; s₂ = s₂; p₂ = p₂; is = refl }
-two-of (field n b s p (field n₂ b₂ s₂ p₂ (field n₃ b₃ s₃ p₃ q))) e = absurd (omega arith)
-
-filled-two : (k n : ℕ) → IsWrapper k → partsRight k n ≡ true → n ≡ 2
-unfolding partsRight between
-filled-two k n (inl e) h = eqb-true n 2 (rw e at h)
-filled-two k n (inr e) h = eqb-true n 2 (rw e at h)
-
--- a wrapper has two parts
-pub typed-two : {space : Space} {s : List ℕ} {link k : ℕ} {t : DataType} → IsWrapper k → t .shape .kind ≡ k → Typed space s link t → Two (t .parts)
-typed-two {t = t} w e a = two-of (t .parts) (filled-two _ _ w (subst (λ (i : ℕ). partsRight i (arity (t .parts)) ≡ true) e (a .chain .held .source .right .0 .filled)))
-
 or-self : (b : Bool) → b ≡ (b || b)
 or-self true = refl
 or-self false = refl
@@ -174,34 +136,40 @@ module _ (rules : Rules) (c : DataType → DataType → Option DataType) (space 
     unfolding resolved
     resolve-nested v o n h = merges-as (resolved rules c) space swap s w v l r g o (left + 1) (omega arith) (λ x y a b. rw (one-of 37 a b ∙ n) (rw (one-of 38 a b ∙ h) refl))
 
-  -- the rules of union and compare, one after the other
-  module _ (v : List ℕ) where
-    pub unwrap-first : (d : Spot) → Merges (wrapperCoercion 37 c) space (left + 1) swap s w v l r g (Done d) → Merges (unwrapped rules c) space (left + 1) swap s w v l r g (Done d)
-    unfolding unwrapped
-    unwrap-first d m = either-done (λ x y. orElse (wrapperCoercion 38 c x y) (nestedOf rules c x y)) swap m
+or-assoc : (a b c : Option DataType) → orElse (orElse a b) c ≡ orElse a (orElse b c)
+or-assoc none b c = refl
+or-assoc (some t) b c = refl
 
-    pub unwrap-full : Merges (wrapperCoercion 37 c) space (left + 1) swap s w v l r g Full → Merges (unwrapped rules c) space (left + 1) swap s w v l r g Full
-    unfolding unwrapped
-    unwrap-full m = either-full (λ x y. orElse (wrapperCoercion 38 c x y) (nestedOf rules c x y)) swap m
+-- the rules of union and compare: the one rule for wrappers that can give an answer, and then the others
+module _ (rules : Rules) (pairs : isListQuestion (rules .question) ≡ false) (space : Space) (left : ℕ) (swap : Bool) (s w : List ℕ) (l r : ℕ) (g : Goal)
+    {k : ℕ} (way : Way (rules .mask) (left + 1) swap s w l r k) (v : List ℕ) where
+  asked : (x y : DataType) → Typed space (side swap s w) l x → Typed space (side (not swap) s w) r y → size x + size y ≤ left + 1
+      → orElse (wrapperCoercion k (coercion rules) x y) (nestedOf rules (coercion rules) x y) ≡ unwrapped rules (coercion rules) x y
+  unfolding unwrapped
+  asked x y a b q =
+      ap (λ (i : ℕ). orElse (wrapperCoercion i (coercion rules) x y) (nestedOf rules (coercion rules) x y)) (way .is space x y a b q)
+      ∙ ap (λ (o : Option DataType). orElse o (nestedOf rules (coercion rules) x y)) (sym (way-rule rules pairs x y (typed-whole a) (typed-whole b)))
+      ∙ or-assoc (wrapperCoercion 37 (coercion rules) x y) (wrapperCoercion 38 (coercion rules) x y) (nestedOf rules (coercion rules) x y)
 
-    module _ (room : Room w space) (m : Merges (wrapperCoercion 37 c) space (left + 1) swap s w v l r g No) (u : List ℕ) where
-      pub unwrap-second : (d : Spot) → Merges (wrapperCoercion 38 c) space (left + 1) swap s v u l r g (Done d) → Merges (unwrapped rules c) space (left + 1) swap s w u l r g (Done d)
-      unfolding unwrapped
-      unwrap-second d n = either-next (λ x y. orElse (wrapperCoercion 38 c x y) (nestedOf rules c x y)) swap room m (either-done (nestedOf rules c) swap n)
+  as-unwrapped : {u : List ℕ} {o : Out} → Merges (λ x y. orElse (wrapperCoercion k (coercion rules) x y) (nestedOf rules (coercion rules) x y)) space (left + 1) swap s w u l r g o
+      → Merges (unwrapped rules (coercion rules)) space (left + 1) swap s w u l r g o
+  as-unwrapped {u} {o} = merges-within (unwrapped rules (coercion rules)) space swap s w u l r g o (left + 1) (omega arith) asked
 
-      pub unwrap-second-full : Merges (wrapperCoercion 38 c) space (left + 1) swap s v u l r g Full → Merges (unwrapped rules c) space (left + 1) swap s w u l r g Full
-      unfolding unwrapped
-      unwrap-second-full n = either-next (λ x y. orElse (wrapperCoercion 38 c x y) (nestedOf rules c x y)) swap room m (either-full (nestedOf rules c) swap n)
+  pub unwrap-done : (d : Spot) → Merges (wrapperCoercion k (coercion rules)) space (left + 1) swap s w v l r g (Done d)
+      → Merges (unwrapped rules (coercion rules)) space (left + 1) swap s w v l r g (Done d)
+  unwrap-done d m = as-unwrapped (either-done (nestedOf rules (coercion rules)) swap m)
 
-      pub unwrap-nested : (t : List ℕ) (o : Out) → Merges (wrapperCoercion 38 c) space (left + 1) swap s v u l r g No → Merges (nestedOf rules c) space (left + 1) swap s u t l r g o
-          → Merges (unwrapped rules c) space (left + 1) swap s w t l r g o
-      unfolding unwrapped
-      unwrap-nested t o n k =
-          either-next (λ x y. orElse (wrapperCoercion 38 c x y) (nestedOf rules c x y)) swap room m (either-next (nestedOf rules c) swap (room-kept (m .writes .kept) room) n k)
+  pub unwrap-full : Merges (wrapperCoercion k (coercion rules)) space (left + 1) swap s w v l r g Full
+      → Merges (unwrapped rules (coercion rules)) space (left + 1) swap s w v l r g Full
+  unwrap-full m = as-unwrapped (either-full (nestedOf rules (coercion rules)) swap m)
+
+  pub unwrap-nested : Room w space → (u : List ℕ) (o : Out) → Merges (wrapperCoercion k (coercion rules)) space (left + 1) swap s w v l r g No
+      → Merges (nestedOf rules (coercion rules)) space (left + 1) swap s v u l r g o → Merges (unwrapped rules (coercion rules)) space (left + 1) swap s w u l r g o
+  unwrap-nested room u o m n = as-unwrapped (either-next (nestedOf rules (coercion rules)) swap room m n)
 
 -- wrappers of a kind, in a list
 module _ (c : DataType → DataType → Option DataType) (space : Space) (left : ℕ) (swap : Bool) (s w : List ℕ) (l r : ℕ) (g : Goal)
-    {k j i : ℕ} (ek : k ≡ headAt (side swap s w) l .kind) (ej : j ≡ headAt (side (not swap) s w) r .kind) (is : IsWrapper i) where
+    {k j i : ℕ} (ek : k ≡ headAt (side swap s w) l .kind) (ej : j ≡ headAt (side (not swap) s w) r .kind) (is : isWrapper i ≡ true) where
   pub wrap-both : (v : List ℕ) (o : Out) → k ≡ i → j ≡ i → Merges (bothWrapped c) space (left + 1) swap s w v l r g o → Merges (eitherWrapped i c) space (left + 1) swap s w v l r g o
   unfolding eitherWrapped
   wrap-both v o p q =
@@ -228,35 +196,9 @@ module _ (c : DataType → DataType → Option DataType) (space : Space) (left :
       merges-none (eitherWrapped i c) space (left + 1) swap s w l r g
       (λ x y a b m. rw (kind-is ek i a ∙ ne-eqb k i p) (rw (kind-is ej i b ∙ ne-eqb j i q) refl))
 
--- the value of a wrapper
-pub record Value (space : Space) (s : List ℕ) (link : ℕ) (t : DataType) : Type 0 where
-  pub type : DataType
-  pub typed : Typed space s link type
-  pub is : valueIn (t .parts) ≡ some type
-  pub smaller : size type < size t
-  pub shorter : letters type ≤ letters t
-
-pub value-of : {space : Space} {s : List ℕ} {link k v : ℕ} {t : DataType} → IsWrapper k → t .shape .kind ≡ k → v ≡ headAt s (headAt s link .first) .next → Typed space s link t → Value space s v t
-unfolding count labels
-value-of {space} {s} {link} {k} {v} {t} w e ev a =
-    let x = typed-two w e a in
-    let q : Chain space s (headAt s link .first) (field (x .n) (x .b) (x .s) (x .p) (field (x .n₂) (x .b₂) (x .s₂) (x .p₂) end))
-    = subst (λ (f : Fields). Chain space s (headAt s link .first) f) (x .is) (chain-first (headAt s link) refl (a .chain)) in
-    let cs = ap (λ (f : Fields). count f) (x .is) in
-    let ls = ap (λ (f : Fields). length (labels f)) (x .is) in
-    let l₁ = labels-sum (x .n) (x .b) (x .s) (x .p) (field (x .n₂) (x .b₂) (x .s₂) (x .p₂) end) in
-    let l₂ = labels-sum (x .n₂) (x .b₂) (x .s₂) (x .p₂) end in
-    record {
-      type = typeOf (x .s₂) (x .p₂);
-      typed = subst (λ (i : ℕ). Typed space s i (typeOf (x .s₂) (x .p₂))) (sym ev) (chain-typed (chain-next q (headAt s (headAt s link .first)) refl));
-      is = ap valueIn (x .is);
-      smaller = omega (arith, cs);
-      shorter = omega (arith, ls, l₁, l₂, length-append (x .n₂) (zoneBytes (x .s₂ .zone)));
-    }
-
 -- a wrapper of a kind on either side, in union and compare
 module _ (c : DataType → DataType → Option DataType) (space : Space) (left : ℕ) (swap : Bool) (s w : List ℕ) (l r : ℕ) (g : Goal)
-    {k j i : ℕ} (ek : k ≡ headAt (side swap s w) l .kind) (ej : j ≡ headAt (side (not swap) s w) r .kind) (is : IsWrapper i) where
+    {k j i : ℕ} (ek : k ≡ headAt (side swap s w) l .kind) (ej : j ≡ headAt (side (not swap) s w) r .kind) (is : isWrapper i ≡ true) where
   pub wrapper-none : ¬ (k ≡ i) → ¬ (j ≡ i) → Merges (wrapperCoercion i c) space (left + 1) swap s w w l r g No
   unfolding wrapperCoercion
   wrapper-none p q =

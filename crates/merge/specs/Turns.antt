@@ -1,8 +1,6 @@
 -- The order in which the merge tries the rules of the source; proofs/Orders.antt says that it gives the source's answers. `coerce` is the source's `coerce_fn`.
-use mathlib.Core.Path.{_≡_}
 use Prim.Native.Nat.{ℕ}
-use mathlib.Core.Bool.{Bool, true, false, cond, _&&_, _||_}
-use mathlib.Core.Logic.{_⊎_}
+use mathlib.Core.Bool.{cond, _&&_, _||_}
 use mathlib.Core.Option.{Option, none, some}
 use lib.Dec.{eqb}
 use Rattle.sheet.specs.Kind as Kind
@@ -41,10 +39,6 @@ mapRule coerce l r =
 -- a wrapper of a kind about another value
 abbrev pub rewrap : ℕ → DataType → DataType → Option DataType
 rewrap k d t = cond (eqb k Kind.dictionary) (keepDictionary d t) (runEndsOf d (d .parts) t)
-
--- "37 two (index, value), 38 two (run ends, values)"
-abbrev pub IsWrapper : ℕ → Type 0
-IsWrapper k = (k ≡ Kind.dictionary) ⊎ (k ≡ Kind.runEndEncoded)
 
 -- two wrappers, part by part, under the left's names and nullability
 abbrev pub bothWrapped : (DataType → DataType → Option DataType) → DataType → DataType → Option DataType

@@ -1,6 +1,6 @@
 // The merge of two types. Each call hands down how many records may be left in both types, and that number falls.
 ghost use mathlib.Core.Path.{_≡_};
-ghost use mathlib.Core.Bool.{Bool, false, not};
+ghost use mathlib.Core.Bool.{Bool, true, false, not};
 ghost use Prim.Native.Nat.{_+_, _≤_, _<_};
 ghost use Rattle.coercion.specs.Answers.{coercion, listStruct};
 ghost use Rattle.coercion.specs.Wrappers.{wrapperCoercion};
@@ -9,8 +9,9 @@ ghost use Rattle.sheet.specs.Head.{headAt};
 ghost use Rattle.buffers.specs.Writes.{side};
 ghost use Rattle.buffers.specs.Region.{Room, Inside, Ready};
 ghost use Rattle.buffers.specs.Goal.{shapeFor};
-ghost use Rattle.buffers.specs.Plain.{rulesOf};
-ghost use Rattle.merge.specs.Turns.{IsWrapper, resolved, unwrapped, eitherWrapped, nestedOf, bothWrapped, rewrapped, listRule, mapRule};
+ghost use Rattle.buffers.specs.Plain.{asked, rulesOf, isListQuestion};
+ghost use Rattle.wrappers.specs.Ways.{isWrapper};
+ghost use Rattle.merge.specs.Turns.{resolved, unwrapped, eitherWrapped, nestedOf, bothWrapped, rewrapped, listRule, mapRule};
 ghost use Rattle.buffers.specs.Typed.{Merges};
 ghost use Rattle.merge.specs.Merge.{MergesField, Rowed, Under};
 use buffers::Feed;
@@ -44,6 +45,7 @@ use buffers::write::value_at;
 use kinds::tests::both;
 use kinds::tests::either;
 use kinds::tests::is_list;
+use wrappers::walk::way;
 
 // The common type of two types, or none.
 pub fn coerce(
@@ -121,7 +123,7 @@ fn resolve_wrapper(
     g: Goal,
 ) -> Out
     requires { ⌜ Room (now work) space × Ready space g ⌝ }
-    requires { ⌜ IsWrapper kind ⌝ }
+    requires { ⌜ isWrapper kind ≡ true ⌝ }
     ensures { λ o. ⌜ Merges (eitherWrapped kind (coercion (rulesOf question mask))) space (left + 1) swap (now (sheet .entry)) (now (work .entry)) (now (work .exit)) l r g o ⌝ }
 {
     let k = kind_at(sheet, &*work, swap, l);
@@ -220,7 +222,7 @@ fn rewrapped(
     g: Goal,
 ) -> Out
     requires { ⌜ Room (now work) space × Ready space g ⌝ }
-    requires { ⌜ IsWrapper kind × (headAt (side swap (now sheet) (now work)) l .kind ≡ kind) ⌝ }
+    requires { ⌜ (isWrapper kind ≡ true) × (headAt (side swap (now sheet) (now work)) l .kind ≡ kind) ⌝ }
     ensures { λ o. ⌜ Merges (rewrapped kind (coercion (rulesOf question mask))) space (left + 1) swap (now (sheet .entry)) (now (work .entry)) (now (work .exit)) l r g o ⌝ }
 {
     if space.n <= g.at {
@@ -290,7 +292,7 @@ fn coerce_field(
     Out::Full
 }
 
-// The rules of union and compare, after the test for alikeness.
+// The rules of union and compare, after the test for alikeness. Of the two rules for wrappers one is asked, as the other has no answer that it lacks.
 fn unwrap(
     sheet: &[u8],
     work: &mut [u8],
@@ -304,15 +306,25 @@ fn unwrap(
     g: Goal,
 ) -> Out
     requires { ⌜ Room (now work) space × Ready space g ⌝ }
+    requires { ⌜ isListQuestion (asked question) ≡ false ⌝ }
     ensures { λ o. ⌜ Merges (unwrapped (rulesOf question mask) (coercion (rulesOf question mask))) space (left + 1) swap (now (sheet .entry)) (now (work .entry)) (now (work .exit)) l r g o ⌝ }
 {
-    match wrapper(sheet, work, space, question, mask, left, swap, 37, l, r, g) {
+    let kind = way(sheet, &*work, swap, mask, left, l, r);
+    match wrapper(
+        sheet,
+        work,
+        space,
+        question,
+        mask,
+        left,
+        swap,
+        kind,
+        l,
+        r,
+        g,
+    ) {
         Out::Done(d) => Out::Done(d),
-        Out::No => match wrapper(sheet, work, space, question, mask, left, swap, 38, l, r, g) {
-            Out::Done(d) => Out::Done(d),
-            Out::No => nested(sheet, work, space, question, mask, left, swap, l, r, g),
-            Out::Full => Out::Full,
-        },
+        Out::No => nested(sheet, work, space, question, mask, left, swap, l, r, g),
         Out::Full => Out::Full,
     }
 }
@@ -332,7 +344,7 @@ fn wrapper(
     g: Goal,
 ) -> Out
     requires { ⌜ Room (now work) space × Ready space g ⌝ }
-    requires { ⌜ IsWrapper kind ⌝ }
+    requires { ⌜ isWrapper kind ≡ true ⌝ }
     ensures { λ o. ⌜ Merges (wrapperCoercion kind (coercion (rulesOf question mask))) space (left + 1) swap (now (sheet .entry)) (now (work .entry)) (now (work .exit)) l r g o ⌝ }
 {
     let k = kind_at(sheet, &*work, swap, l);

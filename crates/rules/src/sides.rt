@@ -14,7 +14,7 @@ use kinds::tests::is_string;
 use kinds::tests::is_time;
 
 // Whether Null may become a kind.
-fn may_become(mask: u64, k: u8) -> bool
+pub fn may_become(mask: u64, k: u8) -> bool
     requires { ⌜ k < 64 ⌝ }
     ensures { λ r. ⌜ r ≡ mayBecome mask k ⌝ }
 {

@@ -11,8 +11,7 @@ use Rattle.merge.proofs.Merging.{merges-full}
 use Rattle.buffers.proofs.Tying.{tied-kept}
 use Rattle.merge.proofs.Rewrapping.{index-none, index-full, value-none, value-full, wrapper-on}
 use Rattle.merge.proofs.Parents.{under-full, under-on, head-crowded, both-on, field-crowded, field-merged, map-left-end, map-right-end, map-on, after-passes}
-use mathlib.Core.Logic.{inl, inr}
-use Rattle.merge.proofs.Turning.{and-are, both-are, resolve-dictionary, resolve-runs, resolve-nested, wrap-both, wrap-left, wrap-right, wrap-none, unwrap-first, unwrap-full, unwrap-second, unwrap-second-full, unwrap-nested, wrapper-none, wrapper-both, wrapper-left-same, wrapper-left, wrapper-right-same, wrapper-right, nested-list, nested-listed, nested-struct, nested-map, nested-plain, list-merged}
+use Rattle.merge.proofs.Turning.{and-are, both-are, resolve-dictionary, resolve-runs, resolve-nested, wrap-both, wrap-left, wrap-right, wrap-none, unwrap-done, unwrap-full, unwrap-nested, wrapper-none, wrapper-both, wrapper-left-same, wrapper-left, wrapper-right-same, wrapper-right, nested-list, nested-listed, nested-struct, nested-map, nested-plain, list-merged}
 use Rattle.merge.proofs.Structs.{struct-none, struct-named, struct-placed, listed-none, listed-merged}
 use Prim.Native.Nat.{ℕ, _<_}
 use borrow.Fn.Kinds.{In}
@@ -87,6 +86,7 @@ use Rattle.buffers.proofs.stamp.plain_rule.Reads as plain-rule-reads
 use Rattle.buffers.proofs.write.kind_at.Reads as kind-at-reads
 use Rattle.buffers.proofs.write.look.Reads as look-reads
 use Rattle.buffers.proofs.write.value_at.Reads as value-at-reads
+use Rattle.wrappers.proofs.walk.way.Reads as way-reads
 use Rattle.kinds.proofs.tests.both.Reads as both-reads
 use Rattle.kinds.proofs.tests.either.Reads as either-reads
 use Rattle.kinds.proofs.tests.is_list.Reads as is-list-reads
@@ -340,7 +340,7 @@ under-calls t =
 
 abbrev unwrap-calls : ℕ → unwrap-lts.Claims
 unwrap-calls t =
-    (wrapper-below t, wrapper.Post, nested-below t, nested.Post)
+    (way-reads.Asked, way-reads.Learnt, wrapper-below t, wrapper.Post, nested-below t, nested.Post)
 
 abbrev wrapper-calls : ℕ → wrapper-lts.Claims
 wrapper-calls t =
@@ -506,7 +506,7 @@ coerce-sub-unwrap t c =
 -- src/coerce.rt:79:5
 coerce-unwrap-requires : (t : ℕ) → coerce-lts.Need-unwrap-requires (coerce-calls t) (coerce-at t) coerce.Post
 coerce-unwrap-requires t c κs =
-    (omega (arith, (c .before .before .before .before .before .before .before .before .before .before .before .before .before .before .before .pre .0), (c .before .before .before .before .before .before .before .before .before .before .before .before .if1 .left)), (c .before .before .before .before .before .before .before .before .before .before .before .before .before .before .before .pre .1))
+    (omega (arith, (c .before .before .before .before .before .before .before .before .before .before .before .before .before .before .before .pre .0), (c .before .before .before .before .before .before .before .before .before .before .before .before .if1 .left)), ((c .before .before .before .before .before .before .before .before .before .before .before .before .before .before .before .pre .1), sym (c .before .before .before .before .before .before .before .before .before .before .before .is-list-question .ensures) ∙ (c .before .if4 .left)))
 
 -- src/coerce.rt:49:1
 coerce-same-length-4 : (t : ℕ) → coerce-lts.Need-same-length-4 (coerce-calls t) (coerce-at t) coerce.Post
@@ -891,7 +891,7 @@ resolve-either-requires t c κs =
 -- src/coerce.rt:101:9
 resolve-resolve-wrapper-requires : (t : ℕ) → resolve-lts.Need-resolve-wrapper-requires (resolve-calls t) (resolve-at t) resolve.Post
 resolve-resolve-wrapper-requires t c κs =
-    (omega (arith, (c .before .before .before .before .before .before .before .before .before .pre .0)), ((c .before .before .before .before .before .before .before .before .before .pre .1), inl refl))
+    (omega (arith, (c .before .before .before .before .before .before .before .before .before .pre .0)), ((c .before .before .before .before .before .before .before .before .before .pre .1), refl))
 
 -- src/coerce.rt:101:9
 resolve-same-length : (t : ℕ) → resolve-lts.Need-same-length (resolve-calls t) (resolve-at t) resolve.Post
@@ -911,7 +911,7 @@ resolve-either-requires-2 t c κs =
 -- src/coerce.rt:104:9
 resolve-resolve-wrapper-requires-2 : (t : ℕ) → resolve-lts.Need-resolve-wrapper-requires-2 (resolve-calls t) (resolve-at t) resolve.Post
 resolve-resolve-wrapper-requires-2 t c κs =
-    (omega (arith, (c .before .before .before .before .before .before .before .before .before .before .before .pre .0)), ((c .before .before .before .before .before .before .before .before .before .before .before .pre .1), inr refl))
+    (omega (arith, (c .before .before .before .before .before .before .before .before .before .before .before .pre .0)), ((c .before .before .before .before .before .before .before .before .before .before .before .pre .1), refl))
 
 -- src/coerce.rt:104:9
 resolve-same-length-2 : (t : ℕ) → resolve-lts.Need-same-length-2 (resolve-calls t) (resolve-at t) resolve.Post
@@ -1456,100 +1456,53 @@ under-returns-2 : (t : ℕ) → under-lts.Need-returns-2 (under-calls t) (under-
 under-returns-2 t c =
     under-on _ _ _ _ _ _ _ _ _ _ _ _ _ _ (c .before .before .before .before .before .before .before .before .before .before .before .before .before .before .pre .1 .0 .0) (c .before .before .before .before .before .before .before .before .before .before .before .before .before .before .pre .1 .0 .1) (c .before .before .before .before .before .before .before .before .before .if1 .left) (c .before .before .before .before .before .before .before .first-link .ensures .0) (c .before .before .before .before .before .before .lay .ensures) (c .before .before .rows .ensures)
 
--- src/coerce.rt:309:11
+unwrap-way-requires : (t : ℕ) → unwrap-lts.Need-way-requires (unwrap-calls t) (unwrap-at t) unwrap.Post
+unwrap-way-requires t c κs =
+    search needs
+
 unwrap-wrapper-requires : (t : ℕ) → unwrap-lts.Need-wrapper-requires (unwrap-calls t) (unwrap-at t) unwrap.Post
 unwrap-wrapper-requires t c κs =
-    (omega (arith, (c .before .before .before .pre .0)), ((c .before .before .before .pre .1), inl refl))
+    (omega (arith, (c .before .before .before .before .before .pre .0)), ((c .before .before .before .before .before .pre .1 .0), (c .before .way .ensures .wrapper)))
 
--- src/coerce.rt:310:19
 unwrap-enum-known-d : (t : ℕ) → unwrap-lts.Need-enum-known-d (unwrap-calls t) (unwrap-at t) unwrap.Post
 unwrap-enum-known-d t c =
     search needs
 
--- src/coerce.rt:311:41
 unwrap-enum-told : (t : ℕ) → unwrap-lts.Need-enum-told (unwrap-calls t) (unwrap-at t) unwrap.Post
 unwrap-enum-told t c =
     search needs
 
--- src/coerce.rt:311:26
-unwrap-wrapper-requires-2 : (t : ℕ) → unwrap-lts.Need-wrapper-requires-2 (unwrap-calls t) (unwrap-at t) unwrap.Post
-unwrap-wrapper-requires-2 t c κs =
-    (omega (arith, (c .before .before .before .before .before .before .before .before .before .pre .0)), ((room-kept (c .before .before .before .before .before .wrapper .ensures .writes .kept) (c .before .before .before .before .before .before .before .before .before .pre .1 .0), (c .before .before .before .before .before .before .before .before .before .pre .1 .1)), inr refl))
+unwrap-nested-requires : (t : ℕ) → unwrap-lts.Need-nested-requires (unwrap-calls t) (unwrap-at t) unwrap.Post
+unwrap-nested-requires t c κs =
+    (omega (arith, (c .before .before .before .before .before .before .before .before .before .before .before .pre .0)), (room-kept (c .before .before .before .before .before .wrapper .ensures .writes .kept) (c .before .before .before .before .before .before .before .before .before .before .before .pre .1 .0 .0), (c .before .before .before .before .before .before .before .before .before .before .before .pre .1 .0 .1)))
 
--- src/coerce.rt:312:23
-unwrap-enum-known-d-2 : (t : ℕ) → unwrap-lts.Need-enum-known-d-2 (unwrap-calls t) (unwrap-at t) unwrap.Post
-unwrap-enum-known-d-2 t c =
-    search needs
-
--- src/coerce.rt:313:38
 unwrap-enum-told-2 : (t : ℕ) → unwrap-lts.Need-enum-told-2 (unwrap-calls t) (unwrap-at t) unwrap.Post
 unwrap-enum-told-2 t c =
     search needs
 
--- src/coerce.rt:313:24
-unwrap-nested-requires : (t : ℕ) → unwrap-lts.Need-nested-requires (unwrap-calls t) (unwrap-at t) unwrap.Post
-unwrap-nested-requires t c κs =
-    (omega (arith, (c .before .before .before .before .before .before .before .before .before .before .before .before .before .before .before .pre .0)), (room-kept (c .before .before .before .before .before .wrapper2 .ensures .writes .kept) (room-kept (c .before .before .before .before .before .before .before .before .before .before .before .wrapper .ensures .writes .kept) (c .before .before .before .before .before .before .before .before .before .before .before .before .before .before .before .pre .1 .0)), (c .before .before .before .before .before .before .before .before .before .before .before .before .before .before .before .pre .1 .1)))
-
--- src/coerce.rt:314:26
-unwrap-enum-told-3 : (t : ℕ) → unwrap-lts.Need-enum-told-3 (unwrap-calls t) (unwrap-at t) unwrap.Post
-unwrap-enum-told-3 t c =
-    search needs
-
--- src/coerce.rt:316:22
-unwrap-enum-told-4 : (t : ℕ) → unwrap-lts.Need-enum-told-4 (unwrap-calls t) (unwrap-at t) unwrap.Post
-unwrap-enum-told-4 t c =
-    search needs
-
--- src/coerce.rt:294:1
 unwrap-same-length : (t : ℕ) → unwrap-lts.Need-same-length (unwrap-calls t) (unwrap-at t) unwrap.Post
 unwrap-same-length t c =
     search needs
 
--- src/coerce.rt:294:1
 unwrap-returns : (t : ℕ) → unwrap-lts.Need-returns (unwrap-calls t) (unwrap-at t) unwrap.Post
 unwrap-returns t c =
-    unwrap-first _ _ _ _ (c .before .before .before .before .before .before .before .before .before .args .swap) _ _ _ _ _ _ _ (rw (c .before .d .given .1) at (c .before .before .before .before .before .wrapper .ensures))
+    unwrap-done _ (c .before .before .before .before .before .before .before .before .before .before .before .pre .1 .1) _ _ (c .before .before .before .before .before .before .before .before .before .before .before .args .swap) _ _ _ _ _ (c .before .before .before .before .before .before .before .way .ensures) _ _ (rw (c .before .d .given .1) at (c .before .before .before .before .before .wrapper .ensures))
 
--- src/coerce.rt:294:1
 unwrap-same-length-2 : (t : ℕ) → unwrap-lts.Need-same-length-2 (unwrap-calls t) (unwrap-at t) unwrap.Post
 unwrap-same-length-2 t c =
     search needs
 
--- src/coerce.rt:294:1
 unwrap-returns-2 : (t : ℕ) → unwrap-lts.Need-returns-2 (unwrap-calls t) (unwrap-at t) unwrap.Post
 unwrap-returns-2 t c =
-    unwrap-second _ _ _ _ (c .before .before .before .before .before .before .before .before .before .before .before .before .before .before .before .args .swap) _ _ _ _ _ _ (c .before .before .before .before .before .before .before .before .before .before .before .before .before .before .before .pre .1 .0) (rw (c .before .before .before .before .before .before .before .enum-told .given .1) at (c .before .before .before .before .before .before .before .before .before .before .before .wrapper .ensures)) _ _ (rw (c .before .d2 .given .1) at (c .before .before .before .before .before .wrapper2 .ensures))
+    unwrap-nested _ (c .before .before .before .before .before .before .before .before .before .before .before .before .before .before .pre .1 .1) _ _ (c .before .before .before .before .before .before .before .before .before .before .before .before .before .before .args .swap) _ _ _ _ _ (c .before .before .before .before .before .before .before .before .before .before .way .ensures) _ (c .before .before .before .before .before .before .before .before .before .before .before .before .before .before .pre .1 .0 .0) _ _ (rw (c .before .before .before .before .enum-told .given .1) at (c .before .before .before .before .before .before .before .before .wrapper .ensures)) (c .before .before .nested .ensures)
 
--- src/coerce.rt:294:1
 unwrap-same-length-3 : (t : ℕ) → unwrap-lts.Need-same-length-3 (unwrap-calls t) (unwrap-at t) unwrap.Post
 unwrap-same-length-3 t c =
     search needs
 
--- src/coerce.rt:294:1
 unwrap-returns-3 : (t : ℕ) → unwrap-lts.Need-returns-3 (unwrap-calls t) (unwrap-at t) unwrap.Post
 unwrap-returns-3 t c =
-    unwrap-nested _ _ _ _ (c .before .before .before .before .before .before .before .before .before .before .before .before .before .before .before .before .before .before .args .swap) _ _ _ _ _ _ (c .before .before .before .before .before .before .before .before .before .before .before .before .before .before .before .before .before .before .pre .1 .0) (rw (c .before .before .before .before .before .before .before .before .before .before .enum-told .given .1) at (c .before .before .before .before .before .before .before .before .before .before .before .before .before .before .wrapper .ensures)) _ _ _ (rw (c .before .before .before .before .enum-told2 .given .1) at (c .before .before .before .before .before .before .before .before .wrapper2 .ensures)) (c .before .before .nested .ensures)
-
--- src/coerce.rt:294:1
-unwrap-same-length-4 : (t : ℕ) → unwrap-lts.Need-same-length-4 (unwrap-calls t) (unwrap-at t) unwrap.Post
-unwrap-same-length-4 t c =
-    search needs
-
--- src/coerce.rt:294:1
-unwrap-returns-4 : (t : ℕ) → unwrap-lts.Need-returns-4 (unwrap-calls t) (unwrap-at t) unwrap.Post
-unwrap-returns-4 t c =
-    unwrap-second-full _ _ _ _ (c .before .before .before .before .before .before .before .before .before .before .before .before .before .before .args .swap) _ _ _ _ _ _ (c .before .before .before .before .before .before .before .before .before .before .before .before .before .before .pre .1 .0) (rw (c .before .before .before .before .before .before .enum-told .given .1) at (c .before .before .before .before .before .before .before .before .before .before .wrapper .ensures)) _ (rw (c .enum-told3 .given .1) at (c .before .before .before .before .wrapper2 .ensures))
-
--- src/coerce.rt:294:1
-unwrap-same-length-5 : (t : ℕ) → unwrap-lts.Need-same-length-5 (unwrap-calls t) (unwrap-at t) unwrap.Post
-unwrap-same-length-5 t c =
-    search needs
-
--- src/coerce.rt:294:1
-unwrap-returns-5 : (t : ℕ) → unwrap-lts.Need-returns-5 (unwrap-calls t) (unwrap-at t) unwrap.Post
-unwrap-returns-5 t c =
-    unwrap-full _ _ _ _ (c .before .before .before .before .before .before .before .before .args .swap) _ _ _ _ _ _ (rw (c .enum-told4 .given .1) at (c .before .before .before .before .wrapper .ensures))
+    unwrap-full _ (c .before .before .before .before .before .before .before .before .before .before .pre .1 .1) _ _ (c .before .before .before .before .before .before .before .before .before .before .args .swap) _ _ _ _ _ (c .before .before .before .before .before .before .way .ensures) _ (rw (c .enum-told2 .given .1) at (c .before .before .before .before .wrapper .ensures))
 
 -- src/coerce.rt:338:9
 wrapper-kind-at-requires : (t : ℕ) → wrapper-lts.Need-kind-at-requires (wrapper-calls t) (wrapper-at t) wrapper.Post
@@ -1943,29 +1896,21 @@ pub +both-parts+coerce+coerce-field+entry+list-rule+list-struct+map-rule+nested+
     (under-rows-requires t)
     (under-same-length t)
     (under-returns-2 t))
-    (λ t. unwrap-lts.spec
-    (wrapper-below t, wrapper.Post, nested-below t, nested.Post)
+    (λ t. unwrap-lts.spec (unwrap-calls t)
     (unwrap-at t)
     unwrap.Post
+    (unwrap-way-requires t)
     (unwrap-wrapper-requires t)
     (unwrap-enum-known-d t)
     (unwrap-enum-told t)
-    (unwrap-wrapper-requires-2 t)
-    (unwrap-enum-known-d-2 t)
-    (unwrap-enum-told-2 t)
     (unwrap-nested-requires t)
-    (unwrap-enum-told-3 t)
-    (unwrap-enum-told-4 t)
+    (unwrap-enum-told-2 t)
     (unwrap-same-length t)
     (unwrap-returns t)
     (unwrap-same-length-2 t)
     (unwrap-returns-2 t)
     (unwrap-same-length-3 t)
-    (unwrap-returns-3 t)
-    (unwrap-same-length-4 t)
-    (unwrap-returns-4 t)
-    (unwrap-same-length-5 t)
-    (unwrap-returns-5 t))
+    (unwrap-returns-3 t))
     λ t. wrapper-lts.spec (wrapper-calls t)
     (wrapper-at t)
     wrapper.Post
