@@ -211,20 +211,6 @@ module _ (s : List ℕ) (n floor i : ℕ) (t : List ℕ) (m j : ℕ) (named : Bo
         ∙ ap₂ (λ (b d : Bool). b && (d && sameFields named rest rest′)) (sym e ∙ z)
         (sym (f _ _ _ parts _ _ _ parts′ (source-first x g eg) (source-lower 0 (omega arith) (source-first y h eh))) ∙ q)))
 
-    -- nothing follows two records
-    pub fields-last : {u : Bool} → g .next + h .next ≡ 0
-        → SameChains s n i (g .first) t m (h .first) named u
-        → Claim u
-    fields-last {u} q f =
-        both u (λ r o up name nullable shape parts rest r′ o′ up′ name′ nullable′ shape′ parts′ rest′ x y.
-        f _ _ _ parts _ _ _ parts′ (source-first x g eg) (source-lower 0 (omega arith) (source-first y h eh))
-        ∙ sym (and-true _)
-        ∙ sym
-        (whole-is x y
-        ∙ ap₂ (λ (b d : Bool). b && (sameFields named parts parts′ && d)) (sym e ∙ z)
-        (sym (fields-none s n i (g .next) t m (h .next) named (omega arith) _ _ _ rest _ _ _ rest′ (source-next x g eg) (source-lower 0 (omega arith) (source-next y h eh)))
-        ∙ eq-eqb (h .next) 0 (omega arith))))
-
     pub fields-rest : {w u : Bool}
         → SameChains s n i (g .first) t m (h .first) named w
         → w ≡ true

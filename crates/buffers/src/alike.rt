@@ -99,7 +99,7 @@ fn same_record(a: &[u8], n: usize, g: Head, b: &[u8], m: usize, h: Head, named: 
     false
 }
 
-// Whether the chain that a link of a leads to is the one that a link of b leads to. Where nothing follows two records, their parts are what is left.
+// Whether the chain that a link of a leads to is the one that a link of b leads to.
 pub(crate) fn same_fields(
     a: &[u8],
     n: usize,
@@ -129,11 +129,6 @@ pub(crate) fn same_fields(
             return false;
         }
         low = x;
-        if g.next + h.next == 0 {
-            x = g.first;
-            y = h.first;
-            continue;
-        }
         x = g.next;
         y = h.next;
         if g.first + h.first == 0 {
