@@ -25,7 +25,7 @@ use Rattle.buffers.specs.Region.{Held}
 use Rattle.buffers.specs.Typed.{Chain}
 use Rattle.buffers.specs.Feeds.{EndOf}
 use Rattle.buffers.specs.Source.{Source}
-use Rattle.buffers.specs.Naming.{Missing, Picks, Finds, Tried, Guess}
+use Rattle.buffers.specs.Naming.{Picks, Finds, Tried, Guess}
 use Rattle.buffers.specs.declared.Space.{Space}
 use Rattle.buffers.proofs.Sources.{source-none, source-lower, link-inside, read-name}
 use Rattle.buffers.proofs.Chained.{held-next}
@@ -190,24 +190,22 @@ module _ (n : ℕ) (s want : List ℕ) (link : ℕ) (h : Head) (e : h ≡ headAt
       sym (b ∙ ap (λ (k : ℕ). sameBytes want (labelAt s k (h .name) (h .nlen))) en ∙ ap (sameBytes want) (read-name a h e))
 
   -- a record that has the name, at an end of a chain
-  pub picks-here : {floor : ℕ} → floor < link → true ≡ sameBytes want (labelAt s n (h .name) (h .nlen)) → (space : Space) → n ≡ space .n
-      → {label : List ℕ} {nullable : Bool} {shape : Shape} {parts rest t : Fields} → Chain space s link (field label nullable shape parts rest)
+  pub picks-here : 0 < link → true ≡ sameBytes want (labelAt s n (h .name) (h .nlen)) → (space : Space) → n ≡ space .n
+      → {label : List ℕ} {nullable : Bool} {shape : Shape} {parts rest : Fields} (t : Fields) → Chain space s link (field label nullable shape parts rest)
       → EndOf (field label nullable shape parts rest) t → Picks space s want t link
-  picks-here past b space en {label} {nullable} {shape} {parts} {rest} {t} c k =
-      let q : want ≡ label = same-equal want label (name-is b space en (c .held .source)) in
+  picks-here past b space en {label} {nullable} {shape} {parts} {rest} t c k =
+      let q : label ≡ want = sym (same-equal want label (name-is b space en (c .held .source))) in
       record {
         missing = λ z. absurd (omega arith);
         present =
             λ p.
             record {
-              label = label;
               nullable = nullable;
               shape = shape;
               parts = parts;
               rest = rest;
-              chain = c;
-              has = rw q (end-has label nullable shape parts rest t k);
-              takes = λ d more. rw q (end-takes label nullable shape parts rest t k d more);
+              chain = subst (λ (x : List ℕ). Chain space s link (field x nullable shape parts rest)) q c;
+              ends = subst (λ (x : List ℕ). EndOf (field x nullable shape parts rest) t) q k;
             };
       }
 
@@ -218,14 +216,9 @@ Searched n s want start floor link = (space : Space) → n ≡ space .n → (fou
 -- the returns of the search
 module _ (n : ℕ) (s : List ℕ) (want : List ℕ) (start floor link : ℕ) (q : Searched n s want start floor link) where
   pub finds-none : link ≤ floor → (space : Space) → n ≡ space .n → Finds space s want 0 start 0
-  unfolding hasName withName
+  unfolding hasName
   finds-none h space en =
-      q space en 0
-      (λ r o up t a.
-      record {
-        missing = λ z. subst (Missing want) (sym (source-none h (a .source))) (record { has = refl; takes = λ more. refl });
-        present = λ p. absurd (omega arith);
-      })
+      q space en 0 (λ r o up t a. record { missing = λ z. ap (hasName want) (source-none h (a .source)); present = λ p. absurd (omega arith) })
 
   module _ (past : floor < link) where
     pub finds-past : n ≤ link → (space : Space) → n ≡ space .n → Finds space s want 0 start 0
@@ -233,39 +226,28 @@ module _ (n : ℕ) (s : List ℕ) (want : List ℕ) (start floor link : ℕ) (q 
 
     module _ (h : Head) (e : h ≡ headAt s link) where
       pub finds-here : true ≡ sameBytes want (labelAt s n (h .name) (h .nlen)) → (space : Space) → n ≡ space .n → Finds space s want 0 start link
-      unfolding hasName withName
       finds-here b space en = q space en link go
         where
           go : (r o up : ℕ) (t : Fields) → Held space s floor link r o up t → Picks space s want t link
           go r o up end a = absurd (omega (arith, a .source .leads .is))
           go r o up (field label nullable shape parts rest) a =
-              let c : Chain space s link (field label nullable shape parts rest) = record { floor = floor; at = r; label = o; up = up; held = a } in
-              picks-here n s want link h e past b space en c (inl refl)
+              picks-here n s want link h e (omega arith) b space en (field label nullable shape parts rest)
+              (record { floor = floor; at = r; label = o; up = up; held = a }) (inl refl)
 
       pub finds-on : false ≡ sameBytes want (labelAt s n (h .name) (h .nlen)) → Searched n s want start link (h .next)
-      unfolding hasName withName repeats
+      unfolding hasName
       finds-on b space en found f = q space en found go
         where
           go : (r o up : ℕ) (t : Fields) → Held space s floor link r o up t → Picks space s want t found
           go r o up end a = absurd (omega (arith, a .source .leads .is))
           go r o up (field label nullable shape parts rest) a =
               let m = f _ _ _ rest (held-next a h e) in
-              let other : sameBytes want label ≡ false = name-is n s want link h e b space en (a .source) in
               record {
-                missing = λ z. record { has = rw other (m .missing z .has); takes = λ more. rw other (m .missing z .takes more) };
+                missing = λ z. rw (name-is n s want link h e b space en (a .source)) (m .missing z);
                 present =
                     λ p.
                     let k = m .present p in
-                    record {
-                      label = k .label;
-                      nullable = k .nullable;
-                      shape = k .shape;
-                      parts = k .parts;
-                      rest = k .rest;
-                      chain = k .chain;
-                      has = rw other (k .has);
-                      takes = λ d more. rw other (k .takes (or-snd (hasName label rest) (repeats rest) d) more);
-                    };
+                    record { nullable = k .nullable; shape = k .shape; parts = k .parts; rest = k .rest; chain = k .chain; ends = inr (k .ends) };
               }
 
 -- what is asked of a held chain of the left and a chain of the right
@@ -301,7 +283,7 @@ module _ (n : ℕ) (t want : List ℕ) (r j : ℕ) (h : Head) where
     where
       go : (u : Fields) → Chain space t j u → EndOf u rf → Picks space t want rf j
       go end c k = absurd (omega (arith, c .held .source .leads .is))
-      go (field label nullable shape parts rest) c k = picks-here n t want j h e p b space en c k
+      go (field label nullable shape parts rest) c k = picks-here n t want j h e p b space en rf c k
 
   pub guess-found : (found : ℕ) → ((space : Space) → n ≡ space .n → Finds space t want 0 r found) → Guesses found
   guess-found found f space rf en e y k = f space en _ _ _ rf (chain-held y)
@@ -342,7 +324,7 @@ module _ (n : ℕ) (s t : List ℕ) (floor l r low i j : ℕ) (q : Named n s t f
         where
           go : AsksNames space s t low i r j false
           go a o up end rf x y k = absurd (omega (arith, x .source .leads .is))
-          go a o up (field name nullable shape parts rest) rf x y k = rw (has-is rf en x (f space rf en eh y k .missing z .has))
+          go a o up (field name nullable shape parts rest) rf x y k = rw (has-is rf en x (f space rf en eh y k .missing z))
 
       pub names-on : ¬ (found ≡ 0) → (j′ : ℕ) → ((space : Space) (rf : Fields) → Guess space t j rf → Guess space t j′ rf) → Named n s t floor l r i (g .next) j′
       unfolding fieldsHaveSameNames
@@ -352,7 +334,8 @@ module _ (n : ℕ) (s t : List ℕ) (floor l r low i j : ℕ) (q : Named n s t f
           go a o up end rf x y k = absurd (omega (arith, x .source .leads .is))
           go a o up (field name nullable shape parts rest) rf x y k =
               let p : 0 < found = omega arith in
-              rw (has-is rf en x (f space rf en eh y k .present p .has)) (m _ _ _ rest rf (held-next x g e) y (turn space rf k))
+              let here = f space rf en eh y k .present p in
+              rw (has-is rf en x (end-has want (here .nullable) (here .shape) (here .parts) (here .rest) rf (here .ends))) (m _ _ _ rest rf (held-next x g e) y (turn space rf k))
 
 -- the returns of the test for arities
 abbrev pub sameArity : Fields → Fields → Bool

@@ -23,7 +23,7 @@ use Rattle.buffers.specs.declared.Feed.{Feed}
 use Rattle.buffers.specs.declared.Feed.the-variants as Feed
 use Rattle.buffers.proofs.Sources.{read-name, read-nullable}
 use Rattle.buffers.proofs.Chained.{held-end, held-next}
-use Rattle.buffers.proofs.Naming.{some-not-none, Stepped, by-name-step, end-next}
+use Rattle.buffers.proofs.Naming.{some-not-none, name-missing, Stepped, by-name-step, end-next, end-takes}
 
 -- a chain at a link that is 0, and at another
 pub chain-end : {space : Space} {s : List ℕ} {link : ℕ} {t : Fields} → link ≡ 0 → Chain space s link t → t ≡ end
@@ -122,11 +122,12 @@ module _ (space : Space) (swap : Bool) (s w : List ℕ) (l r : ℕ) (x : Head) (
         step = by-name-step name nullable shape parts rest rf tf f
 
         lacking {ℓ} : {A : Type ℓ} → found ≡ 0 → A
-        lacking z = some-not-none (picks .missing z .takes (step .more)) (step .takes)
+        lacking z = some-not-none (name-missing name rf (step .more) (picks .missing z)) (step .takes)
 
-        types-are : (q : 0 < found)
-            → tf ≡ field (picks .present q .label) (picks .present q .nullable) (picks .present q .shape) (picks .present q .parts) (step .more)
-        types-are q = Option·some-injective _ _ (sym (step .takes) ∙ picks .present q .takes (d .1) (step .more))
+        types-are : (q : 0 < found) → tf ≡ field name (picks .present q .nullable) (picks .present q .shape) (picks .present q .parts) (step .more)
+        types-are q =
+            let m = picks .present q in
+            Option·some-injective _ _ (sym (step .takes) ∙ end-takes name (m .nullable) (m .shape) (m .parts) (m .rest) rf (m .ends) (d .1) (step .more))
 
       pub row-named : (h : Head) → h ≡ headAt T found → {row : Row} → row ≡ rowOf found x h (y .next) → RowIs space swap s w Feed.Name l r p row
       unfolding arity
@@ -143,13 +144,13 @@ module _ (space : Space) (swap : Bool) (s w : List ℕ) (l r : ℕ) (x : Head) (
               let st = step a b c (f .0) (f .1 .1 .0) in
               let ty = types-are a b c (f .0) (f .1 .1 .0) q in
               record {
-                name = m .label;
+                name = name;
                 own = m .nullable;
                 type = typeOf (m .shape) (m .parts);
                 more = st .more;
                 types = ty;
                 partner = chain-typed (m .chain);
-                name′ = m .label;
+                name′ = name;
                 joined = m .nullable;
                 shape′ = m .shape;
                 parts′ = m .parts;
@@ -174,7 +175,7 @@ module _ (space : Space) (swap : Bool) (s w : List ℕ) (l r : ℕ) (x : Head) (
               let m = picks a b c (f .0) (f .1 .1) .present q in
               let st = step a b c (f .0) (f .1 .1) in
               record {
-                name = m .label;
+                name = name;
                 own = m .nullable;
                 type = typeOf (m .shape) (m .parts);
                 more = st .more;

@@ -1,39 +1,30 @@
 -- The search for a name in a chain, and the rows that it feeds.
 use mathlib.Core.Path.{_≡_}
 use Prim.Native.Nat.{ℕ, _<_}
-use mathlib.Core.Bool.{Bool, true, false, _||_}
+use mathlib.Core.Bool.{Bool, false, _||_}
 use mathlib.Core.List.{List}
-use mathlib.Core.Option.{none, some}
 use Rattle.sheet.specs.Types.{Shape, Fields, field}
 use Rattle.sheet.specs.Head.{nullableIn}
-use Rattle.sheet.specs.Names.{hasName, repeats}
+use Rattle.sheet.specs.Names.{hasName}
 use Rattle.sheet.specs.declared.Head.{Head}
-use Rattle.coercion.specs.Nested.{withName}
 use Rattle.buffers.specs.Region.{Held}
 use Rattle.buffers.specs.Typed.{Chain}
 use Rattle.buffers.specs.Feeds.{EndOf}
 use Rattle.buffers.specs.declared.Space.{Space}
 use Rattle.buffers.specs.declared.Row.{Row}
 
--- no field of a chain has a name
-pub record Missing (name : List ℕ) (t : Fields) : Type 0 where
-  pub has : hasName name t ≡ false
-  pub takes : (more : Fields) → withName name t more ≡ none
-
--- the field at a link is one of a chain that has a name, and the one that the name takes where no two have one
+-- the field at a link is one of a chain, and has a name
 pub record Present (space : Space) (s : List ℕ) (link : ℕ) (name : List ℕ) (t : Fields) : Type 0 where
-  pub label : List ℕ
   pub nullable : Bool
   pub shape : Shape
   pub parts : Fields
   pub rest : Fields
-  pub chain : Chain space s link (field label nullable shape parts rest)
-  pub has : hasName name t ≡ true
-  pub takes : repeats t ≡ false → (more : Fields) → withName name t more ≡ some (field label nullable shape parts more)
+  pub chain : Chain space s link (field name nullable shape parts rest)
+  pub ends : EndOf (field name nullable shape parts rest) t
 
 -- what a search for a name in a chain says: the link of a field of that name, or 0
 pub record Picks (space : Space) (s : List ℕ) (name : List ℕ) (t : Fields) (found : ℕ) : Type 0 where
-  pub missing : found ≡ 0 → Missing name t
+  pub missing : found ≡ 0 → hasName name t ≡ false
   pub present : 0 < found → Present space s found name t
 
 -- a search says so of whatever chain stands at a link

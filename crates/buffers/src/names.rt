@@ -50,7 +50,7 @@ fn is_named(t: &[u8], n: usize, h: Head, want: &[u8]) -> bool
     same(want, label_at(t, n, h.name, h.nlen))
 }
 
-// The first field of the chain at a link that has a name; 0 where there is none.
+// A field of the chain at a link that has a name; 0 where there is none.
 fn find(t: &[u8], n: usize, want: &[u8], link: usize) -> usize
     requires { ⌜ n ≤ 1024 ⌝ }
     ensures { λ j. ⌜ ((space : Space) → n ≡ space .n → Finds space (now (t .entry)) (now (want .entry)) 0 link j) ⌝ }

@@ -18,7 +18,7 @@ use Rattle.coercion.specs.Nested.{joinFields, byName, fieldsHaveSameNames, part
 use Rattle.coercion.specs.Answers.{listStruct}
 use Rattle.buffers.specs.Writes.{side}
 use Rattle.buffers.specs.Goal.{letters, shapeFor}
-use Rattle.buffers.specs.Typed.{Chain, Typed, Merges}
+use Rattle.buffers.specs.Typed.{Typed, Merges}
 use Rattle.merge.specs.Merge.{Under}
 use Rattle.buffers.specs.declared.Space.{Space}
 use Rattle.buffers.specs.declared.Goal.{Goal}

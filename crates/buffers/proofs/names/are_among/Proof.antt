@@ -1,6 +1,5 @@
 use native.Mathlib.Omega.{arith}
 use borrow.Author.Needs.{needs}
-use mathlib.Core.Path.{sym, _∙_}
 use Prim.Native.Nat.{_-_}
 use Rattle.buffers.proofs.Naming.{Named, guess-first, guess-next, names-none, names-past, names-lack, names-on}
 use Rattle.buffers.proofs.names.are_among.Statement.{statement}

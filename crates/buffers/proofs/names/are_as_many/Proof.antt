@@ -1,6 +1,5 @@
 use native.Mathlib.Omega.{arith}
 use borrow.Author.Needs.{needs}
-use mathlib.Core.Path.{refl}
 use Prim.Native.Nat.{_-_}
 use Rattle.buffers.proofs.Naming.{Counted, sameArity, asks-past, arity-none, arity-short, arity-on}
 use Rattle.buffers.proofs.names.are_as_many.Statement.{statement}
