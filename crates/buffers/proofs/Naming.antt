@@ -4,9 +4,9 @@ use mathlib.Core.Bool.{Bool, true, false, _||_}
 use mathlib.Core.Logic.{inl, inr}
 use mathlib.Core.List.{List}
 use mathlib.Core.Option.{Option, none, some, Option·none-ne-some}
-use Prim.Native.Nat.{ℕ, suc, _+_, _<_, _≤_}
+use Prim.Native.Nat.{ℕ, suc, _+_, _*_, _<_, _≤_}
 use native.Mathlib.Omega.{arith}
-use lib.ListN.{length, getD}
+use lib.ListN.{length, getD, drop, length-take}
 use lib.Seq.{ext-getD}
 use lib.Dec.{eqb, eqb·suc-suc}
 use borrow.Author.Tests.{eq-eqb, ne-eqb}
@@ -14,6 +14,7 @@ use Rattle.sheet.specs.Types.{Shape, Fields, end, field, arity, count, labels}
 use Rattle.sheet.specs.Head.{headAt}
 use Rattle.sheet.specs.Read.{labelAt}
 use Rattle.sheet.specs.Names.{sameBytes, hasName, repeats, namesDiffer}
+use Rattle.sheet.specs.Bounds.{Bounded}
 use Rattle.sheet.specs.declared.Head.{Head}
 use Rattle.sheet.proofs.Bytewise.{same-self, same-equal}
 use Rattle.sheet.proofs.Tests.{never, and-fst, and-snd, or-fst, or-snd}
@@ -29,6 +30,12 @@ use Rattle.buffers.specs.Naming.{Picks, Finds, Tried, Guess}
 use Rattle.buffers.specs.declared.Space.{Space}
 use Rattle.buffers.proofs.Sources.{source-none, source-lower, link-inside, read-name}
 use Rattle.buffers.proofs.Chained.{held-next}
+
+-- a name has at most 255 bytes
+pub label-short : (s : List ℕ) (n : ℕ) {h : Head} {u : List ℕ} → Bounded h → u ≡ labelAt s n (h .name) (h .nlen) → length u ≤ 255
+label-short s n {h} b e =
+    let k = ap length e ∙ length-take (h .nlen) (drop (16 * n + h .name) s) in
+    omega (arith, b .nlen, k)
 
 pub some-not-none {ℓ} : {A : Type 0} {B : Type ℓ} {o : Option A} {a : A} → o ≡ none → o ≡ some a → B
 some-not-none {a = a} e f = absurd (Option·none-ne-some a (sym e ∙ f))

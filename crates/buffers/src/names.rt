@@ -2,6 +2,7 @@
 ghost use mathlib.Core.Path.{_≡_};
 ghost use mathlib.Core.Bool.{not};
 ghost use Prim.Native.Nat.{ℕ, _<_, _≤_};
+ghost use lib.ListN.{length};
 ghost use lib.Dec.{eqb};
 ghost use Rattle.sheet.specs.Types.{Fields, arity};
 ghost use Rattle.sheet.specs.Head.{headAt};
@@ -23,36 +24,20 @@ use crate::write::look;
 use kinds::tests::either;
 use sheet::Head;
 use sheet::label::label_at;
+use sheet::label::same_label;
 use sheet::record::head_at;
-
-// Whether two byte strings are the same. Names of one Struct mostly differ at their ends, so these are compared first.
-fn same(a: &[u8], b: &[u8]) -> bool
-    ensures { λ r. ⌜ r ≡ sameBytes (now (a .entry)) (now (b .entry)) ⌝ }
-{
-    let mut i = a.len();
-    if i != b.len() {
-        return false;
-    }
-    while 0 < i {
-        i -= 1;
-        if a[i] != b[i] {
-            return false;
-        }
-    }
-    true
-}
 
 // Whether a record has a name.
 fn is_named(t: &[u8], n: usize, h: Head, want: &[u8]) -> bool
-    requires { ⌜ (n < 65536) × Bounded h ⌝ }
+    requires { ⌜ ((n < 65536) × Bounded h) × (length (now want) ≤ 255) ⌝ }
     ensures { λ r. ⌜ r ≡ sameBytes (now (want .entry)) (labelAt (now (t .entry)) n (h .name) (h .nlen)) ⌝ }
 {
-    same(want, label_at(t, n, h.name, h.nlen))
+    same_label(want, 0, want.len(), t, 16 * n + h.name, h.nlen)
 }
 
 // A field of the chain at a link that has a name; 0 where there is none.
 fn find(t: &[u8], n: usize, want: &[u8], link: usize) -> usize
-    requires { ⌜ n ≤ 1024 ⌝ }
+    requires { ⌜ (n ≤ 1024) × (length (now want) ≤ 255) ⌝ }
     ensures { λ j. ⌜ ((space : Space) → n ≡ space .n → Finds space (now (t .entry)) (now (want .entry)) 0 link j) ⌝ }
 {
     let mut floor = 0;
@@ -73,7 +58,7 @@ fn find(t: &[u8], n: usize, want: &[u8], link: usize) -> usize
 
 // A field of the chain at r that has a name; 0 where there is none. Record j of that chain, whose head is h, is tried first; 0 stands for no record.
 fn find_from(t: &[u8], n: usize, want: &[u8], r: usize, j: usize, h: Head) -> usize
-    requires { ⌜ (n ≤ 1024) × Bounded h ⌝ }
+    requires { ⌜ ((n ≤ 1024) × Bounded h) × (length (now want) ≤ 255) ⌝ }
     ensures { λ f. ⌜ ((space : Space) (rf : Fields) → n ≡ space .n → h ≡ headAt (now (t .entry)) j → Chain space (now (t .entry)) r rf → Guess space (now (t .entry)) j rf → Picks space (now (t .entry)) (now (want .entry)) rf f) ⌝ }
 {
     if 0 < j {

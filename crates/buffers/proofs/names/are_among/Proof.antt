@@ -1,7 +1,7 @@
 use native.Mathlib.Omega.{arith}
 use borrow.Author.Needs.{needs}
 use Prim.Native.Nat.{_-_}
-use Rattle.buffers.proofs.Naming.{Named, guess-first, guess-next, names-none, names-past, names-lack, names-on}
+use Rattle.buffers.proofs.Naming.{Named, label-short, guess-first, guess-next, names-none, names-past, names-lack, names-on}
 use Rattle.buffers.proofs.names.are_among.Statement.{statement}
 use Rattle.buffers.proofs.names.are_among.Tie as tie
 use Rattle.buffers.proofs.names.are_among.Reads as reads
@@ -46,7 +46,7 @@ label-at-requires c κs =
 -- src/names.rt:101:12
 find-from-requires : tie.Need-find-from-requires Inv-loop μ-loop
 find-from-requires c κs =
-    ((c .before .before .before .before .before .before .before .before .pre), (c .before .head-at2 .ensures .1))
+    (((c .before .before .before .before .before .before .before .before .pre), (c .before .head-at2 .ensures .1)), label-short _ _ (c .before .before .head-at .ensures .1) (c .label-at .ensures))
 
 -- src/names.rt:102:13
 returns-2 : tie.Need-returns-2 Inv-loop μ-loop

@@ -36,7 +36,7 @@ head-at-requires c κs =
 -- src/names.rt:65:12
 is-named-requires : tie.Need-is-named-requires Inv-loop μ-loop
 is-named-requires c κs =
-    (omega arith, (c .head-at .ensures .1))
+    ((omega arith, (c .head-at .ensures .1)), omega arith)
 
 -- src/names.rt:66:13
 returns-2 : tie.Need-returns-2 Inv-loop μ-loop

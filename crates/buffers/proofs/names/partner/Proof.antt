@@ -1,5 +1,6 @@
 use mathlib.Core.Path.{refl}
 use borrow.Author.Needs.{needs}
+use Rattle.buffers.proofs.Naming.{label-short}
 use Rattle.buffers.proofs.names.partner.Statement.{statement}
 use Rattle.buffers.proofs.names.partner.Tie as tie
 use Rattle.buffers.proofs.names.partner.Reads as reads
@@ -13,7 +14,7 @@ label-at-requires c κs = search needs
 
 -- src/names.rt:189:9
 find-from-requires : tie.Need-find-from-requires
-find-from-requires c κs = search needs
+find-from-requires c κs = (((c .before .before .before .before .pre .0), (c .before .before .before .before .pre .1 .1)), label-short _ _ (c .before .before .before .before .pre .1 .0) (c .label-at .ensures))
 
 -- src/names.rt:191:28
 label-at-requires-2 : tie.Need-label-at-requires-2
@@ -21,7 +22,7 @@ label-at-requires-2 c κs = search needs
 
 -- src/names.rt:191:9
 find-from-requires-2 : tie.Need-find-from-requires-2
-find-from-requires-2 c κs = search needs
+find-from-requires-2 c κs = (((c .before .before .before .before .pre .0), (c .before .before .before .before .pre .1 .1)), label-short _ _ (c .before .before .before .before .pre .1 .0) (c .label-at2 .ensures))
 
 -- src/names.rt:174:1
 returns : tie.Need-returns
