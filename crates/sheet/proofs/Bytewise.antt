@@ -88,6 +88,16 @@ module _ (s t : List ℕ) (a m b n : ℕ) where
   parts-apart k h h′ d =
       sym (same-apart (take m (drop a s)) (take n (drop b t)) k (λ e. d (sym (part-at s a m k h) ∙ e ∙ part-at t b n k h′)))
 
+-- the last byte but one of a part of i bytes lies inside
+pub last-inside : (l a m i : ℕ) → i ≡ min m (l - a) → 0 < i - 1 → a + (i - 1) - 1 < l
+last-inside l a m i e h = omega arith
+
+pub last-within : (l a m i : ℕ) → i ≡ min m (l - a) → 0 < i - 1 → i - 2 < m
+last-within l a m i e h = omega arith
+
+pub last-at : (a i : ℕ) → 0 < i - 1 → a + (i - 1) - 1 ≡ a + (i - 2)
+last-at a i h = omega arith
+
 -- a part that is cut off at the end of the list
 pub cut-part : (s : List ℕ) (i k : ℕ) → take (min (min i (length s) + k) (length s) - min i (length s)) (drop (min i (length s)) s) ≡ take k (drop i s)
 cut-part s i k = go (native.Mathlib.Decide.decLt i (length s))

@@ -75,7 +75,7 @@ fn same_held(s: &[u8], a: usize, m: usize, t: &[u8], b: usize, n: usize) -> bool
     same(&x[..i], &y[..j])
 }
 
-// Whether the m bytes of s from a on are the n bytes of t from b on. Most labels differ in length or in the last byte, and are told apart by that.
+// Whether the m bytes of s from a on are the n bytes of t from b on. Most labels differ in length or in the last two bytes, and are told apart by these.
 pub fn same_label(s: &[u8], a: usize, m: usize, t: &[u8], b: usize, n: usize) -> bool
     requires { ⌜ (m ≤ 255) × (n ≤ 255) ⌝ }
     ensures { λ r. ⌜ r ≡ sameBytes (take m (drop a (now (s .entry)))) (take n (drop b (now (t .entry)))) ⌝ }
@@ -90,6 +90,11 @@ pub fn same_label(s: &[u8], a: usize, m: usize, t: &[u8], b: usize, n: usize) ->
     let k = i - 1;
     if s[a + k] != t[b + k] {
         return false;
+    }
+    if 0 < k {
+        if s[a + k - 1] != t[b + k - 1] {
+            return false;
+        }
     }
     same_held(s, a, m, t, b, n)
 }

@@ -1,6 +1,8 @@
-use Prim.Native.Nat.{_-_}
+use mathlib.Core.Path.{ap, sym, _∙_}
+use Prim.Native.Nat.{ℕ, _-_}
+use lib.ListN.{getD}
 use native.Mathlib.Omega.{arith}
-use Rattle.sheet.proofs.Bytewise.{parts-lengths, parts-empty, parts-apart}
+use Rattle.sheet.proofs.Bytewise.{parts-lengths, parts-empty, parts-apart, last-inside, last-within, last-at}
 use borrow.Author.Needs.{needs}
 use Rattle.sheet.proofs.label.same_label.Statement.{statement}
 use Rattle.sheet.proofs.label.same_label.Tie as tie
@@ -52,13 +54,45 @@ returns-3 : tie.Need-returns-3
 returns-3 c =
     parts-apart (c .before .before .before .before .before .before .before .before .before .args .s .now) (c .before .before .before .before .before .before .before .before .before .args .t .now) (c .before .before .before .before .before .before .before .before .before .args .a) (c .before .before .before .before .before .before .before .before .before .args .m) (c .before .before .before .before .before .before .before .before .before .args .b) (c .before .before .before .before .before .before .before .before .before .args .n) ((c .before .before .before .before .before .before .reach .result) - 1) (omega arith) (omega arith) (c .if3 .taken)
 
--- src/label.rt:94:5
+-- src/label.rt:95:14
+add-if5 : tie.Need-add-if5
+add-if5 c = search needs
+
+-- src/label.rt:95:14
+sub-if5 : tie.Need-sub-if5
+sub-if5 c = search needs
+
+-- src/label.rt:95:12
+shared-slice-read-if5 : tie.Need-shared-slice-read-if5
+shared-slice-read-if5 c = last-inside _ _ _ _ (c .before .before .before .before .before .before .before .before .reach .ensures) (c .before .if4 .taken)
+
+-- src/label.rt:95:30
+add-if5-2 : tie.Need-add-if5-2
+add-if5-2 c = search needs
+
+-- src/label.rt:95:30
+sub-if5-2 : tie.Need-sub-if5-2
+sub-if5-2 c = search needs
+
+-- src/label.rt:95:28
+shared-slice-read-if5-2 : tie.Need-shared-slice-read-if5-2
+shared-slice-read-if5-2 c = last-inside _ _ _ _ ((c .before .before .before .before .before .before .before .if1 .left) ∙ (c .before .before .before .before .before .before .before .before .reach2 .ensures)) (c .before .before .if4 .taken)
+
+-- src/label.rt:96:13
+returns-4 : tie.Need-returns-4
+returns-4 c =
+    parts-apart (c .before .before .before .before .before .before .before .before .before .before .before .before .before .args .s .now) (c .before .before .before .before .before .before .before .before .before .before .before .before .before .args .t .now) (c .before .before .before .before .before .before .before .before .before .before .before .before .before .args .a) (c .before .before .before .before .before .before .before .before .before .before .before .before .before .args .m) (c .before .before .before .before .before .before .before .before .before .before .before .before .before .args .b) (c .before .before .before .before .before .before .before .before .before .before .before .before .before .args .n) ((c .before .before .before .before .before .before .before .before .before .before .reach .result) - 2)
+    (last-within _ _ _ _ (c .before .before .before .before .before .before .before .before .before .before .reach .ensures) (c .before .before .before .if4 .taken))
+    (last-within _ _ _ _ ((c .before .before .before .before .before .before .before .before .if1 .left) ∙ (c .before .before .before .before .before .before .before .before .before .reach2 .ensures)) (c .before .before .before .if4 .taken))
+    (λ e. (c .if5 .taken) (ap (λ (x : ℕ). getD (c .before .before .before .before .before .before .before .before .before .before .before .before .before .args .s .now) x 0) (last-at (c .before .before .before .before .before .before .before .before .before .before .before .before .before .args .a) (c .before .before .before .before .before .before .before .before .before .before .reach .result) (c .before .before .before .if4 .taken)) ∙ e ∙ sym (ap (λ (x : ℕ). getD (c .before .before .before .before .before .before .before .before .before .before .before .before .before .args .t .now) x 0) (last-at (c .before .before .before .before .before .before .before .before .before .before .before .before .before .args .b) (c .before .before .before .before .before .before .before .before .before .before .reach .result) (c .before .before .before .if4 .taken)))))
+
+-- src/label.rt:99:5
 same-held-requires : tie.Need-same-held-requires
 same-held-requires c κs = search needs
 
 -- src/label.rt:79:1
-returns-4 : tie.Need-returns-4
-returns-4 c = search needs
+returns-5 : tie.Need-returns-5
+returns-5 c = search needs
 
 pub same-label-spec : {M : Type 1} → statement M
 same-label-spec =
@@ -74,5 +108,12 @@ same-label-spec =
     add-if3-2
     shared-slice-read-if3-2
     returns-3
+    add-if5
+    sub-if5
+    shared-slice-read-if5
+    add-if5-2
+    sub-if5-2
+    shared-slice-read-if5-2
+    returns-4
     same-held-requires
-    returns-4)
+    returns-5)
