@@ -513,7 +513,7 @@ fn members_of(data_type: &DataType) -> Vec<Member<'_>> {
 }
 
 /// What a record says of its type by itself.
-fn head(data_type: &DataType) -> [u8; RECORD] {
+pub fn head(data_type: &DataType) -> [u8; RECORD] {
     use DataType::*;
     let mut record = [0; RECORD];
     record[0] = kind_of(data_type);

@@ -3,7 +3,7 @@
 //! straight into the output. Tests hold it to the oracle's own reader and writer.
 
 use crate::call::{common_type, Question, FULL_MASK, MASK, PAIR, SPACE};
-use crate::sheet::{kind_of, plain_of, precision_cap, text_of, CHAIN, FIGURE, KIND, LABEL, TORN};
+use crate::sheet::{head, plain_of, precision_cap, text_of, CHAIN, FIGURE, KIND, LABEL, TORN};
 use crate::sheet::{DICTIONARY, FIXED_SIZE_BINARY, FIXED_SIZE_LIST, INTERVAL, LIST, MAP, RECORD};
 use crate::sheet::{MAX_LABELS, MAX_RECORDS, RUN_ENDS, STRUCT, TIMESTAMP};
 use crate::standin::arrow::datatypes::{DataType, Field, FieldRef, TimeUnit};
@@ -388,29 +388,4 @@ impl Writer<'_> {
         }
         (from as u16, length as u8)
     }
-}
-
-/// What a record says of its type by itself.
-fn head(found: &DataType) -> [u8; RECORD] {
-    use DataType::*;
-    let mut record = [0; RECORD];
-    record[0] = kind_of(found);
-    match found {
-        Decimal32(p, s) | Decimal64(p, s) | Decimal128(p, s) | Decimal256(p, s) => {
-            record[2] = *p;
-            record[3] = *s as u8;
-        }
-        Time32(unit) | Time64(unit) | Duration(unit) => record[2] = *unit as u8,
-        Timestamp(unit, zone) => {
-            record[1] = if zone.is_some() { ZONED } else { 0 };
-            record[2] = *unit as u8;
-        }
-        Interval(unit) => record[2] = *unit as u8,
-        FixedSizeBinary(size) | FixedSizeList(_, size) => {
-            record[4..8].copy_from_slice(&size.to_le_bytes());
-        }
-        Map(_, sorted) => record[1] = if *sorted { SORTED } else { 0 },
-        _ => {}
-    }
-    record
 }
