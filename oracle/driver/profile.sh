@@ -1,9 +1,10 @@
 #!/bin/sh
-# Instructions a call of the port, by function, on the inputs of `bench` with WORD in their name:
-#   ./profile.sh WORD [COUNT]
+# Instructions a call of the port, by function, on the inputs of `bench` (or of `worst`) with WORD in their name:
+#   ./profile.sh WORD [COUNT [--hard]]
 # Counted by valgrind's callgrind, so that other processes do not matter. `cargo build --release` first.
-word=${1:?usage: ./profile.sh WORD [COUNT]}
+word=${1:?usage: ./profile.sh WORD [COUNT [--hard]]}
 count=${2:-20}
+hard=${3:-}
 driver=$(dirname "$0")/target/release/driver
 folder=$(mktemp -d) || exit 1
 trap 'rm -rf "$folder"' EXIT
@@ -11,7 +12,7 @@ valgrind --tool=callgrind --callgrind-out-file="$folder/out" \
     --toggle-collect=pemzhulaq_type_union_resolution \
     --toggle-collect=pemzhulaq_type_union_coercion \
     --toggle-collect=pemzhulaq_comparison_coercion \
-    "$driver" repeat --only "$word" --count "$count" >"$folder/said" 2>"$folder/log" ||
+    "$driver" repeat --only "$word" --count "$count" $hard >"$folder/said" 2>"$folder/log" ||
     { cat "$folder/said" "$folder/log"; exit 1; }
 inputs=$(wc -l <"$folder/said")
 [ "$inputs" -gt 0 ] || { echo "no input has '$word' in its name"; exit 1; }

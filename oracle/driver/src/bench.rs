@@ -4,10 +4,11 @@ use crate::document;
 use crate::inputs::{self, Input};
 use crate::measure::{rounds, Side, Timed};
 use crate::options::{wrong, Options};
+use crate::worst;
 use std::io;
 
 pub const OPTIONS: [&str; 3] = ["--rounds=", "--only=", "--write"];
-pub const REPEAT_OPTIONS: [&str; 3] = ["--only=", "--count=", "--side="];
+pub const REPEAT_OPTIONS: [&str; 4] = ["--only=", "--count=", "--side=", "--hard"];
 
 fn chosen(options: &Options) -> io::Result<Vec<(Input, Timed)>> {
     let word = options.word("--only").unwrap_or("");
@@ -51,6 +52,9 @@ pub fn repeat(options: &Options) -> io::Result<bool> {
         _ => return Err(wrong("--side is ours, rust or source")),
     };
     let count = options.number("--count", 1000)? as usize;
+    if options.has("--hard") {
+        return worst::repeat(options.word("--only").unwrap_or(""), count);
+    }
     for (input, mut timed) in chosen(options)? {
         if timed.has(side) {
             timed.repeat(side, count);

@@ -37,7 +37,10 @@ mod compare;
 mod counts;
 mod document;
 mod growth;
+mod hard;
 mod inputs;
+mod ladders;
+mod largest;
 mod lent;
 mod measure;
 mod notation;
@@ -48,6 +51,7 @@ mod rust;
 mod selftest;
 mod shrink;
 mod spoil;
+mod worst;
 
 fn main() -> std::process::ExitCode {
     stack::run(commands::run)

@@ -15,7 +15,7 @@ extern "C" {
 }
 
 /// The processor time of this thread, in nanoseconds: what other processes take is left out.
-fn thread_time() -> i64 {
+pub fn thread_time() -> i64 {
     let mut time = [0; 2];
     // On 64-bit Linux a timespec is two numbers of 64 bits, seconds and nanoseconds.
     let failed = unsafe { clock_gettime(CLOCK_THREAD_CPUTIME_ID, &mut time) };
@@ -37,6 +37,7 @@ pub const SIDES: [Side; 3] = [Side::Ours, Side::Rust, Side::Source];
 pub struct Timed {
     pub call: Call,
     types: Option<Vec<DataType>>,
+    sides: Vec<Side>,
     output: Vec<u8>,
     work: Vec<u8>,
     repeats: [usize; 3],
@@ -49,25 +50,41 @@ impl Timed {
         let answer = call.answer();
         let refused = matches!(answer, Answer::Refused(_));
         let types = if refused { None } else { sheet::read(&call.sheet).ok() };
-        let mut timed = Timed {
+        let sides = if refused { &SIDES[..2] } else { &SIDES[..] };
+        let mut timed = Timed { types, ..Timed::cold(call, sides) };
+        timed.expect(Side::Ours, &answer)?;
+        timed.expect(Side::Rust, &answer)?;
+        Ok(timed)
+    }
+
+    /// A call of which the port alone is timed.
+    pub fn ours_alone(call: &Call) -> Timed {
+        Timed::cold(call, &[Side::Ours])
+    }
+
+    fn cold(call: &Call, sides: &[Side]) -> Timed {
+        Timed {
             call: call.clone(),
-            types,
+            types: None,
+            sides: sides.to_vec(),
             output: vec![0; call.output as usize],
             work: vec![0; call.work as usize],
             repeats: [1; 3],
             samples: Default::default(),
-        };
-        for side in [Side::Ours, Side::Rust] {
-            timed.output.fill(0xa5);
-            let number = timed.once(side);
-            if !is_answer(&answer, number, &timed.output) {
-                return Err(format!("{side:?} does not give the oracle's answer: {number}"));
-            }
         }
-        Ok(timed)
     }
 
-    fn once(&mut self, side: Side) -> usize {
+    /// Fails where a side does not give an answer.
+    pub fn expect(&mut self, side: Side, answer: &Answer) -> Result<(), String> {
+        self.output.fill(0xa5);
+        let number = self.once(side);
+        if is_answer(answer, number, &self.output) {
+            return Ok(());
+        }
+        Err(format!("{side:?} does not give the oracle's answer: {number}"))
+    }
+
+    pub fn once(&mut self, side: Side) -> usize {
         let Call { question, mask, ref sheet, .. } = self.call;
         let sheet = black_box(&sheet[..]);
         match side {
@@ -93,7 +110,7 @@ impl Timed {
     }
 
     pub fn has(&self, side: Side) -> bool {
-        side != Side::Source || self.types.is_some()
+        self.sides.contains(&side)
     }
 
     /// How often a call is repeated in one sample.
