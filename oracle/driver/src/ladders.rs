@@ -25,11 +25,13 @@ const CORES: [(&str, DataType, DataType); 4] = [
     ("Null and Null", Null, Null),
 ];
 /// The wrappers of the left and of the right, from the outermost on, again and again.
-const SIDES: [(&str, &str, &str); 4] = [
+const SIDES: [(&str, &str, &str); 6] = [
     ("Dictionaries left", "D", "R"),
     ("run ends left", "R", "D"),
     ("in turn, DR.. left", "DR", "RD"),
     ("in turn, RD.. left", "RD", "DR"),
+    ("in turn, DR.. on both sides", "DR", "DR"),
+    ("run ends on both sides", "R", "R"),
 ];
 
 /// A core in a number of wrappers.
