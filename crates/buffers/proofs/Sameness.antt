@@ -12,9 +12,9 @@ use Rattle.sheet.specs.Head.{headAt, nullableIn, zonedIn, sortedIn, zoneAt, zon
 use Rattle.sheet.specs.Read.{labelAt, shapeOf}
 use Rattle.sheet.specs.Names.{sameBytes}
 use Rattle.sheet.specs.declared.Head.{Head}
-use Rattle.sheet.proofs.Tests.{and-true}
+use Rattle.sheet.proofs.Tests.{and-true, all-not}
 use Rattle.coercion.specs.Same.{sameZone, sameShape, sameFields, sameType}
-use Rattle.buffers.specs.Source.{Source, SameTypes, SameChains, typeIn}
+use Rattle.buffers.specs.Source.{Source, SameTypes, SameChains, Apart, typeIn}
 use Rattle.buffers.specs.Records.{sameFigures, sameContent}
 use Rattle.buffers.proofs.Sources.{link-inside, read-name, read-nullable, read-shape, source-first, source-next, source-lower}
 
@@ -229,6 +229,39 @@ module _ (s : List ℕ) (n floor i : ℕ) (t : List ℕ) (m j : ℕ) (named : Bo
         → SameChains s n i (g .next) t m (h .next) named u
         → Claim u
     fields-plain q k = fields-rest (fields-none s n i (g .first) t m (h .first) named (omega arith)) (eq-eqb (h .first) 0 (omega arith)) k
+
+-- what tells two chains apart
+module _ (s : List ℕ) (floor i : ℕ) (t : List ℕ) (j : ℕ) (past : floor < i) where
+  pub apart-short : j ≡ 0 → Apart s floor i t j
+  apart-short e n m named = fields-short s n floor i t m j named past e
+
+  module _ (some : ¬ (j ≡ 0)) (g h : Head) (eg : g ≡ headAt s i) (eh : h ≡ headAt t j) where
+    pub apart-figures : {v : Bool} → v ≡ sameFigures g h → v ≡ false → Apart s floor i t j
+    apart-figures e z n m named =
+        fields-own s n floor i t m j named past some g h eg eh
+        (sym (all-not _ 2 (sym (shapes-apart s n g t m h e z)))) refl
+
+    pub apart-nullable : ¬ (g .flags % 2 ≡ h .flags % 2) → Apart s floor i t j
+    apart-nullable z n m named =
+        fields-own s n floor i t m j named past some g h eg eh
+        (sym (all-not _ 1 (nullable-is g h ∙ ne-eqb (g .flags % 2) (h .flags % 2) z))) refl
+
+    pub apart-rest : Apart s i (g .next) t (h .next) → Apart s floor i t j
+    unfolding sameFields
+    apart-rest f n m named =
+        both s n floor i t m j named past some g h eg eh false
+        (λ r o up name nullable shape parts rest r′ o′ up′ name′ nullable′ shape′ parts′ rest′ x y.
+        sym (all-not _ 4 (sym (f n m named _ _ _ rest _ _ _ rest′ (source-next x g eg) (source-lower 0 (omega arith) (source-next y h eh))))))
+
+    pub apart-parts : Apart s i (g .first) t (h .first) → Apart s floor i t j
+    unfolding sameFields
+    apart-parts f n m named =
+        both s n floor i t m j named past some g h eg eh false
+        (λ r o up name nullable shape parts rest r′ o′ up′ name′ nullable′ shape′ parts′ rest′ x y.
+        sym (all-not _ 3 (sym (f n m named _ _ _ parts _ _ _ parts′ (source-first x g eg) (source-lower 0 (omega arith) (source-first y h eh))))))
+
+pub apart-longer : (s : List ℕ) (floor i : ℕ) (t : List ℕ) (j : ℕ) → i ≤ floor → ¬ (j ≡ 0) → Apart s floor i t j
+apart-longer s floor i t j h z n m named r o up a r′ o′ up′ b x y = sym (ne-eqb j 0 z) ∙ fields-none s n floor i t m j named h r o up a r′ o′ up′ b x y
 
 -- two types, by their shapes and their parts
 module _ (s : List ℕ) (n i : ℕ) (t : List ℕ) (m j : ℕ) (named : Bool) (g h : Head) (eg : g ≡ headAt s i) (eh : h ≡ headAt t j)

@@ -1,7 +1,7 @@
 -- Types that stand in a buffer, as the merge reads them.
 use mathlib.Core.Path.{_≡_}
 use Prim.Native.Nat.{ℕ, _+_, _<_}
-use mathlib.Core.Bool.{Bool}
+use mathlib.Core.Bool.{Bool, false}
 use mathlib.Core.List.{List}
 use lib.ListN.{length}
 use Rattle.sheet.specs.Types.{Shape, Fields, end, field, labels}
@@ -32,3 +32,7 @@ SameTypes s n i t m j named e =
 abbrev pub SameChains : List ℕ → ℕ → ℕ → ℕ → List ℕ → ℕ → ℕ → Bool → Bool → Type 0
 SameChains s n floor i t m j named e =
     (r o up : ℕ) (a : Fields) (r′ o′ up′ : ℕ) (b : Fields) → Source s n floor i r o up a → Source t m 0 j r′ o′ up′ b → e ≡ sameFields named a b
+
+-- whatever chains two links lead to are not the same, with their names or without
+abbrev pub Apart : List ℕ → ℕ → ℕ → List ℕ → ℕ → Type 0
+Apart s floor i t j = (n m : ℕ) (named : Bool) → SameChains s n floor i t m j named false

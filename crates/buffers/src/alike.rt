@@ -11,7 +11,7 @@ ghost use Rattle.sheet.specs.Names.{sameBytes};
 ghost use Rattle.sheet.specs.Bounds.{Bounded};
 ghost use Rattle.coercion.specs.Same.{sameShape};
 ghost use Rattle.buffers.specs.Writes.{side};
-ghost use Rattle.buffers.specs.Source.{SameChains, SameTypes};
+ghost use Rattle.buffers.specs.Source.{SameChains, SameTypes, Apart};
 ghost use Rattle.buffers.specs.Records.{sameFigures, sameContent};
 use sheet::Head;
 use sheet::label::same_label;
@@ -141,6 +141,38 @@ pub(crate) fn same_fields(
     y == 0
 }
 
+// Whether two chains are seen to differ, in a kind, a flag, a figure or in length, on one way down: along each chain, then into the parts of its last
+// record. A look ahead, for types that differ far down only: where it says no, they may differ still.
+fn are_apart(a: &[u8], floor: usize, i: usize, b: &[u8], j: usize) -> bool
+    requires { ⌜ i < 65536 ⌝ }
+    ensures { λ e. ⌜ (e ≡ true → Apart (now (a .entry)) floor i (now (b .entry)) j) ⌝ }
+{
+    let mut low = floor;
+    let mut x = i;
+    let mut y = j;
+    while low < x {
+        if y == 0 {
+            return true;
+        }
+        let g = head_at(a, x);
+        let h = head_at(b, y);
+        if !same_figures(g, h) {
+            return true;
+        }
+        if g.flags % 2 != h.flags % 2 {
+            return true;
+        }
+        low = x;
+        x = g.next;
+        y = h.next;
+        if x + y == 0 {
+            x = g.first;
+            y = h.first;
+        }
+    }
+    y != 0
+}
+
 // Whether the type of record i of a is that of record j of b.
 pub fn same_type(a: &[u8], n: usize, i: usize, b: &[u8], m: usize, j: usize, named: bool) -> bool
     requires { ⌜ (n < 65536) × (m < 65536) ⌝ }
@@ -151,6 +183,9 @@ pub fn same_type(a: &[u8], n: usize, i: usize, b: &[u8], m: usize, j: usize, nam
     if same_shape(a, n, g, b, m, h) {
         if g.first + h.first == 0 {
             return true;
+        }
+        if are_apart(a, i, g.first, b, h.first) {
+            return false;
         }
         return same_fields(a, n, i, g.first, b, m, h.first, named);
     }
