@@ -107,7 +107,7 @@ module _ (s : List ℕ) (n : ℕ) (want : List ℕ) (w : Bool) (at left : ℕ) w
     names-on b = sym (ap (λ (x : Bool). x || among want (firstNames s n (g .next) (left - 1))) b) ∙ step-is
 
 -- a turn of the making of a key, and its end
-pub mixed-next : (name : List ℕ) (k w i : ℕ) → i < length name → mixed k (drop i name) ≡ w → mixed ((31 * k + getD name i 0) % 4294967296) (drop (i + 1) name) ≡ w
+pub mixed-next : (name : List ℕ) (k w i : ℕ) → i < length name → mixed k (drop i name) ≡ w → mixed (2654435769 * (k + getD name i 0) % 4294967296) (drop (i + 1) name) ≡ w
 unfolding mixed
 mixed-next name k w i h v = sym (ap (mixed k) (drop-cons name i 0 h) ∙ rw (add-one i)) ∙ v
 

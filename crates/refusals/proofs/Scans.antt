@@ -5,13 +5,14 @@ use mathlib.Core.List.{List, [], _∷_}
 use Prim.Native.Nat.{ℕ, zero, suc, _+_, _*_, _-_, _<_, _≤_}
 use native.Mathlib.Omega.{arith}
 use native.Mathlib.Numerals.{add-one}
-use lib.ListN.{length, getD, take, drop, drop-of-length-le}
+use lib.ListN.{length, getD, take, drop}
 use lib.Seq.{drop-cons}
 use lib.Dec.{eqb, ltb}
+use native.Mathlib.Decide.{ℕ-discrete}
 use borrow.Author.Tests.{eq-eqb, ne-eqb, lt-ltb, le-ltb}
 use Rattle.sheet.specs.Tests.{oneOf}
 use Rattle.sheet.specs.Kind.{isKind}
-use Rattle.sheet.specs.Head.{headAt}
+use Rattle.sheet.specs.Head.{word, quadAt, headFrom, headAt}
 use Rattle.sheet.specs.Read.{recordsOf, labelsOf}
 use Rattle.sheet.specs.Refusals.{allZero, anyFrom, torn}
 use Rattle.refusals.specs.Limits.{Fits}
@@ -19,17 +20,41 @@ use Rattle.sheet.specs.declared.Head.{Head}
 use Rattle.sheet.proofs.Heads.{head-inside}
 use Rattle.sheet.proofs.Tests.{one-is, one-cons, one-nil, not-of}
 
-zero-step : (s : List ℕ) (i : ℕ) → i < length s → allZero (drop i s) ≡ (eqb (getD s i 0) 0 && allZero (drop (i + 1) s))
-zero-step s i h = ap allZero (drop-cons s i 0 h) ∙ rw (add-one i)
+-- the sum of k bytes from i on
+abbrev total : List ℕ → ℕ → ℕ → ℕ
+total s i zero = 0
+total s i (suc k) = getD s i 0 + total s (i + 1) k
 
-pub zero-next : (s : List ℕ) (i : ℕ) → i < length s → getD s i 0 ≡ 0 → allZero (drop i s) ≡ allZero s → allZero (drop (i + 1) s) ≡ allZero s
-zero-next s i h e v = ap (λ (b : Bool). b && allZero (drop (i + 1) s)) (sym (eq-eqb (getD s i 0) 0 e)) ∙ sym (zero-step s i h) ∙ v
+zero-both : (a b : ℕ) → (a ≡ 0 → b ≡ 0) → (b ≡ 0 → a ≡ 0) → eqb a 0 ≡ eqb b 0
+zero-both a b f g = go (ℕ-discrete a 0)
+  where
+    go : Dec (a ≡ 0) → eqb a 0 ≡ eqb b 0
+    go (yes e) = eq-eqb a 0 e ∙ sym (eq-eqb b 0 (f e))
+    go (no ne) = ne-eqb a 0 ne ∙ sym (ne-eqb b 0 (λ e. ne (g e)))
 
-pub zero-not : (s : List ℕ) (i : ℕ) → i < length s → ¬ (getD s i 0 ≡ 0) → allZero (drop i s) ≡ allZero s → false ≡ allZero s
-zero-not s i h e v = ap (λ (b : Bool). b && allZero (drop (i + 1) s)) (sym (ne-eqb (getD s i 0) 0 e)) ∙ sym (zero-step s i h) ∙ v
+zero-sum : (a b : ℕ) → (eqb a 0 && eqb b 0) ≡ eqb (a + b) 0
+zero-sum a b = go (ℕ-discrete a 0)
+  where
+    go : Dec (a ≡ 0) → (eqb a 0 && eqb b 0) ≡ eqb (a + b) 0
+    go (yes e) = ap (λ (c : Bool). c && eqb b 0) (eq-eqb a 0 e) ∙ zero-both b (a + b) (λ z. omega arith) (λ z. omega arith)
+    go (no ne) = ap (λ (c : Bool). c && eqb b 0) (ne-eqb a 0 ne) ∙ sym (ne-eqb (a + b) 0 (λ z. ne (omega arith)))
 
-pub zero-done : (s : List ℕ) (i : ℕ) → length s ≤ i → allZero (drop i s) ≡ allZero s → true ≡ allZero s
-zero-done s i h v = sym (ap allZero (drop-of-length-le s {i = i} h)) ∙ v
+-- bytes are zero where their sum is
+zero-total : (s : List ℕ) (k i : ℕ) → i + k ≤ length s → allZero (take k (drop i s)) ≡ eqb (total s i k) 0
+zero-total s zero i h = refl
+zero-total s (suc k) i h =
+    ap (λ (l : List ℕ). allZero (take (suc k) l)) (drop-cons s i 0 (omega arith))
+    ∙ ap (λ (j : ℕ). eqb (getD s i 0) 0 && allZero (take k (drop j s))) (sym (add-one i))
+    ∙ ap (λ (b : Bool). eqb (getD s i 0) 0 && b) (zero-total s k (i + 1) (omega arith))
+    ∙ zero-sum (getD s i 0) (total s (i + 1) k)
+
+-- the rest of a header, read as a record is
+pub rest-zero : (s : List ℕ) (h : Head) → 16 ≤ length s → h ≡ headFrom s 0
+    → eqb (h .quad + (h .first + h .next) + (h .name + h .nlen + h .last)) 0 ≡ allZero (take 12 (drop 4 s))
+rest-zero s h l e =
+    ap (λ (x : Head). eqb (x .quad + (x .first + x .next) + (x .name + x .nlen + x .last)) 0) e
+    ∙ zero-both (quadAt s 4 + (word s 8 + word s 10) + (word s 12 + getD s 14 0 + getD s 15 0)) (total s 4 12) (λ z. omega arith) (λ z. omega arith)
+    ∙ sym (zero-total s 12 4 l)
 
 any-step : (test : ℕ → Bool) (n r : ℕ) → r < n → anyFrom test r (n - r) ≡ (test r || anyFrom test (r + 1) (n - (r + 1)))
 any-step test n r h = let e : n - r ≡ suc (n - (r + 1)) = omega arith in ap (anyFrom test r) e

@@ -7,11 +7,12 @@ use native.Mathlib.Omega.{arith}
 use lib.ListN.{length}
 use lib.Dec.{eqb, ltb}
 use borrow.Author.Tests.{eq-eqb, ne-eqb, eqb-true, eqb-false}
+use Rattle.sheet.specs.Kind as Kind
 use Rattle.sheet.specs.Kind.{isKind}
 use Rattle.sheet.specs.Types.{Fields, end, field, count}
 use Rattle.sheet.specs.Head.{headAt, labelled}
 use Rattle.sheet.specs.Read.{recordsOf, labelsOf, start, read, walkFrom}
-use Rattle.sheet.specs.Names.{namesDiffer}
+use Rattle.sheet.specs.Names.{hasName, repeats, namesDiffer}
 use Rattle.sheet.specs.Refusals.{Met, met, walk, torn, anyFrom, badKind, linked, badChain, recordRight, anyWrong, badFigure, labelRight, misplaced, badLabel, refusal, Verdict, verdict, numberOf}
 use Rattle.sheet.specs.Holds.{Plain, Holds}
 use Rattle.refusals.specs.Walk.{passHead, passAll, Says, Walks}
@@ -74,6 +75,24 @@ module _ (s : List ℕ) where
           pub says-accepted : badLabel s ≡ false → (n m : ℕ) → n ≡ recordsOf s → m ≡ labelsOf s → record { number = 0; n = n; m = m } ≡ verdict s
           unfolding verdict refusal
           says-accepted h n m e f = rw (whole, kinds, chain, figures, h) (λ i. record { number = 0; n = e i; m = f i })
+
+-- of two records neither is a Struct with two parts of one name
+one-part : (t : Fields) → count t ≤ 1 → repeats t ≡ false
+unfolding count repeats hasName
+one-part end h = refl
+one-part (field name nullable shape parts end) h = refl
+one-part (field name nullable shape parts (field name₂ nullable₂ shape₂ parts₂ rest)) h = absurd (omega arith)
+
+not-and : (a : Bool) {b : Bool} → b ≡ false → not (a && b) ≡ true
+not-and true e = ap not e
+not-and false e = refl
+
+pub few-differ : (t : Fields) → count t ≤ 2 → namesDiffer t ≡ true
+unfolding count namesDiffer
+few-differ end h = refl
+few-differ (field name nullable shape parts rest) h =
+    all-cons _ (not-and (eqb (shape .kind) Kind.struct) (one-part parts (omega arith)))
+    (all-cons _ (few-differ parts (omega arith)) (all-cons _ (few-differ rest (omega arith)) all-nil))
 
 -- the walk over the whole sheet
 module _ (s : List ℕ) (n m : ℕ) (fits : Fits s n m) (kinds : badKind s ≡ false) (link : ℕ) (root : link ≡ start n) where

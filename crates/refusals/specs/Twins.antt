@@ -1,6 +1,6 @@
 -- What the search for two equal names in one Struct goes by.
 use mathlib.Core.Path.{_≡_}
-use Prim.Native.Nat.{ℕ, zero, suc, _+_, _*_, _%_}
+use Prim.Native.Nat.{ℕ, zero, suc, _+_, _*_, _/_, _%_}
 use mathlib.Core.Bool.{Bool, false, _&&_, _||_}
 use mathlib.Core.List.{List, [], _∷_}
 use lib.Dec.{eqb}
@@ -20,13 +20,13 @@ unfoldable pub among : List ℕ → List (List ℕ) → Bool
 among name [] = false
 among name (other ∷ others) = sameBytes name other || among name others
 
--- a number of 32 bits made of the bytes of a name, and the key of the name: equal names have one key
+-- a number of 32 bits made of the bytes of a name, and the key of the name, its highest 13 bits: equal names have one key
 unfoldable pub mixed : ℕ → List ℕ → ℕ
 mixed k [] = k
-mixed k (b ∷ bs) = mixed ((31 * k + b) % 4294967296) bs
+mixed k (b ∷ bs) = mixed (2654435769 * (k + b) % 4294967296) bs
 
 abbrev pub keyOf : List ℕ → ℕ
-keyOf name = mixed 0 name % 8192
+keyOf name = mixed 0 name / 524288 % 8192
 
 -- b says whether record r is a Struct with two parts of one name
 abbrev pub Finds : List ℕ → ℕ → ℕ → Bool → Type 0

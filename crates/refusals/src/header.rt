@@ -2,27 +2,25 @@
 ghost use mathlib.Core.Path.{_≡_};
 ghost use mathlib.Core.Bool.{not};
 ghost use Prim.Native.Nat.{ℕ, _*_, _-_, _≤_};
-ghost use lib.ListN.{length};
+ghost use lib.ListN.{length, take, drop};
 ghost use Rattle.sheet.specs.Head.{headAt};
 ghost use Rattle.sheet.specs.Kind.{isKind};
 ghost use Rattle.sheet.specs.Refusals.{allZero, anyFrom};
 ghost use Rattle.refusals.specs.Limits.{Measured};
 use crate::Limits;
 use sheet::figure::is_kind;
+use sheet::record::head_from;
 use sheet::record::word_at;
 
-// Whether each byte is zero.
-fn all_zero(s: &[u8]) -> bool
-    ensures { λ r. ⌜ r ≡ allZero (now (s .entry)) ⌝ }
+// Whether the bytes of a header behind n and m are zero. They stand where a record has its size, links and name.
+fn is_rest_zero(s: &[u8]) -> bool
+    requires { ⌜ 16 ≤ length (now s) ⌝ }
+    ensures { λ r. ⌜ r ≡ allZero (take 12 (drop 4 (now (s .entry)))) ⌝ }
 {
-    let mut i = 0;
-    while i < s.len() {
-        if s[i] != 0 {
-            return false;
-        }
-        i += 1;
-    }
-    true
+    let h = head_from(s, 0);
+    let links = h.first + h.next;
+    let name = h.name + h.nlen + h.last as usize;
+    h.quad + links + name == 0
 }
 
 // The header's n and m, where nothing of refusal 1 is met.
@@ -46,7 +44,7 @@ pub(crate) fn limits(s: &[u8]) -> Limits
     if s.len() != 16 * n + m {
         return Limits::Torn;
     }
-    if all_zero(&s[4..16]) {
+    if is_rest_zero(s) {
         Limits::Fit(n, m)
     } else {
         Limits::Torn

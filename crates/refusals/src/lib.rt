@@ -91,6 +91,10 @@ fn check_found(s: &[u8], n: usize, m: usize, link: usize, p: Progress) -> Checke
     if p.at != m {
         return Checked::Refused(Refusal::Label);
     }
+    // The header, a Struct and two parts of one name are four records.
+    if n < 4 {
+        return Checked::Accepted(n, m);
+    }
     if twins(s, n) {
         return Checked::Refused(Refusal::Label);
     }

@@ -52,10 +52,10 @@ fn key(name: &[u8]) -> usize
     let mut k = 0;
     let mut i = 0;
     while i < name.len() {
-        k = (31 * k + name[i] as usize) % 4294967296;
+        k = 2654435769 * (k + name[i] as usize) % 4294967296;
         i += 1;
     }
-    k % 8192
+    k / 524288 % 8192
 }
 
 // Whether two records of the chain that a link leads to have one name. The keys of the names that were met are marked, so that few names are compared.

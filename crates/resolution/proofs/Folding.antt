@@ -15,14 +15,18 @@ use Rattle.sheet.specs.Carried.{FieldRight}
 use Rattle.sheet.specs.Head.{headAt}
 use Rattle.sheet.specs.declared.Head.{Head}
 use Rattle.sheet.proofs.Spans.{span-nil}
+use Rattle.sheet.proofs.Tests.{never}
 use Rattle.coercion.specs.Data.{DataType, Rules, size, single, typesOf, andThen}
-use Rattle.coercion.specs.Answers.{coercion, foldFrom, foldTypes, typeUnionResolution, pairAnswer, allEqual, hasCategory, categoriesIn, categoriesFit, notSupported}
+use Rattle.coercion.specs.Answers.{coercion, foldFrom, foldTypes, typeUnionResolution, pairAnswer, answerOf, allEqual, hasCategory, categoriesIn, categoriesFit, notSupported}
 use Rattle.coercion.proofs.AnswersRight.{TypeRight, sound-right, coercion-right}
 use Rattle.coercion.proofs.PlainRight.{own-right}
 use Rattle.coercion.proofs.Shorter.{coercion-smaller, coercion-shorter}
 use Rattle.buffers.specs.Region.{Room, Kept, Inside, Passes, Wrote}
 use Rattle.buffers.specs.Goal.{letters, typeOf, Means}
+use Rattle.buffers.specs.Plain.{asked, rulesOf, isListQuestion}
 use Rattle.buffers.specs.Typed.{Chain, Typed, Merges, ChainIs, CopiedField}
+use Rattle.buffers.specs.declared.Question.{Question}
+use Rattle.buffers.specs.declared.Question.the-variants as Question
 use Rattle.buffers.specs.declared.Space.{Space}
 use Rattle.buffers.specs.declared.Spot.{Spot}
 use Rattle.buffers.specs.declared.Goal.{Goal}
@@ -404,3 +408,24 @@ module _ (rules : Rules) (space : Space) {s : List ℕ} {link : ℕ} (past : 0 <
 
     pub union-none : {w : List ℕ} → fit ≡ false → Reached (typeUnionResolution rules) space s w w 0 link No
     union-none q = nothing-reached space (λ types a f. sym (told types a ∙ ap (λ (b : Bool). cond b (foldTypes rules (typesOf types)) none) q))
+
+-- the answer to a list, and to two types
+list-answer : (q : Question) (mask : ℕ) → isListQuestion (asked q) ≡ true → typeUnionResolution (rulesOf Question.List mask) ≡ answerOf (asked q) (rulesOf q mask)
+list-answer Question.List mask e = refl
+list-answer Question.Union mask e = never e
+list-answer Question.Compare mask e = never e
+
+pair-answer : (q : Question) (mask : ℕ) → isListQuestion (asked q) ≡ false → pairAnswer (rulesOf q mask) ≡ answerOf (asked q) (rulesOf q mask)
+pair-answer Question.List mask e = never (sym e)
+pair-answer Question.Union mask e = refl
+pair-answer Question.Compare mask e = refl
+
+module _ (q : Question) (mask : ℕ) {b : Bool} (asks : b ≡ isListQuestion (asked q)) {space : Space} {s w v : List ℕ} {link : ℕ} (o : Out) where
+  answers-as : {A : List DataType → Option DataType} → A ≡ answerOf (asked q) (rulesOf q mask) → Reached A space s w v 0 link o → Reached (answerOf (asked q) (rulesOf q mask)) space s w v 0 link o
+  answers-as e = subst (λ (a : List DataType → Option DataType). Reached a space s w v 0 link o) e
+
+  pub answers-list : b ≡ true → Reached (typeUnionResolution (rulesOf Question.List mask)) space s w v 0 link o → Reached (answerOf (asked q) (rulesOf q mask)) space s w v 0 link o
+  answers-list t = answers-as (list-answer q mask (sym asks ∙ t))
+
+  pub answers-pair : b ≡ false → Reached (pairAnswer (rulesOf q mask)) space s w v 0 link o → Reached (answerOf (asked q) (rulesOf q mask)) space s w v 0 link o
+  answers-pair t = answers-as (pair-answer q mask (sym asks ∙ t))

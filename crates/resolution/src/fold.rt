@@ -123,27 +123,30 @@ fn fold_first(
     mask: u64,
     first: usize,
     floor: usize,
-    link: usize,
+    at: usize,
 ) -> Out
     requires { ⌜ Room (now work) space × (1 < space .n) ⌝ }
-    ensures { λ o. ⌜ Folds (foldFrom (rulesOf Question.List mask)) space (Entry space (now (sheet .entry)) first) (now (sheet .entry)) (now (work .entry)) (now (work .exit)) floor link o ⌝ }
+    ensures { λ o. ⌜ Folds (foldFrom (rulesOf Question.List mask)) space (Entry space (now (sheet .entry)) first) (now (sheet .entry)) (now (work .entry)) (now (work .exit)) floor at o ⌝ }
 {
-    if link <= floor {
-        return copy_field(sheet, work, space, false, first, Spot { at: 1, label: 0 });
+    let mut last = floor;
+    let mut link = at;
+    while last < link {
+        if space.n <= link {
+            return Out::No;
+        }
+        let h = head_at(sheet, link);
+        let next = h.next;
+        if h.kind != 1 {
+            return match meet(sheet, work, space, Question::List, mask, link, first) {
+                Out::Done(e) => fold_from(sheet, work, space, mask, link, next, e),
+                Out::No => Out::No,
+                Out::Full => Out::No,
+            };
+        }
+        last = link;
+        link = next;
     }
-    if space.n <= link {
-        return Out::No;
-    }
-    let h = head_at(sheet, link);
-    let next = h.next;
-    if h.kind == 1 {
-        return fold_first(sheet, work, space, mask, first, link, next);
-    }
-    match meet(sheet, work, space, Question::List, mask, link, first) {
-        Out::Done(e) => fold_from(sheet, work, space, mask, link, next, e),
-        Out::No => Out::No,
-        Out::Full => Out::No,
-    }
+    copy_field(sheet, work, space, false, first, Spot { at: 1, label: 0 })
 }
 
 // The first type at a link past floor that is not Null, folded with those behind it.
@@ -158,18 +161,21 @@ fn fold_types(
     requires { ⌜ Room (now work) space × (1 < space .n) ⌝ }
     ensures { λ o. ⌜ Reached (foldTypes (rulesOf Question.List mask)) space (now (sheet .entry)) (now (work .entry)) (now (work .exit)) floor link o ⌝ }
 {
-    if link <= floor {
-        return Out::No;
+    let mut last = floor;
+    let mut at = link;
+    while last < at {
+        if space.n <= at {
+            return Out::No;
+        }
+        let h = head_at(sheet, at);
+        let next = h.next;
+        if h.kind != 1 {
+            return fold_first(sheet, work, space, mask, at, at, next);
+        }
+        last = at;
+        at = next;
     }
-    if space.n <= link {
-        return Out::No;
-    }
-    let h = head_at(sheet, link);
-    let next = h.next;
-    if h.kind == 1 {
-        return fold_types(sheet, work, space, mask, link, next);
-    }
-    fold_first(sheet, work, space, mask, link, link, next)
+    Out::No
 }
 
 // `type_union_resolution`, of the types at a link.

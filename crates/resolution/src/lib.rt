@@ -12,6 +12,7 @@ ghost use Rattle.resolution.specs.Reached.{Reached};
 use buffers::Out;
 use buffers::Question;
 use buffers::Space;
+use buffers::plain::is_list_question;
 use fold::pair;
 use fold::type_union_resolution;
 
@@ -28,9 +29,8 @@ pub fn answer(sheet: &[u8], work: &mut [u8], space: Space, question: Question, m
     ensures { λ o. ⌜ Reached (answerOf (asked question) (rulesOf question mask)) space (now (sheet .entry)) (now (work .entry)) (now (work .exit)) 0 (start (space .n)) o ⌝ }
 {
     let link = start_link(space.n);
-    match question {
-        Question::List => type_union_resolution(sheet, work, space, mask, link),
-        Question::Union => pair(sheet, work, space, Question::Union, mask, link),
-        Question::Compare => pair(sheet, work, space, Question::Compare, mask, link),
+    if is_list_question(question) {
+        return type_union_resolution(sheet, work, space, mask, link);
     }
+    pair(sheet, work, space, question, mask, link)
 }

@@ -72,7 +72,7 @@ fn differing(count: usize, length: usize, place: usize) -> Vec<Vec<u8>> {
 
 /// The key by which the check sifts the names of one Struct.
 fn key(name: &[u8]) -> u32 {
-    name.iter().fold(0u32, |key, &byte| key.wrapping_mul(31).wrapping_add(byte.into())) % 8192
+    name.iter().fold(0u32, |key, &byte| key.wrapping_add(byte.into()).wrapping_mul(2_654_435_769)) >> 19
 }
 
 /// Names of one key, which differ in the three bytes at a place alone.

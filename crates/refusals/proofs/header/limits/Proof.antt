@@ -1,89 +1,66 @@
-use native.Mathlib.Omega.{arith}
-use borrow.Author.Needs.{needs}
-use Prim.Native.Nat.{ℕ, _-_, _+_, _*_, _≤_}
-use mathlib.Core.Path.{_≡_, refl, sym, _∙_, ap, ap₂}
-use mathlib.Core.Bool.{Bool, true, false, not, _&&_}
-use lib.ListN.{length, drop}
-use borrow.Author.Tests.{eq-eqb, ne-eqb}
-use Rattle.sheet.specs.Kind.{isKind}
-use Rattle.sheet.specs.Head.{headAt}
-use Rattle.sheet.specs.Refusals.{allZero, anyFrom}
-use Rattle.sheet.specs.declared.Head.{Head}
-use Rattle.refusals.proofs.Scans.{zero-next, zero-not, zero-done, any-next, any-here, any-done, torn-short, torn-none, torn-many, torn-labels, torn-length, torn-rest, not-torn}
+use Rattle.refusals.proofs.Scans.{torn-short, torn-none, torn-many, torn-labels, torn-length, torn-rest, not-torn}
 use borrow.Author.Needs.{needs}
 use Rattle.refusals.proofs.header.limits.Statement.{statement}
 use Rattle.refusals.proofs.header.limits.Tie as tie
 use Rattle.refusals.proofs.header.limits.Reads as reads
 use Rattle.refusals.proofs.header.limits.Lts as lts
-use Rattle.refusals.proofs.header.all_zero.Reads as all-zero-reads
+use Rattle.refusals.proofs.header.is_rest_zero.Reads as is-rest-zero-reads
 use Rattle.sheet.proofs.record.word_at.Reads as word-at-reads
 
--- src/header.rt:34:9
+-- src/header.rt:31:9
 returns : tie.Need-returns
 returns c =
     torn-short _ (c .if1 .taken)
 
--- src/header.rt:36:9
+-- src/header.rt:33:9
 word-at-requires : tie.Need-word-at-requires
 word-at-requires c κs = search needs
 
--- src/header.rt:37:9
+-- src/header.rt:34:9
 word-at-requires-2 : tie.Need-word-at-requires-2
 word-at-requires-2 c κs = search needs
 
--- src/header.rt:39:9
+-- src/header.rt:36:9
 returns-2 : tie.Need-returns-2
 returns-2 c =
     torn-none _ _ _ (c .before .before .word-at .ensures .0) (c .before .word-at2 .ensures .0) (c .if2 .taken)
 
--- src/header.rt:42:9
+-- src/header.rt:39:9
 returns-3 : tie.Need-returns-3
 returns-3 c =
     torn-many _ _ _ (c .before .before .before .word-at .ensures .0) (c .before .before .word-at2 .ensures .0) (c .if3 .taken)
 
--- src/header.rt:45:9
+-- src/header.rt:42:9
 returns-4 : tie.Need-returns-4
 returns-4 c =
     torn-labels _ _ _ (c .before .before .before .before .word-at .ensures .0) (c .before .before .before .word-at2 .ensures .0) (c .if4 .taken)
 
--- src/header.rt:47:19
+-- src/header.rt:44:19
 mul-if5 : tie.Need-mul-if5
 mul-if5 c = search needs
 
--- src/header.rt:47:19
+-- src/header.rt:44:19
 add-if5 : tie.Need-add-if5
 add-if5 c = search needs
 
--- src/header.rt:48:9
+-- src/header.rt:45:9
 returns-5 : tie.Need-returns-5
 returns-5 c =
     torn-length _ _ _ (c .before .before .before .before .before .word-at .ensures .0) (c .before .before .before .before .word-at2 .ensures .0) (c .if5 .taken)
 
--- src/header.rt:50:17
-sub-all-zero : tie.Need-sub-all-zero
-sub-all-zero c = search needs
+-- src/header.rt:47:8
+is-rest-zero-requires : tie.Need-is-rest-zero-requires
+is-rest-zero-requires c κs = search needs
 
--- src/header.rt:50:17
-part-all-zero-start : tie.Need-part-all-zero-start
-part-all-zero-start c = search needs
-
--- src/header.rt:50:17
-part-all-zero-end : tie.Need-part-all-zero-end
-part-all-zero-end c = search needs
-
--- src/header.rt:50:8
-all-zero-requires : tie.Need-all-zero-requires
-all-zero-requires c κs = search needs
-
--- src/header.rt:30:1
+-- src/header.rt:27:1
 returns-6 : tie.Need-returns-6
 returns-6 c =
-    not-torn _ _ _ (c .before .before .before .before .before .before .before .before .word-at .ensures .0) (c .before .before .before .before .before .before .before .word-at2 .ensures .0) (c .before .before .before .before .before .before .before .before .before .if1 .left) (c .before .before .before .before .before .before .if2 .left) (c .before .before .before .before .before .if3 .left) (c .before .before .before .before .if4 .left) (c .before .before .before .if5 .left) (c .before .all-zero .ensures) (c .if6 .taken)
+    not-torn _ _ _ (c .before .before .before .before .before .before .before .word-at .ensures .0) (c .before .before .before .before .before .before .word-at2 .ensures .0) (c .before .before .before .before .before .before .before .before .if1 .left) (c .before .before .before .before .before .if2 .left) (c .before .before .before .before .if3 .left) (c .before .before .before .if4 .left) (c .before .before .if5 .left) (c .before .is-rest-zero .ensures) (c .if6 .taken)
 
--- src/header.rt:30:1
+-- src/header.rt:27:1
 returns-7 : tie.Need-returns-7
 returns-7 c =
-    torn-rest _ _ _ (c .before .before .before .before .before .before .before .before .word-at .ensures .0) (c .before .before .before .before .before .before .before .word-at2 .ensures .0) (c .before .all-zero .ensures) (c .if6 .left)
+    torn-rest _ _ _ (c .before .before .before .before .before .before .before .word-at .ensures .0) (c .before .before .before .before .before .before .word-at2 .ensures .0) (c .before .is-rest-zero .ensures) (c .if6 .left)
 
 pub limits-spec : {M : Type 1} → statement M
 limits-spec =
@@ -98,9 +75,6 @@ limits-spec =
     mul-if5
     add-if5
     returns-5
-    sub-all-zero
-    part-all-zero-start
-    part-all-zero-end
-    all-zero-requires
+    is-rest-zero-requires
     returns-6
     returns-7)

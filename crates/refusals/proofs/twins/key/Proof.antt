@@ -1,4 +1,4 @@
-use Prim.Native.Nat.{ℕ, _-_, _%_, _<_, _≤_}
+use Prim.Native.Nat.{ℕ, _-_, _/_, _%_, _<_, _≤_}
 use mathlib.Core.Path.{_≡_, refl, ap}
 use native.Mathlib.Omega.{arith}
 use lib.ListN.{length, drop}
@@ -22,11 +22,6 @@ loop-holds : tie.Need-loop-holds Inv-loop μ-loop
 loop-holds c =
     (omega arith, (omega arith, refl))
 
--- src/twins.rt:55:14
-mul-k : tie.Need-mul-k Inv-loop μ-loop
-mul-k c =
-    omega arith
-
 -- src/twins.rt:55:23
 shared-slice-read-k : tie.Need-shared-slice-read-k Inv-loop μ-loop
 shared-slice-read-k c =
@@ -40,6 +35,11 @@ cast-k c =
 -- src/twins.rt:55:14
 add-k : tie.Need-add-k Inv-loop μ-loop
 add-k c =
+    omega (arith, (c .shared-slice-known .given) (c .before .before .loop .i))
+
+-- src/twins.rt:55:14
+mul-k : tie.Need-mul-k Inv-loop μ-loop
+mul-k c =
     omega (arith, (c .shared-slice-known .given) (c .before .before .loop .i))
 
 -- src/twins.rt:56:9
@@ -60,7 +60,7 @@ loop-again c =
 -- src/twins.rt:49:1
 returns : tie.Need-returns Inv-loop μ-loop
 returns c =
-    (ap (λ (k : ℕ). k % 8192) (mixed-done (c .before .before .args .name .now) (c .before .loop .k) _ (c .before .loop .i) (c .loop-test .left) (c .before .loop .inv .1 .1)), omega arith)
+    (ap (λ (k : ℕ). k / 524288 % 8192) (mixed-done (c .before .before .args .name .now) (c .before .loop .k) _ (c .before .loop .i) (c .loop-test .left) (c .before .loop .inv .1 .1)), omega arith)
 
 pub key-spec : {M : Type 1} → statement M
 key-spec =
@@ -69,10 +69,10 @@ key-spec =
     Inv-loop
     μ-loop
     loop-holds
-    mul-k
     shared-slice-read-k
     cast-k
     add-k
+    mul-k
     add-i
     loop-less
     loop-again

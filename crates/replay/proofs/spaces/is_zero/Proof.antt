@@ -3,7 +3,7 @@ use Prim.Native.Nat.{_-_}
 use mathlib.Core.Path.{_≡_, refl}
 use lib.ListN.{length, drop}
 use Rattle.sheet.specs.Refusals.{allZero}
-use Rattle.refusals.proofs.Scans.{zero-next, zero-not, zero-done}
+use Rattle.replay.proofs.Zeros.{zero-next, zero-not, zero-done}
 use borrow.Author.Needs.{needs}
 use Rattle.replay.proofs.spaces.is_zero.Statement.{statement}
 use Rattle.replay.proofs.spaces.is_zero.Tie as tie
