@@ -175,7 +175,7 @@ fn string_time(question: Question, x: Head, y: Head) -> Step
 }
 
 // The rules for types without parts. Of two kinds one rule at most says a type, so the tests find that rule and the others are not asked.
-pub(crate) fn plain(question: Question, mask: u64, x: Head, y: Head) -> Step
+pub fn plain(question: Question, mask: u64, x: Head, y: Head) -> Step
     ensures { λ o. ⌜ ((l r : DataType) → Reads x l → Reads y r → stepOf o l r ≡ plainRules (rulesOf question mask) l r) ⌝ }
 {
     let k = x.kind;

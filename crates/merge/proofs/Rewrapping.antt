@@ -58,7 +58,7 @@ absent-is : (z : Zone) → isZoned z ≡ false → z ≡ absent
 absent-is absent e = refl
 absent-is (present z) e = never (sym e)
 
-end-is : (t : Fields) → arity t ≡ 0 → t ≡ end
+pub end-is : (t : Fields) → arity t ≡ 0 → t ≡ end
 unfolding arity
 end-is end e = refl
 end-is (field name nullable shape parts rest) e = absurd (omega arith)

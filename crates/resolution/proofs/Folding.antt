@@ -86,20 +86,20 @@ met {A} space {s} {w} {v} {u} o room a m =
       means = λ x c t k h l. answered space v u (size x + size c) (letters x + letters c) o (A x c) h l (m .means x c t (mirrored-typed space s w v room a k) (omega arith));
     }
 
-within-self : {space : Space} (w : List ℕ) → Within space w w
+pub within-self : {space : Space} (w : List ℕ) → Within space w w
 within-self w = record { long = refl; above = λ j h. refl }
 
-within-trans : {space : Space} {w v u : List ℕ} → Within space w v → Within space v u → Within space w u
+pub within-trans : {space : Space} {w v u : List ℕ} → Within space w v → Within space v u → Within space w u
 within-trans a b = record { long = b .long ∙ a .long; above = λ j h. b .above j h ∙ a .above j h }
 
-within-kept : {space : Space} {w v : List ℕ} {at label : ℕ} → Room w space → Kept space w v at label → Within space w v
+pub within-kept : {space : Space} {w v : List ℕ} {at label : ℕ} → Room w space → Kept space w v at label → Within space w v
 within-kept room k = record { long = k .long; above = λ j h. k .above j (omega (arith, room .half)) }
 
 pub room-within : {space : Space} {w v : List ℕ} → Within space w v → Room w space → Room v space
 room-within k r = record { half = r .half; few = r .few; short = r .short; inside = omega (arith, r .inside, k .long) }
 
 -- a type that stands somewhere is one that a list may have
-typed-right : {space : Space} {s : List ℕ} {link : ℕ} (t : DataType) → Typed space s link t → TypeRight t
+pub typed-right : {space : Space} {s : List ℕ} {link : ℕ} (t : DataType) → Typed space s link t → TypeRight t
 typed-right t a = let r = a .chain .held .source .right in (sound-right t (own-right (r .0), r .1 .0), type-differ t a)
 
 -- no type is listed at a link past the records
@@ -108,7 +108,7 @@ unlisted end h g a = omega (arith, a .held .source .leads .is)
 unlisted (field name nullable shape parts rest) h g a = omega (arith, link-inside (a .held .source))
 
 -- a link past floor leads to a type
-some-listed : {space : Space} {s : List ℕ} {floor link : ℕ} → floor < link → Listed space s floor link end → ⊥
+pub some-listed : {space : Space} {s : List ℕ} {floor link : ℕ} → floor < link → Listed space s floor link end → ⊥
 some-listed h a = omega (arith, a .held .source .leads .is)
 
 plain-field : (name : List ℕ) (nullable : Bool) (shape : Shape) (parts : Fields) → FieldRight 0 name nullable shape parts
@@ -129,11 +129,11 @@ module _ {space : Space} {s : List ℕ} {floor link : ℕ} {name : List ℕ} {nu
 
 module _ {space : Space} {records bytes : ℕ} (name : List ℕ) (nullable : Bool) (shape : Shape) (parts rest : Fields)
     (f : Fits space records bytes (field name nullable shape parts rest)) where
-  fits-few : records + (size (typeOf shape parts) + count rest) < space .n
+  pub fits-few : records + (size (typeOf shape parts) + count rest) < space .n
   unfolding count
   fits-few = omega (arith, f .few)
 
-  fits-short : bytes + (letters (typeOf shape parts) + length (labels rest)) ≤ space .m
+  pub fits-short : bytes + (letters (typeOf shape parts) + length (labels rest)) ≤ space .m
   fits-short = omega (arith, f .short, labels-sum name nullable shape parts rest, length-append name (zoneBytes (shape .zone)))
 
   fits-rest : Fits space records bytes rest
@@ -148,7 +148,7 @@ module _ (rules : Rules) {space : Space} {s : List ℕ} {link : ℕ} {x c : Data
   next-candidate : {v : List ℕ} {e : Spot} → Wrote space v front e (single t) → Candidate space v e t
   next-candidate b = let r = coercion-right rules x c t (typed-right x a) k q in record { wrote = b; right = r .0; differ = r .1 }
 
-  next-fits : (rest : Fields) → size c + (size x + count rest) < space .n → letters c + (letters x + length (labels rest)) ≤ space .m → Fits space (size t) (letters t) rest
+  pub next-fits : (rest : Fields) → size c + (size x + count rest) < space .n → letters c + (letters x + length (labels rest)) ≤ space .m → Fits space (size t) (letters t) rest
   next-fits rest h g =
       record {
         few = omega (arith, coercion-smaller rules x c t (type-differ x a) (k .1) q);

@@ -1,3 +1,5 @@
 pub mod Shifting
 pub mod Folding
 pub mod Listing
+pub mod Low
+pub mod Valuing

@@ -7,11 +7,18 @@ ghost use Rattle.coercion.specs.Answers.{coercion, foldFrom, foldTypes, typeUni
 ghost use Rattle.buffers.specs.Region.{Room, Inside};
 ghost use Rattle.buffers.specs.Plain.{rulesOf};
 ghost use Rattle.buffers.specs.Typed.{Typed};
+ghost use Rattle.sheet.specs.Bounds.{Bounded};
 ghost use Rattle.resolution.specs.Reached.{Reached, Candidate, Entry, Steps, Folds};
+ghost use Rattle.resolution.specs.Value.{Valued};
 use crate::list::all_equal;
 use crate::list::is_fitting;
 use crate::shift::mirror;
 use crate::shift::shift;
+use crate::value::Joint;
+use crate::value::common_type;
+use crate::value::is_plain;
+use crate::value::lay_front;
+use crate::value::lay_joint;
 use buffers::Goal;
 use buffers::Out;
 use buffers::Question;
@@ -19,6 +26,7 @@ use buffers::Space;
 use buffers::Spot;
 use buffers::field::copy_field;
 use merge::coerce::coerce;
+use sheet::Head;
 use sheet::record::head_at;
 
 // The common type of the type at a link and the candidate that ends at d; it takes the candidate's place.
@@ -149,6 +157,61 @@ fn fold_first(
     copy_field(sheet, work, space, false, first, Spot { at: 1, label: 0 })
 }
 
+// The type that a head says, written as a candidate and folded with the types at a link past floor.
+fn fold_written(
+    sheet: &[u8],
+    work: &mut [u8],
+    space: Space,
+    mask: u64,
+    h: Head,
+    floor: usize,
+    link: usize,
+) -> Out
+    requires { ⌜ Room (now work) space × ((1 < space .n) × Bounded h) ⌝ }
+    ensures { λ o. ⌜ Folds (foldFrom (rulesOf Question.List mask)) space (Valued h) (now (sheet .entry)) (now (work .entry)) (now (work .exit)) floor link o ⌝ }
+{
+    let d = lay_front(work, space, h);
+    fold_from(sheet, work, space, mask, floor, link, d)
+}
+
+// The type that a head says, folded with the types at a link past floor. It is a value, and so are the candidates after it, up to a type with parts, a zone
+// or an order. Nulls are skipped.
+fn fold_plain(
+    sheet: &[u8],
+    work: &mut [u8],
+    space: Space,
+    mask: u64,
+    first: Head,
+    floor: usize,
+    link: usize,
+) -> Out
+    requires { ⌜ Room (now work) space × ((1 < space .n) × Bounded first) ⌝ }
+    ensures { λ o. ⌜ Folds (foldFrom (rulesOf Question.List mask)) space (Valued first) (now (sheet .entry)) (now (work .entry)) (now (work .exit)) floor link o ⌝ }
+{
+    let mut last = floor;
+    let mut at = link;
+    let mut candidate = first;
+    while last < at {
+        if space.n <= at {
+            return Out::No;
+        }
+        let h = head_at(sheet, at);
+        let next = h.next;
+        if h.kind != 1 {
+            if !is_plain(h) {
+                return fold_written(sheet, work, space, mask, candidate, last, at);
+            }
+            match common_type(Question::List, mask, h, candidate) {
+                Joint::Of(c) => candidate = c,
+                Joint::Nothing => return Out::No,
+            }
+        }
+        last = at;
+        at = next;
+    }
+    fold_written(sheet, work, space, mask, candidate, last, at)
+}
+
 // The first type at a link past floor that is not Null, folded with those behind it.
 fn fold_types(
     sheet: &[u8],
@@ -170,6 +233,9 @@ fn fold_types(
         let h = head_at(sheet, at);
         let next = h.next;
         if h.kind != 1 {
+            if is_plain(h) {
+                return fold_plain(sheet, work, space, mask, h, at, next);
+            }
             return fold_first(sheet, work, space, mask, at, at, next);
         }
         last = at;
@@ -223,12 +289,19 @@ pub(crate) fn pair(
     if space.n <= 1 {
         return Out::No;
     }
-    let next = head_at(sheet, link).next;
+    let x = head_at(sheet, link);
+    let next = x.next;
     if next == 0 {
         return Out::No;
     }
-    if head_at(sheet, next).next != 0 {
+    let y = head_at(sheet, next);
+    if y.next != 0 {
         return Out::No;
+    }
+    if is_plain(x) {
+        if is_plain(y) {
+            return lay_joint(work, space, common_type(question, mask, x, y));
+        }
     }
     meet(sheet, work, space, question, mask, link, next)
 }

@@ -2,6 +2,7 @@
 mod fold;
 mod list;
 mod shift;
+mod value;
 
 ghost use mathlib.Core.Path.{_≡_};
 ghost use Rattle.sheet.specs.Read.{start};
