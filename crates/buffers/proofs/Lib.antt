@@ -1,5 +1,6 @@
 pub mod Sources
 pub mod Sameness
+pub mod Parting
 pub mod Puts
 pub mod Frames
 pub mod Copying

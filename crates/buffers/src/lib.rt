@@ -4,6 +4,7 @@ pub mod copy;
 pub mod field;
 pub mod lay;
 pub mod names;
+pub mod part;
 pub mod plain;
 pub mod stamp;
 pub mod write;

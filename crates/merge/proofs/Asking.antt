@@ -19,15 +19,16 @@ use Rattle.buffers.specs.Writes.{side}
 use Rattle.buffers.specs.Goal.{CopiedType}
 use Rattle.buffers.specs.Typed.{Typed, Merges}
 use Rattle.buffers.specs.Plain.{asked, rulesOf, isListQuestion, plainRules}
-use Rattle.merge.specs.Turns.{resolved, unwrapped, turnsFor, turnsOf}
+use Rattle.merge.specs.Turns.{nestedOf, resolved, unwrapped, turnsFor, turnsOf}
+use Rattle.merge.specs.Merge.{Differ, SameKnown, MergesKnown}
 use Rattle.buffers.specs.declared.Space.{Space}
 use Rattle.buffers.specs.declared.Goal.{Goal}
 use Rattle.buffers.specs.declared.Question.{Question}
 use Rattle.buffers.specs.declared.Question.the-variants as Question
 use Rattle.buffers.specs.declared.Out.{Out}
 use Rattle.buffers.specs.declared.Out.the-variants.{Done, No, Full}
-use Rattle.merge.proofs.Orders.{ask-turns, plain-turns}
-use Rattle.merge.proofs.Merging.{typed-same, merges-as, merges-left, merges-none}
+use Rattle.merge.proofs.Orders.{ask-turns, bare-turns, plain-turns}
+use Rattle.merge.proofs.Merging.{typed-same, known-as, as-known, merges-left, merges-none}
 use Rattle.wrappers.proofs.Values.{kind-of}
 
 -- the rules of a question that looks at names, and of one that does not
@@ -48,36 +49,63 @@ module _ (question : Question) (mask : ℕ) (space : Space) (left : ℕ) (swap :
   turns : (x y : DataType) → both x y ≡ cond (sameType (isListQuestion (asked question)) x y) (some x) (turnsOf (rulesOf question mask) both x y)
   turns x y = coercion-asks (rulesOf question mask) x y ∙ ask-turns (rulesOf question mask) both x y
 
-  pub coerce-spent : left ≡ 0 → Merges both space left swap s w w l r g No
-  coerce-spent e = merges-none both space left swap s w l r g (λ x y a b q. absurd (omega arith))
+  abbrev names : Bool
+  names = isListQuestion (asked question)
 
-  module _ {flag e : Bool} (ef : flag ≡ isListQuestion (asked question)) (same : SameTypes (side swap s w) (space .n) l (side (not swap) s w) (space .n) r flag e) where
-    told : (x y : DataType) → Typed space (side swap s w) l x → Typed space (side (not swap) s w) r y → e ≡ sameType (isListQuestion (asked question)) x y
-    told x y a b = typed-same flag same a b ∙ ap (λ (n : Bool). sameType n x y) ef
+  pub coerce-spent : {known : Bool} → left ≡ 0 → MergesKnown known names both space left swap s w w l r g No
+  coerce-spent {known} e =
+      as-known both space swap s w w l r g No known left (omega arith) (λ x y a b d. refl) (merges-none both space left swap s w l r g (λ x y a b q. absurd (omega arith)))
 
-    pub coerce-same : (v : List ℕ) (o : Out) → e ≡ true → CopiedType space (side swap s w) w v l g o → Merges both space left swap s w v l r g o
+  module _ {known flag e : Bool} (ef : flag ≡ names) (same : SameKnown known flag space (side swap s w) l (side (not swap) s w) r e) where
+    told : (x y : DataType) → Typed space (side swap s w) l x → Typed space (side (not swap) s w) r y → Differ known names x y → e ≡ sameType names x y
+    told x y a b d = let f = ap (λ (n : Bool). sameType n x y) ef in same x y a b (λ k. f ∙ d k) ∙ f
+
+    pub coerce-same : (v : List ℕ) (o : Out) → e ≡ true → CopiedType space (side swap s w) w v l g o → MergesKnown known names both space left swap s w v l r g o
     coerce-same v o z c =
-        merges-left both space left swap s w l r g v o (λ x y a b. sym (turns x y ∙ rw (sym (told x y a b)) (rw z refl))) c
+        as-known both space swap s w v l r g o known left (omega arith) (λ x y a b d. sym (turns x y ∙ rw (sym (told x y a b d)) (rw z refl)))
+        (merges-left (λ x y. some x) space left swap s w l r g v o (λ x y a b. refl) c)
 
-    differ : e ≡ false → (x y : DataType) → Typed space (side swap s w) l x → Typed space (side (not swap) s w) r y → turnsOf (rulesOf question mask) both x y ≡ both x y
-    differ z x y a b = sym (turns x y ∙ rw (sym (told x y a b)) (rw z refl))
+    differ : e ≡ false → (x y : DataType) → Typed space (side swap s w) l x → Typed space (side (not swap) s w) r y → Differ known names x y
+        → turnsOf (rulesOf question mask) both x y ≡ both x y
+    differ z x y a b d = sym (turns x y ∙ rw (sym (told x y a b d)) (rw z refl))
 
     pub coerce-list : (v : List ℕ) (o : Out) → e ≡ false → flag ≡ true → ¬ (left ≡ 0)
-        → Merges (resolved (rulesOf question mask) both) space (left - 1 + 1) swap s w v l r g o → Merges both space left swap s w v l r g o
+        → Merges (resolved (rulesOf question mask) both) space (left - 1 + 1) swap s w v l r g o → MergesKnown known names both space left swap s w v l r g o
     coerce-list v o z f more m =
-        merges-as both space swap s w v l r g o left (omega arith)
-        (λ x y a b. list-turns (asked question) (rulesOf question mask) both x y (sym ef ∙ f) ∙ differ z x y a b) m
+        as-known both space swap s w v l r g o known left (omega arith)
+        (λ x y a b d. list-turns (asked question) (rulesOf question mask) both x y (sym ef ∙ f) ∙ differ z x y a b d) m
 
     pub coerce-pair : (v : List ℕ) (o : Out) → e ≡ false → flag ≡ false → ¬ (left ≡ 0)
-        → Merges (unwrapped (rulesOf question mask) both) space (left - 1 + 1) swap s w v l r g o → Merges both space left swap s w v l r g o
+        → Merges (unwrapped (rulesOf question mask) both) space (left - 1 + 1) swap s w v l r g o → MergesKnown known names both space left swap s w v l r g o
     coerce-pair v o z f more m =
-        merges-as both space swap s w v l r g o left (omega arith)
-        (λ x y a b. pair-turns (asked question) (rulesOf question mask) both x y (sym ef ∙ f) ∙ differ z x y a b) m
+        as-known both space swap s w v l r g o known left (omega arith)
+        (λ x y a b d. pair-turns (asked question) (rulesOf question mask) both x y (sym ef ∙ f) ∙ differ z x y a b d) m
 
-    pub coerce-plain : (v : List ℕ) (o : Out) {k j : ℕ} → e ≡ false → k ≡ headAt (side swap s w) l .kind → j ≡ headAt (side (not swap) s w) r .kind → (ltb k 32 && ltb j 32) ≡ true
-        → ((i : ℕ) → Merges (plainRules (rulesOf question mask)) space i swap s w v l r g o) → Merges both space left swap s w v l r g o
-    coerce-plain v o {k} {j} z ek ej h m =
-        let p : k < 32 = ltb-true k 32 (and-fst (ltb k 32) (ltb j 32) h) in
-        let q : j < 32 = ltb-true j 32 (and-snd (ltb k 32) (ltb j 32) h) in
-        merges-as both space swap s w v l r g o left (omega arith)
-        (λ x y a b. plain-turns (rulesOf question mask) both x y (omega (arith, kind-of ek a)) (omega (arith, kind-of ej b)) ∙ differ z x y a b) (m left)
+    -- the kinds of both, where both are below a number
+    module _ {k j : ℕ} (ek : k ≡ headAt (side swap s w) l .kind) (ej : j ≡ headAt (side (not swap) s w) r .kind) (top : ℕ) (h : (ltb k top && ltb j top) ≡ true) where
+      left-kind : {x : DataType} → Typed space (side swap s w) l x → x .shape .kind < top
+      left-kind a = let p = ltb-true k top (and-fst (ltb k top) (ltb j top) h) in omega (arith, kind-of ek a)
+
+      right-kind : {y : DataType} → Typed space (side (not swap) s w) r y → y .shape .kind < top
+      right-kind b = let p = ltb-true j top (and-snd (ltb k top) (ltb j top) h) in omega (arith, kind-of ej b)
+
+    module _ (v : List ℕ) (o : Out) {k j : ℕ} (z : e ≡ false) (ek : k ≡ headAt (side swap s w) l .kind) (ej : j ≡ headAt (side (not swap) s w) r .kind) where
+      pub coerce-plain : (ltb k 32 && ltb j 32) ≡ true → ((i : ℕ) → Merges (plainRules (rulesOf question mask)) space i swap s w v l r g o)
+          → MergesKnown known names both space left swap s w v l r g o
+      coerce-plain h m =
+          as-known both space swap s w v l r g o known left (omega arith)
+          (λ x y a b d. plain-turns (rulesOf question mask) both x y (left-kind ek ej 32 h a) (right-kind ek ej 32 h b) ∙ differ z x y a b d) (m left)
+
+      -- no wrappers, which are now known to differ
+      pub coerce-bare : (ltb k 37 && ltb j 37) ≡ true → ¬ (left ≡ 0) → MergesKnown true names (nestedOf (rulesOf question mask) both) space (left - 1 + 1) swap s w v l r g o
+          → MergesKnown known names both space left swap s w v l r g o
+      coerce-bare h more m =
+          known-as both space swap s w v l r g o known left (omega arith)
+          (λ x y a b d. (bare-turns (rulesOf question mask) both x y (left-kind ek ej 37 h a) (right-kind ek ej 37 h b) ∙ differ z x y a b d, λ k. sym (told x y a b d) ∙ z)) m
+
+-- what the test for sameness says
+pub same-known : (named : Bool) {space : Space} {s t : List ℕ} {l r : ℕ} {known : Bool} → known ≡ true → SameKnown known named space s l t r false
+same-known named k x y a b d = sym (d k)
+
+pub same-asked : (named : Bool) {space : Space} {s t : List ℕ} {l r : ℕ} {known e : Bool} → SameTypes s (space .n) l t (space .n) r named e → SameKnown known named space s l t r e
+same-asked named f x y a b d = typed-same named f a b

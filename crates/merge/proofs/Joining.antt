@@ -13,6 +13,7 @@ use Rattle.sheet.specs.Types.{Shape, Fields, end, field, arity, count, zoneByte
 use Rattle.sheet.specs.Head.{headAt}
 use Rattle.sheet.specs.Encode.{linkTo}
 use Rattle.sheet.specs.declared.Head.{Head}
+use Rattle.sheet.proofs.Tests.{never}
 use Rattle.coercion.specs.Data.{DataType, Rules, size, andThen}
 use Rattle.coercion.specs.Answers.{coercion}
 use Rattle.coercion.specs.Nested.{before, joinFields, byName}
@@ -20,8 +21,9 @@ use Rattle.buffers.specs.Writes.{side}
 use Rattle.buffers.specs.Region.{Room, Kept, Inside, Grows, Short, Wrote, Ready, Named}
 use Rattle.buffers.specs.Goal.{letters, spotOf, fieldFor, NoRoom, Means, Tied}
 use Rattle.buffers.specs.Feeds.{Feeds, Fed, Unfed, RowIs}
-use Rattle.buffers.specs.Typed.{Chain, Typed, Merges, ChainIs, goalAt, NamedAt}
-use Rattle.merge.specs.Merge.{Rowed}
+use Rattle.buffers.specs.Typed.{Chain, Typed, ChainIs, goalAt, NamedAt}
+use Rattle.buffers.specs.Part.{sameFirst}
+use Rattle.merge.specs.Merge.{Differ, MergesKnown, Rowed}
 use Rattle.buffers.specs.declared.Space.{Space}
 use Rattle.buffers.specs.declared.Spot.{Spot}
 use Rattle.buffers.specs.declared.Goal.{Goal}
@@ -73,14 +75,14 @@ labels-none : length (labels end) ≡ 0
 unfolding labels
 labels-none = refl
 
-module _ (c : DataType → DataType → Option DataType) (space : Space) (left : ℕ) (swap : Bool) (s w : List ℕ) (feed : Feed) (l r p : ℕ) (to : Spot) where
-  pub rows-end : (o : Out) → Inside space to → l ≡ 0 → o ≡ cond (eqb p 0) (Done to) No → Rowed c space left swap s w w feed l r p to o
+module _ (known named : Bool) (c : DataType → DataType → Option DataType) (space : Space) (left : ℕ) (swap : Bool) (s w : List ℕ) (feed : Feed) (l r p : ℕ) (to : Spot) where
+  pub rows-end : (o : Out) → Inside space to → l ≡ 0 → o ≡ cond (eqb p 0) (Done to) No → Rowed known named c space left swap s w w feed l r p to o
   unfolding count labels
   rows-end o inside z e =
       record {
         kept = kept-self w (to .at) (to .label);
         grows = subst (Grows space to) (sym e) (grown (eqb p 0));
-        means = λ lf rf pf tf nf a b q f h. go lf rf pf tf nf a q f;
+        means = λ lf rf pf tf nf a b q f h d. go lf rf pf tf nf a q f;
       }
     where
       grown : (b : Bool) → Grows space to (cond b (Done to) No)
@@ -100,37 +102,37 @@ module _ (c : DataType → DataType → Option DataType) (space : Space) (left :
   pub rows-means : (v : List ℕ) (o : Out) → ¬ (l ≡ 0)
       → ((name : List ℕ) (nullable : Bool) (shape : Shape) (parts rest rf pf tf nf : Fields) → Chain space (side swap s w) l (field name nullable shape parts rest)
       → Chain space (side (not swap) s w) r rf → Chain space (side (not swap) s w) p pf → Feeds feed (field name nullable shape parts rest) rf pf tf nf
-      → count (field name nullable shape parts rest) + count tf ≤ left
+      → count (field name nullable shape parts rest) + count tf ≤ left → (known ≡ true → sameFirst named (field name nullable shape parts rest) tf ≡ false)
       → ChainIs space v to (count (field name nullable shape parts rest) + count tf) (length (labels (field name nullable shape parts rest)) + length (labels tf)) o
       (joinFields c (field name nullable shape parts rest) tf nf))
       → (lf rf pf tf nf : Fields) → Chain space (side swap s w) l lf → Chain space (side (not swap) s w) r rf → Chain space (side (not swap) s w) p pf → Feeds feed lf rf pf tf nf
-      → count lf + count tf ≤ left → ChainIs space v to (count lf + count tf) (length (labels lf) + length (labels tf)) o (joinFields c lf tf nf)
-  rows-means v o z f end rf pf tf nf a b q g h = absurd (z (chain-link refl a))
-  rows-means v o z f (field name nullable shape parts rest) rf pf tf nf a b q g h = f name nullable shape parts rest rf pf tf nf a b q g h
+      → count lf + count tf ≤ left → (known ≡ true → sameFirst named lf tf ≡ false) → ChainIs space v to (count lf + count tf) (length (labels lf) + length (labels tf)) o (joinFields c lf tf nf)
+  rows-means v o z f end rf pf tf nf a b q g h d = absurd (z (chain-link refl a))
+  rows-means v o z f (field name nullable shape parts rest) rf pf tf nf a b q g h d = f name nullable shape parts rest rf pf tf nf a b q g h d
 
-  pub rows-spent : ¬ (l ≡ 0) → left ≡ 0 → Rowed c space left swap s w w feed l r p to No
+  pub rows-spent : ¬ (l ≡ 0) → left ≡ 0 → Rowed known named c space left swap s w w feed l r p to No
   unfolding count
   rows-spent z e =
       record {
         kept = kept-self w (to .at) (to .label);
         grows = tt;
-        means = rows-means w No z (λ name nullable shape parts rest rf pf tf nf a b q f h. absurd (omega arith));
+        means = rows-means w No z (λ name nullable shape parts rest rf pf tf nf a b q f h d. absurd (omega arith));
       }
 
-  pub rows-unfed : (row : Row) → ¬ (l ≡ 0) → RowIs space swap s w feed l r p row → row .partner ≡ 0 → Rowed c space left swap s w w feed l r p to No
+  pub rows-unfed : (row : Row) → ¬ (l ≡ 0) → RowIs space swap s w feed l r p row → row .partner ≡ 0 → Rowed known named c space left swap s w w feed l r p to No
   rows-unfed row z is e =
       record {
         kept = kept-self w (to .at) (to .label);
         grows = tt;
         means =
-            rows-means w No z (λ name nullable shape parts rest rf pf tf nf a b q f h.
+            rows-means w No z (λ name nullable shape parts rest rf pf tf nf a b q f h d.
             rw (join-short c name nullable shape parts rest tf nf (is .unfed name nullable shape parts rest rf pf tf nf a b q f e)) tt);
       }
 
 -- the first row of a chain was merged under its name, and the rows behind it
-module _ (rules : Rules) (space : Space) (left : ℕ) (swap : Bool) (s w : List ℕ) (feed : Feed) (l r p : ℕ) (to : Spot) (room : Room w space) (inside : Inside space to)
+module _ (known named : Bool) (rules : Rules) (space : Space) (left : ℕ) (swap : Bool) (s w : List ℕ) (feed : Feed) (l r p : ℕ) (to : Spot) (room : Room w space) (inside : Inside space to)
     (h : Head) (eh : h ≡ headAt (side swap s w) l) (z : ¬ (l ≡ 0)) (row : Row) (is : RowIs space swap s w feed l r p row) (lt : ¬ (row .partner ≡ 0))
-    (v : List ℕ) (b : Bool) (named : NamedAt space (side swap s w) w v h to b) where
+    (v : List ℕ) (b : Bool) (label : NamedAt space (side swap s w) w v h to b) where
   abbrev goal : Goal
   goal = goalAt to (h .nlen) (row .nullable)
 
@@ -151,14 +153,14 @@ module _ (rules : Rules) (space : Space) (left : ℕ) (swap : Bool) (s w : List 
       → length (labels (field name nullable shape parts rest)) ≡ length name + letters (record { shape = shape; parts = parts }) + length (labels rest)
   row-labels name nullable shape parts rest = omega (arith, labels-sum name nullable shape parts rest, length-append name (zoneBytes (shape .zone)))
 
-  pub rows-crowded : b ≡ false → Rowed both space left swap s w v feed l r p to Full
+  pub rows-crowded : b ≡ false → Rowed known named both space left swap s w v feed l r p to Full
   rows-crowded e =
       record {
-        kept = named .kept;
+        kept = label .kept;
         grows = tt;
         means =
-            rows-means both space left swap s w feed l r p to v Full z (λ name nullable shape parts rest rf pf tf nf a q k f g.
-            inr (omega (arith, named .full e, long name nullable shape parts rest a, row-labels name nullable shape parts rest)));
+            rows-means known named both space left swap s w feed l r p to v Full z (λ name nullable shape parts rest rf pf tf nf a q k f g df.
+            inr (omega (arith, label .full e, long name nullable shape parts rest a, row-labels name nullable shape parts rest)));
       }
 
   module _ (e : b ≡ true) (u : List ℕ) where
@@ -170,26 +172,32 @@ module _ (rules : Rules) (space : Space) (left : ℕ) (swap : Bool) (s w : List 
 
     first : {name : List ℕ} {nullable : Bool} {shape : Shape} {parts rest : Fields} → Chain space (side swap s w) l (field name nullable shape parts rest)
         → Typed space (side swap s v) l (record { shape = shape; parts = parts })
-    first a = chain-typed (chain-side swap space s w v (to .at) (to .label) room (named .kept) a)
+    first a = chain-typed (chain-side swap space s w v (to .at) (to .label) room (label .kept) a)
 
     feeder : {t : DataType} → Typed space (side (not swap) s w) (row .partner) t → Typed space (side (not swap) s v) (row .partner) t
-    feeder a = typed-side (not swap) space s w v (to .at) (to .label) room (named .kept) a
+    feeder a = typed-side (not swap) space s w v (to .at) (to .label) room (label .kept) a
+
+    -- the first types may be known to differ
+    differs : (name : List ℕ) {nullable : Bool} (shape : Shape) (parts : Fields) {rest rf tf nf : Fields} (f : Fed space (side (not swap) s w) feed nullable rest rf row tf nf)
+        → (known ≡ true → sameFirst named (field name nullable shape parts rest) tf ≡ false) → Differ known named (record { shape = shape; parts = parts }) (f .type)
+    unfolding sameFirst
+    differs name shape parts f df k = rw (f .types) at (df k)
 
     kept : Kept space v u (to .at) (to .label + h .nlen) → Kept space w u (to .at) (to .label)
-    kept k = kept-trans (named .kept) (kept-wider (to .at) (to .label) (omega arith) (omega arith) k)
+    kept k = kept-trans (label .kept) (kept-wider (to .at) (to .label) (omega arith) (omega arith) k)
 
-    pub rows-none : Merges both space left swap s v u l (row .partner) goal No → Rowed both space left swap s w u feed l r p to No
+    pub rows-none : MergesKnown known named both space left swap s v u l (row .partner) goal No → Rowed known named both space left swap s w u feed l r p to No
     unfolding count
     rows-none m =
         record {
           kept = kept (m .writes .kept);
           grows = tt;
           means =
-              rows-means both space left swap s w feed l r p to u No z (λ name nullable shape parts rest rf pf tf nf a q k f g.
+              rows-means known named both space left swap s w feed l r p to u No z (λ name nullable shape parts rest rf pf tf nf a q k f g df.
               let d = fed a q k f in
               let x : DataType = record { shape = shape; parts = parts } in
               rw (join-fed name nullable shape parts rest rf tf nf d)
-              (go _ _ _ _ (both x (d .type)) (joinFields both rest (d .more) (d .nulls)) name (m .means x (d .type) (first a) (feeder (d .partner)) (omega (arith, ap (λ (y : Fields). count y) (d .types))))));
+              (go _ _ _ _ (both x (d .type)) (joinFields both rest (d .more) (d .nulls)) name (m .means x (d .type) (first a) (feeder (d .partner)) (omega (arith, ap (λ (y : Fields). count y) (d .types))) (differs name shape parts d df))));
         }
       where
         go : (z₀ y₀ z₁ y₁ : ℕ) (o : Option DataType) (o′ : Option Fields) (name : List ℕ) → Means space v u goal z₀ y₀ No o
@@ -197,14 +205,14 @@ module _ (rules : Rules) (space : Space) (left : ℕ) (swap : Bool) (s w : List 
         go z₀ y₀ z₁ y₁ none o′ name k = tt
         go z₀ y₀ z₁ y₁ (some t) o′ name k = absurd k
 
-    pub rows-full : Merges both space left swap s v u l (row .partner) goal Full → Rowed both space left swap s w u feed l r p to Full
+    pub rows-full : MergesKnown known named both space left swap s v u l (row .partner) goal Full → Rowed known named both space left swap s w u feed l r p to Full
     unfolding count
     rows-full m =
         record {
           kept = kept (m .writes .kept);
           grows = tt;
           means =
-              rows-means both space left swap s w feed l r p to u Full z (λ name nullable shape parts rest rf pf tf nf a q k f g.
+              rows-means known named both space left swap s w feed l r p to u Full z (λ name nullable shape parts rest rf pf tf nf a q k f g df.
               let d = fed a q k f in
               let x : DataType = record { shape = shape; parts = parts } in
               let ct = ap (λ (y : Fields). count y) (d .types) in
@@ -212,11 +220,11 @@ module _ (rules : Rules) (space : Space) (left : ℕ) (swap : Bool) (s w : List 
               let lm = row-labels (d .name) (d .own) (d .type .shape) (d .type .parts) (d .more) in
               let ll = row-labels name nullable shape parts rest in
               let ln = long name nullable shape parts rest a in
-              ⊎-elim (λ i. inl (omega arith)) (λ i. inr (omega arith)) (m .means x (d .type) (first a) (feeder (d .partner)) (omega arith)));
+              ⊎-elim (λ i. inl (omega arith)) (λ i. inr (omega arith)) (m .means x (d .type) (first a) (feeder (d .partner)) (omega arith) (differs name shape parts d df)));
         }
 
     -- the first row was written up to d, and the rows behind it were merged from there
-    module _ (d : Spot) (m : Merges both space left swap s v u l (row .partner) goal (Done d)) where
+    module _ (d : Spot) (m : MergesKnown known named both space left swap s v u l (row .partner) goal (Done d)) where
       kept₂ : Kept space w u (to .at) (to .label)
       kept₂ = kept (m .writes .kept)
 
@@ -229,9 +237,10 @@ module _ (rules : Rules) (space : Space) (left : ℕ) (swap : Bool) (s w : List 
         letters : d .label ≤ to .label + length name + (letters x + letters t)
 
       first-type : {nullable : Bool} {shape : Shape} {parts rest : Fields} (name : List ℕ) (t : DataType) → Chain space (side swap s w) l (field name nullable shape parts rest)
-          → Typed space (side (not swap) s w) (row .partner) t → size (record { shape = shape; parts = parts }) + size t ≤ left → First name (record { shape = shape; parts = parts }) t
+          → Typed space (side (not swap) s w) (row .partner) t → size (record { shape = shape; parts = parts }) + size t ≤ left
+          → Differ known named (record { shape = shape; parts = parts }) t → First name (record { shape = shape; parts = parts }) t
       unfolding count
-      first-type {nullable} {shape} {parts} {rest} name t a q g = go (both x t) refl (m .means x t (first a) (feeder q) g)
+      first-type {nullable} {shape} {parts} {rest} name t a q g df = go (both x t) refl (m .means x t (first a) (feeder q) g df)
         where
           x : DataType
           x = record { shape = shape; parts = parts }
@@ -239,7 +248,7 @@ module _ (rules : Rules) (space : Space) (left : ℕ) (swap : Bool) (s w : List 
           go : (o : Option DataType) → both x t ≡ o → Means space v u goal (size x + size t) (letters x + letters t) (Done d) o → First name x t
           go none i k = absurd k
           go (some y) i k =
-              let wrote = k name (named .named e l name nullable (row .nullable) shape parts rest a eh) in
+              let wrote = k name (label .named e l name nullable (row .nullable) shape parts rest a eh) in
               let fits = common-fits rules y (chain-typed a) q i in
               let ll = row-labels name (row .nullable) (y .shape) (y .parts) end in
               let le = labels-none in
@@ -252,7 +261,7 @@ module _ (rules : Rules) (space : Space) (left : ℕ) (swap : Bool) (s w : List 
               }
 
       -- the rows behind it
-      module _ (y : List ℕ) (o : Out) (k : Rowed both space (left - 1) swap s u y feed (h .next) r (row .next) d o) where
+      module _ (y : List ℕ) (o : Out) (k : Rowed false named both space (left - 1) swap s u y feed (h .next) r (row .next) d o) where
         kept₃ : Kept space w y (to .at) (to .label)
         kept₃ = kept-trans kept₂ (kept-wider (to .at) (to .label) (omega (arith, m .writes .passes .1 .0)) (omega (arith, m .writes .passes .1 .1)) (k .kept))
 
@@ -261,19 +270,19 @@ module _ (rules : Rules) (space : Space) (left : ℕ) (swap : Bool) (s w : List 
             → ChainIs space y d (count rest + count (f .more)) (length (labels rest) + length (labels (f .more))) o (joinFields both rest (f .more) (f .nulls))
         rest-means {rest = rest} {rf = rf} a q f g =
             k .means rest rf (f .behind) (f .more) (f .nulls) (chain-side swap space s w u (to .at) (to .label) room kept₂ (chain-next a h eh))
-            (chain-side (not swap) space s w u (to .at) (to .label) room kept₂ q) (chain-side (not swap) space s w u (to .at) (to .label) room kept₂ (f .next)) (f .feeds) g
+            (chain-side (not swap) space s w u (to .at) (to .label) room kept₂ q) (chain-side (not swap) space s w u (to .at) (to .label) room kept₂ (f .next)) (f .feeds) g (λ k. never k)
 
-      pub rows-rest-none : (y : List ℕ) → Rowed both space (left - 1) swap s u y feed (h .next) r (row .next) d No → Rowed both space left swap s w y feed l r p to No
+      pub rows-rest-none : (y : List ℕ) → Rowed false named both space (left - 1) swap s u y feed (h .next) r (row .next) d No → Rowed known named both space left swap s w y feed l r p to No
       unfolding count
       rows-rest-none y k =
           record {
             kept = kept₃ y No k;
             grows = tt;
             means =
-                rows-means both space left swap s w feed l r p to y No z (λ name nullable shape parts rest rf pf tf nf a q c f g.
+                rows-means known named both space left swap s w feed l r p to y No z (λ name nullable shape parts rest rf pf tf nf a q c f g df.
                 let i = fed a q c f in
                 let ct = ap (λ (x : Fields). count x) (i .types) in
-                let one = first-type name (i .type) a (i .partner) (omega arith) in
+                let one = first-type name (i .type) a (i .partner) (omega arith) (differs name shape parts i df) in
                 rw (join-fed name nullable shape parts rest rf tf nf i)
                 (rw (one .common) (go (joinFields both rest (i .more) (i .nulls)) name (one .type) _ _ _ _ (rest-means y No k a q i (omega arith)))));
           }
@@ -283,37 +292,37 @@ module _ (rules : Rules) (space : Space) (left : ℕ) (swap : Bool) (s w : List 
           go none name t z₀ y₀ z₁ y₁ c = tt
           go (some f) name t z₀ y₀ z₁ y₁ c = absurd c
 
-      pub rows-rest-full : (y : List ℕ) → Rowed both space (left - 1) swap s u y feed (h .next) r (row .next) d Full → Rowed both space left swap s w y feed l r p to Full
+      pub rows-rest-full : (y : List ℕ) → Rowed false named both space (left - 1) swap s u y feed (h .next) r (row .next) d Full → Rowed known named both space left swap s w y feed l r p to Full
       unfolding count
       rows-rest-full y k =
           record {
             kept = kept₃ y Full k;
             grows = tt;
             means =
-                rows-means both space left swap s w feed l r p to y Full z (λ name nullable shape parts rest rf pf tf nf a q c f g.
+                rows-means known named both space left swap s w feed l r p to y Full z (λ name nullable shape parts rest rf pf tf nf a q c f g df.
                 let i = fed a q c f in
                 let ct = ap (λ (x : Fields). count x) (i .types) in
                 let lt = ap (λ (x : Fields). length (labels x)) (i .types) in
                 let lm = row-labels (i .name) (i .own) (i .type .shape) (i .type .parts) (i .more) in
                 let ll = row-labels name nullable shape parts rest in
-                let one = first-type name (i .type) a (i .partner) (omega arith) in
+                let one = first-type name (i .type) a (i .partner) (omega arith) (differs name shape parts i df) in
                 let ra = one .records in
                 let rb = one .letters in
                 ⊎-elim (λ x. inl (omega arith)) (λ x. inr (omega arith)) (rest-means y Full k a q i (omega arith)));
           }
 
-      pub rows-done : (y y′ : List ℕ) (e′ : Spot) (next : ℕ) → Rowed both space (left - 1) swap s u y feed (h .next) r (row .next) d (Done e′)
-          → next ≡ cond (eqb (d .at) (e′ .at)) 0 (d .at) → Tied space y y′ (to .at) next → Rowed both space left swap s w y′ feed l r p to (Done e′)
+      pub rows-done : (y y′ : List ℕ) (e′ : Spot) (next : ℕ) → Rowed false named both space (left - 1) swap s u y feed (h .next) r (row .next) d (Done e′)
+          → next ≡ cond (eqb (d .at) (e′ .at)) 0 (d .at) → Tied space y y′ (to .at) next → Rowed known named both space left swap s w y′ feed l r p to (Done e′)
       unfolding count
       rows-done y y′ e′ next k en tied =
           record {
             kept = kept-trans (kept₃ y (Done e′) k) (tied-kept space y y′ (to .at) next tied (to .label) past);
             grows = (k .grows .0, (omega (arith, m .writes .passes .1 .0, k .grows .1 .0), omega (arith, m .writes .passes .1 .1, k .grows .1 .1)));
             means =
-                rows-means both space left swap s w feed l r p to y′ (Done e′) z (λ name nullable shape parts rest rf pf tf nf a q c f g.
+                rows-means known named both space left swap s w feed l r p to y′ (Done e′) z (λ name nullable shape parts rest rf pf tf nf a q c f g df.
                 let i = fed a q c f in
                 let ct = ap (λ (x : Fields). count x) (i .types) in
-                let one = first-type name (i .type) a (i .partner) (omega arith) in
+                let one = first-type name (i .type) a (i .partner) (omega arith) (differs name shape parts i df) in
                 rw (join-fed name nullable shape parts rest rf tf nf i)
                 (rw (one .common) (go (joinFields both rest (i .more) (i .nulls)) name (one .type) (one .wrote) _ _ _ _ (rest-means y (Done e′) k a q i (omega arith)))));
           }

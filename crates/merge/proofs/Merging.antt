@@ -15,13 +15,15 @@ use Rattle.sheet.proofs.Repeating.{head-is}
 use Rattle.coercion.specs.Data.{DataType, Rules, size, single}
 use Rattle.coercion.specs.Answers.{coercion}
 use Rattle.coercion.proofs.Shorter.{coercion-smaller, coercion-shorter}
-use Rattle.sheet.proofs.Tests.{all-at, all-cons, all-nil}
+use Rattle.sheet.proofs.Tests.{never, all-at, all-cons, all-nil}
 use Rattle.coercion.specs.Same.{sameType}
 use Rattle.buffers.specs.Source.{Source, SameTypes}
 use Rattle.buffers.specs.Writes.{side}
 use Rattle.buffers.specs.Region.{Room, Kept, Held, Inside, Ready, Wrote}
 use Rattle.buffers.specs.Goal.{letters, NoRoom, Means, Writes, CopiedType}
 use Rattle.buffers.specs.Typed.{Chain, Typed, Merges}
+use Rattle.buffers.specs.Part.{sameButPart, LoneParts}
+use Rattle.merge.specs.Merge.{Differ, MergesKnown}
 use Rattle.buffers.specs.declared.Space.{Space}
 use Rattle.buffers.specs.declared.Goal.{Goal}
 use Rattle.buffers.specs.declared.Out.{Out}
@@ -55,6 +57,12 @@ pub typed-same : {space : Space} {s t : List ℕ} {i j : ℕ} (named : Bool) {e 
 typed-same named f a b =
     f _ _ _ _ _ _ _ _ _ _ _ _ _ _ _ _ (source-lower 0 (omega arith) (a .chain .held .source)) (source-lower 0 (omega arith) (b .chain .held .source))
 
+-- two types that were compared but for the type of their part
+pub typed-lone : {space : Space} {s t : List ℕ} {i j : ℕ} (named : Bool) {e : Bool} {x y : DataType} → LoneParts s (space .n) i t (space .n) j named e → Typed space s i x → Typed space t j y
+    → e ≡ sameButPart named x y
+typed-lone named f a b =
+    f _ _ _ _ _ _ _ _ _ _ _ _ _ _ _ _ (source-lower 0 (omega arith) (a .chain .held .source)) (source-lower 0 (omega arith) (b .chain .held .source))
+
 -- the same meaning, for more room
 pub means-for : (space : Space) (w v : List ℕ) (g : Goal) {z y : ℕ} (z′ y′ : ℕ) (o : Out) {m m′ : Option DataType} → z ≤ z′ → y ≤ y′ → m ≡ m′ → Means space w v g z y o m
     → Means space w v g z′ y′ o m′
@@ -76,6 +84,23 @@ module _ {A : DataType → DataType → Option DataType} (B : DataType → DataT
       → Merges A space left swap s w v l r g o → Merges B space left′ swap s w v l r g o
   merges-as left′ h f m = merges-within left′ h (λ x y a b q. f x y a b) m
 
+  -- two types that may be known to differ
+  pub known-as : {known : Bool} (known′ : Bool) {named : Bool} {left : ℕ} (left′ : ℕ) → left′ ≤ left
+      → ((x y : DataType) → Typed space (side swap s w) l x → Typed space (side (not swap) s w) r y → Differ known′ named x y → (A x y ≡ B x y) × Differ known named x y)
+      → MergesKnown known named A space left swap s w v l r g o → MergesKnown known′ named B space left′ swap s w v l r g o
+  known-as known′ left′ h f m =
+      record {
+        writes = m .writes;
+        means =
+            λ x y a b q d.
+            means-for space w v g (size x + size y) (letters x + letters y) o (omega arith) (omega arith) (f x y a b d .0) (m .means x y a b (omega arith) (f x y a b d .1));
+      }
+
+  pub as-known : (known : Bool) {named : Bool} {left : ℕ} (left′ : ℕ) → left′ ≤ left
+      → ((x y : DataType) → Typed space (side swap s w) l x → Typed space (side (not swap) s w) r y → Differ known named x y → A x y ≡ B x y)
+      → Merges A space left swap s w v l r g o → MergesKnown known named B space left′ swap s w v l r g o
+  as-known known left′ h f m = known-as {known = false} known left′ h (λ x y a b d. (f x y a b d, λ k. never k)) (record { writes = m .writes; means = λ x y a b q d. m .means x y a b q })
+
   -- the sides exchanged
   pub merges-swapped : (left : ℕ) → ((x y : DataType) → Typed space (side swap s w) l x → Typed space (side (not swap) s w) r y → A y x ≡ B x y)
       → Merges A space left (not swap) s w v r l g o → Merges B space left swap s w v l r g o
@@ -87,6 +112,11 @@ module _ {A : DataType → DataType → Option DataType} (B : DataType → DataT
             means-for space w v g (size x + size y) (letters x + letters y) o (omega arith) (omega arith) (f x y a b)
             (m .means y x b (subst (λ (u : List ℕ). Typed space u l x) (sym (side-twice swap s w)) a) (omega arith));
       }
+
+-- two types of which nothing is known
+pub none-known : {named : Bool} {A : DataType → DataType → Option DataType} {space : Space} {left : ℕ} (swap : Bool) {s w v : List ℕ} {l r : ℕ} {g : Goal} {o : Out}
+    → MergesKnown false named A space left swap s w v l r g o → Merges A space left swap s w v l r g o
+none-known swap m = record { writes = m .writes; means = λ x y a b q. m .means x y a b q (λ k. never k) }
 
 module _ (B : DataType → DataType → Option DataType) (space : Space) (left : ℕ) (swap : Bool) (s w : List ℕ) (l r : ℕ) (g : Goal) where
   -- the left type as it is

@@ -269,29 +269,32 @@ pub ask-turns : (rules : Rules) (c : DataType → DataType → Option DataType) 
     → ask (rules .question) rules c l r ≡ cond (sameType (isListQuestion (rules .question)) l r) (some l) (turnsOf rules c l r)
 ask-turns rules c l r = turns-for c l r (rules .question) (rules .mask)
 
--- two types without parts, of which the other rules know nothing
-module _ (rules : Rules) (c : DataType → DataType → Option DataType) (l r : DataType) (h : l .shape .kind < 32) (g : r .shape .kind < 32) where
-  other : (n : ℕ) → 32 ≤ n → (t : DataType) → t .shape .kind < 32 → isOf n t ≡ false
+-- two types that are no wrappers
+module _ (rules : Rules) (c : DataType → DataType → Option DataType) (l r : DataType) (h : l .shape .kind < 37) (g : r .shape .kind < 37) where
+  other : (n : ℕ) → 37 ≤ n → (t : DataType) → t .shape .kind < 37 → isOf n t ≡ false
   other n p t q = ne-eqb (t .shape .kind) n (λ e. omega arith)
 
+  bare-resolved : nestedOf rules c l r ≡ resolved rules c l r
+  unfolding resolved
+  bare-resolved = rw (other 37 (omega arith) l h, other 37 (omega arith) r g, other 38 (omega arith) l h, other 38 (omega arith) r g)
+
+  bare-unwrapped : nestedOf rules c l r ≡ unwrapped rules c l r
+  unfolding unwrapped wrapperCoercion
+  bare-unwrapped = rw (other 37 (omega arith) l h, other 37 (omega arith) r g, other 38 (omega arith) l h, other 38 (omega arith) r g)
+
+  bare-for : (q : Question) → nestedOf rules c l r ≡ turnsFor q rules c l r
+  bare-for list = bare-resolved
+  bare-for union = bare-unwrapped
+  bare-for compare = bare-unwrapped
+
+  pub bare-turns : nestedOf rules c l r ≡ turnsOf rules c l r
+  bare-turns = bare-for (rules .question)
+
+-- two types without parts, of which the other rules know nothing
+module _ (rules : Rules) (c : DataType → DataType → Option DataType) (l r : DataType) (h : l .shape .kind < 32) (g : r .shape .kind < 32) where
   plain-nested : plainRules rules l r ≡ nestedOf rules c l r
   unfolding nestedOf between
-  plain-nested = rw (lt-leb 32 (l .shape .kind) h, other 35 (omega arith) l h, other 36 (omega arith) l h)
-
-  plain-resolved : plainRules rules l r ≡ resolved rules c l r
-  unfolding resolved
-  plain-resolved =
-      rw (other 37 (omega arith) l h, other 37 (omega arith) r g, other 38 (omega arith) l h, other 38 (omega arith) r g) plain-nested
-
-  plain-unwrapped : plainRules rules l r ≡ unwrapped rules c l r
-  unfolding unwrapped wrapperCoercion
-  plain-unwrapped =
-      rw (other 37 (omega arith) l h, other 37 (omega arith) r g, other 38 (omega arith) l h, other 38 (omega arith) r g) plain-nested
-
-  plain-for : (q : Question) → plainRules rules l r ≡ turnsFor q rules c l r
-  plain-for list = plain-resolved
-  plain-for union = plain-unwrapped
-  plain-for compare = plain-unwrapped
+  plain-nested = rw (lt-leb 32 (l .shape .kind) h, ne-eqb (l .shape .kind) 35 (λ e. omega arith), ne-eqb (l .shape .kind) 36 (λ e. omega arith))
 
   pub plain-turns : plainRules rules l r ≡ turnsOf rules c l r
-  plain-turns = plain-for (rules .question)
+  plain-turns = plain-nested ∙ bare-turns rules c l r (omega arith) (omega arith)

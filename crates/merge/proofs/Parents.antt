@@ -14,6 +14,7 @@ use Rattle.sheet.specs.Head.{headAt, nullableIn, sortedIn}
 use Rattle.sheet.specs.Encode.{linkTo}
 use Rattle.sheet.specs.Holds.{Stands, Holds}
 use Rattle.sheet.specs.declared.Head.{Head}
+use Rattle.sheet.proofs.Tests.{never}
 use Rattle.coercion.specs.Data.{DataType, size, andThen}
 use Rattle.coercion.specs.Nested.{joinFields, listOf, structCoercion, entryType, entryOf, mapShape}
 use Rattle.coercion.proofs.Maybe.{If, if-then}
@@ -131,21 +132,21 @@ link-is {l = l} at end a = rw (eq-eqb l 0 (chain-link refl a)) refl
 link-is {l = l} at (field name nullable shape parts rest) a = rw (ne-eqb l 0 (λ e. omega (arith, chain-some a))) refl
 
 -- the record of a type with parts, and the merged rows
-module _ (c : DataType → DataType → Option DataType) (space : Space) (left : ℕ) (swap : Bool) (s w : List ℕ) (feed : Feed) (l r p : ℕ) (g : Goal) where
-  pub under-full : (shape : Shape) → space .n ≤ g .at → Under c space left swap s w w feed shape l r p g Full
-  under-full shape h = record { writes = no-record space w g h; means = λ lf rf pf tf nf a b q f k. inl (omega arith) }
+module _ {known named : Bool} (c : DataType → DataType → Option DataType) (space : Space) (left : ℕ) (swap : Bool) (s w : List ℕ) (feed : Feed) (l r p : ℕ) (g : Goal) where
+  pub under-full : (shape : Shape) → space .n ≤ g .at → Under known named c space left swap s w w feed shape l r p g Full
+  under-full shape h = record { writes = no-record space w g h; means = λ lf rf pf tf nf a b q f k d. inl (omega arith) }
 
   pub under-on : (v u : List ℕ) (o : Out) {kind sz first : ℕ} → Room w space → Ready space g → g .at < space .n → first ≡ cond (eqb l 0) 0 (g .at + 1)
-      → Laid space w v g (shapeFor kind 0 0 sz false) first → Rowed c space left swap s v u feed l r p (after g) o
-      → Under c space left swap s w u feed (shapeFor kind 0 0 sz false) l r p g o
+      → Laid space w v g (shapeFor kind 0 0 sz false) first → Rowed known named c space left swap s v u feed l r p (after g) o
+      → Under known named c space left swap s w u feed (shapeFor kind 0 0 sz false) l r p g o
   under-on v u o room ready lt e laid rows =
       record {
         writes = writes-on g o (laid .kept) (after-passes g ready lt) (rows .kept) (rows .grows);
         means =
-            λ lf rf pf tf nf a b q f h.
+            λ lf rf pf tf nf a b q f h d.
             means-for space w u g (1 + count lf + count tf) (length (labels lf) + length (labels tf)) o (omega arith) (omega arith) refl
             (parent-means u _ _ o (joinFields c lf tf nf) (parent-laid laid) (linked lf tf nf (e ∙ link-is (g .at) lf a)) (rows .kept)
-            (rows .means lf rf pf tf nf (over swap a) (over (not swap) b) (over (not swap) q) f h));
+            (rows .means lf rf pf tf nf (over swap a) (over (not swap) b) (over (not swap) q) f h d));
       }
     where
       linked : {first : ℕ} (lf tf nf : Fields) → first ≡ linkTo (g .at + 1) lf → If (λ parts. first ≡ linkTo (g .at + 1) parts) (joinFields c lf tf nf)
@@ -167,10 +168,10 @@ head-crowded B space left swap s w l r g h eh v m =
     }
 
 -- two wrappers: the left's record was copied, and the parts of both were merged
-module _ (c : DataType → DataType → Option DataType) (space : Space) (left : ℕ) (swap : Bool) (s w : List ℕ) (l r : ℕ) (g : Goal) (room : Room w space) (h k : Head)
+module _ {named : Bool} (c : DataType → DataType → Option DataType) (space : Space) (left : ℕ) (swap : Bool) (s w : List ℕ) (l r : ℕ) (g : Goal) (room : Room w space) (h k : Head)
     (eh : h ≡ headAt (side swap s w) l) (ek : k ≡ headAt (side (not swap) s w) r) (v : List ℕ) where
   pub both-on : (d : Spot) (u : List ℕ) (o : Out) → CopiedHead space (side swap s w) w v h l g 0 (Done d)
-      → Rowed c space left swap s v u Feed.Own (h .first) (k .first) (k .first) d o → Merges (bothWrapped c) space (left + 1) swap s w u l r g o
+      → Rowed false named c space left swap s v u Feed.Own (h .first) (k .first) (k .first) d o → Merges (bothWrapped c) space (left + 1) swap s w u l r g o
   both-on d u o m rows =
       record {
         writes = writes-on g o (m .kept) (m .passes) (rows .kept) (rows .grows);
@@ -179,7 +180,7 @@ module _ (c : DataType → DataType → Option DataType) (space : Space) (left :
             means-for space w u g (size x + size y) (letters x + letters y) o (omega arith) (omega arith) refl
             (parent-means u _ _ o (joinFields c (x .parts) (y .parts) (x .parts)) (parent-copied eh m (a .chain)) (join-link c (g .at + 1) (x .parts) (y .parts) (x .parts)) (rows .kept)
             (rows .means (x .parts) (y .parts) (y .parts) (y .parts) (x .parts) (over swap (chain-first h eh (a .chain))) (over (not swap) (chain-first k ek (b .chain)))
-            (over (not swap) (chain-first k ek (b .chain))) (refl, refl) (omega arith)));
+            (over (not swap) (chain-first k ek (b .chain))) (refl, refl) (omega arith) (λ k. never k)));
       }
     where
       over : (way : Bool) {i : ℕ} {t : Fields} → Chain space (side way s w) i t → Chain space (side way s v) i t

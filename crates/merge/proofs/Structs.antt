@@ -11,7 +11,7 @@ use Rattle.sheet.specs.Types.{Fields, arity}
 use Rattle.sheet.specs.Head.{headAt}
 use Rattle.sheet.specs.Names.{repeats, namesDiffer}
 use Rattle.sheet.specs.declared.Head.{Head}
-use Rattle.sheet.proofs.Tests.{all-at, and-fst, and-snd}
+use Rattle.sheet.proofs.Tests.{never, all-at, and-fst, and-snd}
 use Rattle.coercion.specs.Data.{DataType, size}
 use Rattle.coercion.specs.Wrappers.{isOf}
 use Rattle.coercion.specs.Nested.{joinFields, byName, fieldsHaveSameNames, partners, listOf, structOf, structCoercion}
@@ -81,7 +81,7 @@ module _ (c : DataType → DataType → Option DataType) (space : Space) (left :
     names {X} {Y} a b = fn _ _ _ (X .parts) (Y .parts) (held-first (a .chain .held) x ex) (chain-first y ey (b .chain))
 
     module _ (h : ((eqb (x .kind) 35 && eqb (y .kind) 35) && alike) ≡ true) (v : List ℕ) (o : Out) where
-      pub struct-named : named ≡ true → Under c space left swap s w v Feed.Name (shapeFor 35 0 0 0 false) (x .first) (y .first) (y .first) g o
+      pub struct-named : {by-names : Bool} → named ≡ true → Under false by-names c space left swap s w v Feed.Name (shapeFor 35 0 0 0 false) (x .first) (y .first) (y .first) g o
           → Merges (structCoercion c) space (left + 1) swap s w v l r g o
       struct-named e u =
           record {
@@ -96,10 +96,10 @@ module _ (c : DataType → DataType → Option DataType) (space : Space) (left :
                 (struct-by-name c X Y (f .fields) (kinds a b ∙ h) n (f .is))
                 (u .means (X .parts) (Y .parts) (Y .parts) (f .fields) (f .fields) (chain-first x ex (a .chain)) right right
                 (f .is, (refl, ((end-self (Y .parts), struct-differ (right-kind a b h) b), sym (eqb-true _ _ (sym (arities a b) ∙ and-snd (eqb (x .kind) 35 && eqb (y .kind) 35) alike h)))))
-                (omega (arith, fits .0)));
+                (omega (arith, fits .0)) (λ k. never k));
           }
 
-      pub struct-placed : named ≡ false → Under c space left swap s w v Feed.Place (shapeFor 35 0 0 0 false) (x .first) (y .first) (y .first) g o
+      pub struct-placed : {by-names : Bool} → named ≡ false → Under false by-names c space left swap s w v Feed.Place (shapeFor 35 0 0 0 false) (x .first) (y .first) (y .first) g o
           → Merges (structCoercion c) space (left + 1) swap s w v l r g o
       unfolding structCoercion partners
       struct-placed e u =
@@ -111,7 +111,7 @@ module _ (c : DataType → DataType → Option DataType) (space : Space) (left :
                 let right = chain-first y ey (b .chain) in
                 means-for space w v g (size X + size Y) (letters X + letters Y) o (omega arith) (omega arith)
                 (struct-list (joinFields c (X .parts) (Y .parts) (Y .parts)) ∙ rw (kinds a b ∙ h) (rw n refl))
-                (u .means (X .parts) (Y .parts) (Y .parts) (Y .parts) (Y .parts) (chain-first x ex (a .chain)) right right (refl, refl) (omega arith));
+                (u .means (X .parts) (Y .parts) (Y .parts) (Y .parts) (Y .parts) (chain-first x ex (a .chain)) right right (refl, refl) (omega arith) (λ k. never k));
           }
 
     -- two structs of a list
@@ -122,8 +122,8 @@ module _ (c : DataType → DataType → Option DataType) (space : Space) (left :
         go true e X Y a b = rw (sym (arities a b) ∙ e) (rw (names-missing (X .parts) (Y .parts) (sym (names a b) ∙ rw e at h)) refl)
         go false e X Y a b = rw (sym (arities a b) ∙ e) refl
 
-    pub listed-merged : (alike && named) ≡ true → headAt (side swap s w) l .kind ≡ 35 → headAt (side (not swap) s w) r .kind ≡ 35 → (v : List ℕ) (o : Out)
-        → Under c space left swap s w v Feed.NameThenPlace (shapeFor 35 0 0 0 false) (x .first) (y .first) (y .first) g o → Merges (listStruct c) space (left + 1) swap s w v l r g o
+    pub listed-merged : {by-names : Bool} → (alike && named) ≡ true → headAt (side swap s w) l .kind ≡ 35 → headAt (side (not swap) s w) r .kind ≡ 35 → (v : List ℕ) (o : Out)
+        → Under false by-names c space left swap s w v Feed.NameThenPlace (shapeFor 35 0 0 0 false) (x .first) (y .first) (y .first) g o → Merges (listStruct c) space (left + 1) swap s w v l r g o
     listed-merged h k k′ v o u =
         record {
           writes = u .writes;
@@ -136,5 +136,5 @@ module _ (c : DataType → DataType → Option DataType) (space : Space) (left :
               means-for space w v g (size X + size Y) (letters X + letters Y) o (omega (arith, fits .0)) (omega (arith, fits .1))
               (struct-list (joinFields c (X .parts) (f .fields) (Y .parts)) ∙ rw (sym (arities a b) ∙ and-fst alike named h) (rw (f .is) refl))
               (u .means (X .parts) (Y .parts) (Y .parts) (f .fields) (Y .parts) (chain-first x ex (a .chain)) right right
-              (f .is, (refl, (end-self (Y .parts), struct-differ (typed-reads b refl .kind ∙ k′) b))) (omega (arith, fits .0)));
+              (f .is, (refl, (end-self (Y .parts), struct-differ (typed-reads b refl .kind ∙ k′) b))) (omega (arith, fits .0)) (λ k. never k));
         }

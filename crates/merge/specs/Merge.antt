@@ -1,23 +1,39 @@
 -- What the merge of two fields and of two chains says, whatever types stand at its links.
 use mathlib.Core.Path.{_≡_}
 use Prim.Native.Nat.{ℕ, _+_, _≤_}
-use mathlib.Core.Bool.{Bool, not}
+use mathlib.Core.Bool.{Bool, true, false, not}
 use mathlib.Core.List.{List}
 use mathlib.Core.Option.{Option, none, some}
 use lib.ListN.{length}
 use Rattle.sheet.specs.Types.{Shape, Fields, end, field, count, labels}
 use Rattle.coercion.specs.Data.{DataType, size}
+use Rattle.coercion.specs.Same.{sameType}
 use Rattle.coercion.specs.Nested.{before, joinFields, listOf}
 use Rattle.buffers.specs.Writes.{side}
 use Rattle.buffers.specs.Region.{Kept, Grows}
 use Rattle.buffers.specs.Goal.{letters, Means, Writes}
 use Rattle.buffers.specs.Typed.{Chain, Typed, ChainIs}
 use Rattle.buffers.specs.Feeds.{Feeds}
+use Rattle.buffers.specs.Part.{sameFirst}
 use Rattle.buffers.specs.declared.Space.{Space}
 use Rattle.buffers.specs.declared.Spot.{Spot}
 use Rattle.buffers.specs.declared.Goal.{Goal}
 use Rattle.buffers.specs.declared.Out.{Out}
 use Rattle.buffers.specs.declared.Feed.{Feed}
+
+-- two types are not the same, where that is known
+abbrev pub Differ : Bool → Bool → DataType → DataType → Type 0
+Differ known named x y = known ≡ true → sameType named x y ≡ false
+
+-- what the test for sameness says of two types that may be known to differ
+abbrev pub SameKnown : Bool → Bool → Space → List ℕ → ℕ → List ℕ → ℕ → Bool → Type 0
+SameKnown known named space s l t r e = (x y : DataType) → Typed space s l x → Typed space t r y → Differ known named x y → e ≡ sameType named x y
+
+-- two types that may be known to differ were merged as a rule says, where no more than `left` records are left in both
+pub record MergesKnown (known named : Bool) (answer : DataType → DataType → Option DataType) (space : Space) (left : ℕ) (swap : Bool) (s w v : List ℕ) (l r : ℕ) (g : Goal) (o : Out) : Type 0 where
+  pub writes : Writes space w v g o
+  pub means : (x y : DataType) → Typed space (side swap s w) l x → Typed space (side (not swap) s w) r y → size x + size y ≤ left → Differ known named x y
+      → Means space w v g (size x + size y) (letters x + letters y) o (answer x y)
 
 -- a type as a field
 abbrev pub fieldOf : List ℕ → Bool → Option DataType → Option Fields
@@ -32,17 +48,17 @@ pub record MergesField (answer : DataType → DataType → Option DataType) (spa
       → Typed space (side (not swap) s w) r y → size x + size y ≤ left
       → ChainIs space v to (size x + size y) (length name + letters x + letters y) o (fieldOf name nullable (answer x y))
 
--- the rows of two chains were merged
-pub record Rowed (coerce : DataType → DataType → Option DataType) (space : Space) (left : ℕ) (swap : Bool) (s w v : List ℕ) (feed : Feed) (l r p : ℕ) (to : Spot) (o : Out) : Type 0 where
+-- the rows of two chains were merged, where the types of the first row may be known to differ
+pub record Rowed (known named : Bool) (coerce : DataType → DataType → Option DataType) (space : Space) (left : ℕ) (swap : Bool) (s w v : List ℕ) (feed : Feed) (l r p : ℕ) (to : Spot) (o : Out) : Type 0 where
   pub kept : Kept space w v (to .at) (to .label)
   pub grows : Grows space to o
   pub means : (lf rf pf tf nf : Fields) → Chain space (side swap s w) l lf → Chain space (side (not swap) s w) r rf → Chain space (side (not swap) s w) p pf
-      → Feeds feed lf rf pf tf nf → count lf + count tf ≤ left
+      → Feeds feed lf rf pf tf nf → count lf + count tf ≤ left → (known ≡ true → sameFirst named lf tf ≡ false)
       → ChainIs space v to (count lf + count tf) (length (labels lf) + length (labels tf)) o (joinFields coerce lf tf nf)
 
 -- the record of a type with parts, and the merged rows under it
-pub record Under (coerce : DataType → DataType → Option DataType) (space : Space) (left : ℕ) (swap : Bool) (s w v : List ℕ) (feed : Feed) (shape : Shape) (l r p : ℕ) (g : Goal) (o : Out) : Type 0 where
+pub record Under (known named : Bool) (coerce : DataType → DataType → Option DataType) (space : Space) (left : ℕ) (swap : Bool) (s w v : List ℕ) (feed : Feed) (shape : Shape) (l r p : ℕ) (g : Goal) (o : Out) : Type 0 where
   pub writes : Writes space w v g o
   pub means : (lf rf pf tf nf : Fields) → Chain space (side swap s w) l lf → Chain space (side (not swap) s w) r rf → Chain space (side (not swap) s w) p pf
-      → Feeds feed lf rf pf tf nf → count lf + count tf ≤ left
+      → Feeds feed lf rf pf tf nf → count lf + count tf ≤ left → (known ≡ true → sameFirst named lf tf ≡ false)
       → Means space w v g (1 + count lf + count tf) (length (labels lf) + length (labels tf)) o (listOf shape (joinFields coerce lf tf nf))

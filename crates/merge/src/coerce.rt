@@ -13,7 +13,7 @@ ghost use Rattle.buffers.specs.Plain.{asked, rulesOf, isListQuestion};
 ghost use Rattle.wrappers.specs.Ways.{isWrapper};
 ghost use Rattle.merge.specs.Turns.{resolved, unwrapped, eitherWrapped, nestedOf, bothWrapped, rewrapped, listRule, mapRule};
 ghost use Rattle.buffers.specs.Typed.{Merges};
-ghost use Rattle.merge.specs.Merge.{MergesField, Rowed, Under};
+ghost use Rattle.merge.specs.Merge.{MergesKnown, SameKnown, MergesField, Rowed, Under};
 use buffers::Feed;
 use buffers::Goal;
 use buffers::Out;
@@ -35,6 +35,7 @@ use buffers::lay::tie;
 use buffers::names::have_same_names;
 use buffers::names::row;
 use buffers::names::same_arity;
+use buffers::part::sides_but_part;
 use buffers::plain::is_list_question;
 use buffers::plain::list_kind;
 use buffers::plain::list_size;
@@ -63,11 +64,43 @@ pub fn coerce(
     requires { ⌜ Room (now work) space × Ready space g ⌝ }
     ensures { λ o. ⌜ Merges (coercion (rulesOf question mask)) space left swap (now (sheet .entry)) (now (work .entry)) (now (work .exit)) l r g o ⌝ }
 {
+    common(
+        sheet,
+        work,
+        space,
+        question,
+        mask,
+        left,
+        swap,
+        false,
+        l,
+        r,
+        g,
+    )
+}
+
+// The common type of two types that may be known to differ, or none.
+fn common(
+    sheet: &[u8],
+    work: &mut [u8],
+    space: Space,
+    question: Question,
+    mask: u64,
+    left: usize,
+    swap: bool,
+    known: bool,
+    l: usize,
+    r: usize,
+    g: Goal,
+) -> Out
+    requires { ⌜ Room (now work) space × Ready space g ⌝ }
+    ensures { λ o. ⌜ MergesKnown known (isListQuestion (asked question)) (coercion (rulesOf question mask)) space left swap (now (sheet .entry)) (now (work .entry)) (now (work .exit)) l r g o ⌝ }
+{
     if left == 0 {
         return Out::No;
     }
     let list = is_list_question(question);
-    if same_sides(sheet, &*work, space.n, swap, l, r, list) {
+    if are_same(sheet, &*work, space, swap, known, l, r, list) {
         return copy_type(sheet, work, space, swap, l, g);
     }
     let k = kind_at(sheet, &*work, swap, l);
@@ -75,10 +108,45 @@ pub fn coerce(
     if both(k < 32, j < 32) {
         return plain_rule(sheet, work, space, question, mask, swap, l, r, g);
     }
+    if both(k < 37, j < 37) {
+        return nested(
+            sheet,
+            work,
+            space,
+            question,
+            mask,
+            left - 1,
+            swap,
+            true,
+            l,
+            r,
+            g,
+        );
+    }
     if list {
         return resolve(sheet, work, space, question, mask, left - 1, swap, l, r, g);
     }
     unwrap(sheet, work, space, question, mask, left - 1, swap, l, r, g)
+}
+
+// Whether two types are the same; they are not compared where they are known to differ.
+fn are_same(
+    sheet: &[u8],
+    work: &[u8],
+    space: Space,
+    swap: bool,
+    known: bool,
+    l: usize,
+    r: usize,
+    named: bool,
+) -> bool
+    requires { ⌜ space .n < 65536 ⌝ }
+    ensures { λ e. ⌜ SameKnown known named space (side swap (now (sheet .entry)) (now (work .entry))) l (side (not swap) (now (sheet .entry)) (now (work .entry))) r e ⌝ }
+{
+    if known {
+        return false;
+    }
+    same_sides(sheet, work, space.n, swap, l, r, named)
 }
 
 // The rules of a list, after the test for sameness.
@@ -105,7 +173,19 @@ fn resolve(
     if either(k == 38, j == 38) {
         return resolve_wrapper(sheet, work, space, question, mask, left, swap, 38, l, r, g);
     }
-    nested(sheet, work, space, question, mask, left, swap, l, r, g)
+    nested(
+        sheet,
+        work,
+        space,
+        question,
+        mask,
+        left,
+        swap,
+        false,
+        l,
+        r,
+        g,
+    )
 }
 
 // Two types of a list, of which one at least is a wrapper of a kind.
@@ -196,6 +276,7 @@ fn both_parts(
             mask,
             left,
             swap,
+            false,
             Feed::Own,
             a,
             b,
@@ -324,7 +405,19 @@ fn unwrap(
         g,
     ) {
         Out::Done(d) => Out::Done(d),
-        Out::No => nested(sheet, work, space, question, mask, left, swap, l, r, g),
+        Out::No => nested(
+            sheet,
+            work,
+            space,
+            question,
+            mask,
+            left,
+            swap,
+            false,
+            l,
+            r,
+            g,
+        ),
         Out::Full => Out::Full,
     }
 }
@@ -369,7 +462,7 @@ fn wrapper(
     Out::No
 }
 
-// Two types that are no wrappers: lists, structs, maps, and types without parts.
+// Two types that are no wrappers, and may be known to differ: lists, structs, maps, and types without parts.
 fn nested(
     sheet: &[u8],
     work: &mut [u8],
@@ -378,17 +471,30 @@ fn nested(
     mask: u64,
     left: usize,
     swap: bool,
+    known: bool,
     l: usize,
     r: usize,
     g: Goal,
 ) -> Out
     requires { ⌜ Room (now work) space × Ready space g ⌝ }
-    ensures { λ o. ⌜ Merges (nestedOf (rulesOf question mask) (coercion (rulesOf question mask))) space (left + 1) swap (now (sheet .entry)) (now (work .entry)) (now (work .exit)) l r g o ⌝ }
+    ensures { λ o. ⌜ MergesKnown known (isListQuestion (asked question)) (nestedOf (rulesOf question mask) (coercion (rulesOf question mask))) space (left + 1) swap (now (sheet .entry)) (now (work .entry)) (now (work .exit)) l r g o ⌝ }
 {
     let k = kind_at(sheet, &*work, swap, l);
     let j = kind_at(sheet, &*work, !swap, r);
     if both(is_list(k), is_list(j)) {
-        return list_rule(sheet, work, space, question, mask, left, swap, l, r, g);
+        return list_rule(
+            sheet,
+            work,
+            space,
+            question,
+            mask,
+            left,
+            swap,
+            known,
+            l,
+            r,
+            g,
+        );
     }
     if both(k == 35, j == 35) {
         if is_list_question(question) {
@@ -411,6 +517,7 @@ fn under(
     mask: u64,
     left: usize,
     swap: bool,
+    known: bool,
     feed: Feed,
     kind: u8,
     size: usize,
@@ -420,7 +527,7 @@ fn under(
     g: Goal,
 ) -> Out
     requires { ⌜ (Room (now work) space × Ready space g) × (size < 4294967296) ⌝ }
-    ensures { λ o. ⌜ Under (coercion (rulesOf question mask)) space left swap (now (sheet .entry)) (now (work .entry)) (now (work .exit)) feed (shapeFor kind 0 0 size false) l r p g o ⌝ }
+    ensures { λ o. ⌜ Under known (isListQuestion (asked question)) (coercion (rulesOf question mask)) space left swap (now (sheet .entry)) (now (work .entry)) (now (work .exit)) feed (shapeFor kind 0 0 size false) l r p g o ⌝ }
 {
     let at = g.at;
     let label = g.label + g.nlen;
@@ -436,6 +543,7 @@ fn under(
         mask,
         left,
         swap,
+        known,
         feed,
         l,
         r,
@@ -444,7 +552,7 @@ fn under(
     )
 }
 
-// `list_coercion`, of two lists.
+// `list_coercion`, of two lists. Where they are known to differ, and do so in the type of their part alone, that is known of that type.
 fn list_rule(
     sheet: &[u8],
     work: &mut [u8],
@@ -453,12 +561,13 @@ fn list_rule(
     mask: u64,
     left: usize,
     swap: bool,
+    known: bool,
     l: usize,
     r: usize,
     g: Goal,
 ) -> Out
     requires { ⌜ Room (now work) space × Ready space g ⌝ }
-    ensures { λ o. ⌜ Merges (listRule (coercion (rulesOf question mask))) space (left + 1) swap (now (sheet .entry)) (now (work .entry)) (now (work .exit)) l r g o ⌝ }
+    ensures { λ o. ⌜ MergesKnown known (isListQuestion (asked question)) (listRule (coercion (rulesOf question mask))) space (left + 1) swap (now (sheet .entry)) (now (work .entry)) (now (work .exit)) l r g o ⌝ }
 {
     let x = look(sheet, &*work, swap, l);
     let y = look(sheet, &*work, !swap, r);
@@ -466,6 +575,11 @@ fn list_rule(
     let size = list_size(x, y);
     let a = x.first;
     let b = y.first;
+    let list = is_list_question(question);
+    let apart = both(
+        known,
+        sides_but_part(sheet, &*work, space.n, swap, l, r, list),
+    );
     under(
         sheet,
         work,
@@ -474,6 +588,7 @@ fn list_rule(
         mask,
         left,
         swap,
+        apart,
         Feed::Place,
         kind,
         size,
@@ -517,6 +632,7 @@ fn struct_rule(
                 mask,
                 left,
                 swap,
+                false,
                 Feed::Name,
                 35,
                 0,
@@ -534,6 +650,7 @@ fn struct_rule(
             mask,
             left,
             swap,
+            false,
             Feed::Place,
             35,
             0,
@@ -577,6 +694,7 @@ fn list_struct(
             mask,
             left,
             swap,
+            false,
             Feed::NameThenPlace,
             35,
             0,
@@ -676,6 +794,7 @@ fn rows(
     mask: u64,
     left: usize,
     swap: bool,
+    known: bool,
     feed: Feed,
     l: usize,
     r: usize,
@@ -683,7 +802,7 @@ fn rows(
     to: Spot,
 ) -> Out
     requires { ⌜ Room (now work) space × Inside space to ⌝ }
-    ensures { λ o. ⌜ Rowed (coercion (rulesOf question mask)) space left swap (now (sheet .entry)) (now (work .entry)) (now (work .exit)) feed l r p to o ⌝ }
+    ensures { λ o. ⌜ Rowed known (isListQuestion (asked question)) (coercion (rulesOf question mask)) space left swap (now (sheet .entry)) (now (work .entry)) (now (work .exit)) feed l r p to o ⌝ }
 {
     if l == 0 {
         return row_end(p, to);
@@ -710,7 +829,7 @@ fn rows(
         nlen,
         nullable: row.nullable,
     };
-    match coerce(
+    match common(
         sheet,
         work,
         space,
@@ -718,6 +837,7 @@ fn rows(
         mask,
         left,
         swap,
+        known,
         l,
         partner,
         g,
@@ -730,6 +850,7 @@ fn rows(
             mask,
             left - 1,
             swap,
+            false,
             feed,
             next,
             r,

@@ -6,8 +6,8 @@ use borrow.Author.Tests.{not-true, not-false}
 use Rattle.buffers.proofs.Chained.{room-kept}
 use Rattle.buffers.proofs.Fielding.{field-ready}
 use Rattle.merge.proofs.Joining.{rows-end, rows-spent, rows-unfed, rows-crowded, rows-none, rows-full, rows-rest-none, rows-rest-full, rows-done}
-use Rattle.merge.proofs.Asking.{coerce-spent, coerce-same, coerce-plain, coerce-list, coerce-pair}
-use Rattle.merge.proofs.Merging.{merges-full}
+use Rattle.merge.proofs.Asking.{coerce-spent, coerce-same, coerce-plain, coerce-bare, coerce-list, coerce-pair}
+use Rattle.merge.proofs.Merging.{none-known, merges-full}
 use Rattle.buffers.proofs.Tying.{tied-kept}
 use Rattle.merge.proofs.Rewrapping.{index-none, index-full, value-none, value-full, wrapper-on}
 use Rattle.merge.proofs.Parents.{under-full, under-on, head-crowded, both-on, field-crowded, field-merged, map-left-end, map-right-end, map-on, after-passes}
@@ -18,52 +18,55 @@ use borrow.Fn.Kinds.{In}
 use borrow.Fn.PlainCycle.{Measures, is, falls, and}
 use Rattle.merge.proofs.coerce.both_parts.Reads as both-parts
 use Rattle.merge.proofs.coerce.both_parts.Kinds as both-parts-kinds
-use Rattle.merge.proofs.coerce.+both_parts+coerce+coerce_field+entry+list_rule+list_struct+map_rule+nested+resolve+resolve_wrapper+rewrapped+rows+struct_rule+under+unwrap+wrapper.Lts-both_parts as both-parts-lts
+use Rattle.merge.proofs.coerce.+both_parts+coerce+coerce_field+common+entry+list_rule+list_struct+map_rule+nested+resolve+resolve_wrapper+rewrapped+rows+struct_rule+under+unwrap+wrapper.Lts-both_parts as both-parts-lts
 use Rattle.merge.proofs.coerce.coerce.Reads as coerce
 use Rattle.merge.proofs.coerce.coerce.Kinds as coerce-kinds
-use Rattle.merge.proofs.coerce.+both_parts+coerce+coerce_field+entry+list_rule+list_struct+map_rule+nested+resolve+resolve_wrapper+rewrapped+rows+struct_rule+under+unwrap+wrapper.Lts-coerce as coerce-lts
+use Rattle.merge.proofs.coerce.+both_parts+coerce+coerce_field+common+entry+list_rule+list_struct+map_rule+nested+resolve+resolve_wrapper+rewrapped+rows+struct_rule+under+unwrap+wrapper.Lts-coerce as coerce-lts
 use Rattle.merge.proofs.coerce.coerce_field.Reads as coerce-field
 use Rattle.merge.proofs.coerce.coerce_field.Kinds as coerce-field-kinds
-use Rattle.merge.proofs.coerce.+both_parts+coerce+coerce_field+entry+list_rule+list_struct+map_rule+nested+resolve+resolve_wrapper+rewrapped+rows+struct_rule+under+unwrap+wrapper.Lts-coerce_field as coerce-field-lts
+use Rattle.merge.proofs.coerce.+both_parts+coerce+coerce_field+common+entry+list_rule+list_struct+map_rule+nested+resolve+resolve_wrapper+rewrapped+rows+struct_rule+under+unwrap+wrapper.Lts-coerce_field as coerce-field-lts
+use Rattle.merge.proofs.coerce.common.Reads as common
+use Rattle.merge.proofs.coerce.common.Kinds as common-kinds
+use Rattle.merge.proofs.coerce.+both_parts+coerce+coerce_field+common+entry+list_rule+list_struct+map_rule+nested+resolve+resolve_wrapper+rewrapped+rows+struct_rule+under+unwrap+wrapper.Lts-common as common-lts
 use Rattle.merge.proofs.coerce.entry.Reads as entry
 use Rattle.merge.proofs.coerce.entry.Kinds as entry-kinds
-use Rattle.merge.proofs.coerce.+both_parts+coerce+coerce_field+entry+list_rule+list_struct+map_rule+nested+resolve+resolve_wrapper+rewrapped+rows+struct_rule+under+unwrap+wrapper.Lts-entry as entry-lts
+use Rattle.merge.proofs.coerce.+both_parts+coerce+coerce_field+common+entry+list_rule+list_struct+map_rule+nested+resolve+resolve_wrapper+rewrapped+rows+struct_rule+under+unwrap+wrapper.Lts-entry as entry-lts
 use Rattle.merge.proofs.coerce.list_rule.Reads as list-rule
 use Rattle.merge.proofs.coerce.list_rule.Kinds as list-rule-kinds
-use Rattle.merge.proofs.coerce.+both_parts+coerce+coerce_field+entry+list_rule+list_struct+map_rule+nested+resolve+resolve_wrapper+rewrapped+rows+struct_rule+under+unwrap+wrapper.Lts-list_rule as list-rule-lts
+use Rattle.merge.proofs.coerce.+both_parts+coerce+coerce_field+common+entry+list_rule+list_struct+map_rule+nested+resolve+resolve_wrapper+rewrapped+rows+struct_rule+under+unwrap+wrapper.Lts-list_rule as list-rule-lts
 use Rattle.merge.proofs.coerce.list_struct.Reads as list-struct
 use Rattle.merge.proofs.coerce.list_struct.Kinds as list-struct-kinds
-use Rattle.merge.proofs.coerce.+both_parts+coerce+coerce_field+entry+list_rule+list_struct+map_rule+nested+resolve+resolve_wrapper+rewrapped+rows+struct_rule+under+unwrap+wrapper.Lts-list_struct as list-struct-lts
+use Rattle.merge.proofs.coerce.+both_parts+coerce+coerce_field+common+entry+list_rule+list_struct+map_rule+nested+resolve+resolve_wrapper+rewrapped+rows+struct_rule+under+unwrap+wrapper.Lts-list_struct as list-struct-lts
 use Rattle.merge.proofs.coerce.map_rule.Reads as map-rule
 use Rattle.merge.proofs.coerce.map_rule.Kinds as map-rule-kinds
-use Rattle.merge.proofs.coerce.+both_parts+coerce+coerce_field+entry+list_rule+list_struct+map_rule+nested+resolve+resolve_wrapper+rewrapped+rows+struct_rule+under+unwrap+wrapper.Lts-map_rule as map-rule-lts
+use Rattle.merge.proofs.coerce.+both_parts+coerce+coerce_field+common+entry+list_rule+list_struct+map_rule+nested+resolve+resolve_wrapper+rewrapped+rows+struct_rule+under+unwrap+wrapper.Lts-map_rule as map-rule-lts
 use Rattle.merge.proofs.coerce.nested.Reads as nested
 use Rattle.merge.proofs.coerce.nested.Kinds as nested-kinds
-use Rattle.merge.proofs.coerce.+both_parts+coerce+coerce_field+entry+list_rule+list_struct+map_rule+nested+resolve+resolve_wrapper+rewrapped+rows+struct_rule+under+unwrap+wrapper.Lts-nested as nested-lts
+use Rattle.merge.proofs.coerce.+both_parts+coerce+coerce_field+common+entry+list_rule+list_struct+map_rule+nested+resolve+resolve_wrapper+rewrapped+rows+struct_rule+under+unwrap+wrapper.Lts-nested as nested-lts
 use Rattle.merge.proofs.coerce.resolve.Reads as resolve
 use Rattle.merge.proofs.coerce.resolve.Kinds as resolve-kinds
-use Rattle.merge.proofs.coerce.+both_parts+coerce+coerce_field+entry+list_rule+list_struct+map_rule+nested+resolve+resolve_wrapper+rewrapped+rows+struct_rule+under+unwrap+wrapper.Lts-resolve as resolve-lts
+use Rattle.merge.proofs.coerce.+both_parts+coerce+coerce_field+common+entry+list_rule+list_struct+map_rule+nested+resolve+resolve_wrapper+rewrapped+rows+struct_rule+under+unwrap+wrapper.Lts-resolve as resolve-lts
 use Rattle.merge.proofs.coerce.resolve_wrapper.Reads as resolve-wrapper
 use Rattle.merge.proofs.coerce.resolve_wrapper.Kinds as resolve-wrapper-kinds
-use Rattle.merge.proofs.coerce.+both_parts+coerce+coerce_field+entry+list_rule+list_struct+map_rule+nested+resolve+resolve_wrapper+rewrapped+rows+struct_rule+under+unwrap+wrapper.Lts-resolve_wrapper as resolve-wrapper-lts
+use Rattle.merge.proofs.coerce.+both_parts+coerce+coerce_field+common+entry+list_rule+list_struct+map_rule+nested+resolve+resolve_wrapper+rewrapped+rows+struct_rule+under+unwrap+wrapper.Lts-resolve_wrapper as resolve-wrapper-lts
 use Rattle.merge.proofs.coerce.rewrapped.Reads as rewrapped
 use Rattle.merge.proofs.coerce.rewrapped.Kinds as rewrapped-kinds
-use Rattle.merge.proofs.coerce.+both_parts+coerce+coerce_field+entry+list_rule+list_struct+map_rule+nested+resolve+resolve_wrapper+rewrapped+rows+struct_rule+under+unwrap+wrapper.Lts-rewrapped as rewrapped-lts
+use Rattle.merge.proofs.coerce.+both_parts+coerce+coerce_field+common+entry+list_rule+list_struct+map_rule+nested+resolve+resolve_wrapper+rewrapped+rows+struct_rule+under+unwrap+wrapper.Lts-rewrapped as rewrapped-lts
 use Rattle.merge.proofs.coerce.rows.Reads as rows
 use Rattle.merge.proofs.coerce.rows.Kinds as rows-kinds
-use Rattle.merge.proofs.coerce.+both_parts+coerce+coerce_field+entry+list_rule+list_struct+map_rule+nested+resolve+resolve_wrapper+rewrapped+rows+struct_rule+under+unwrap+wrapper.Lts-rows as rows-lts
+use Rattle.merge.proofs.coerce.+both_parts+coerce+coerce_field+common+entry+list_rule+list_struct+map_rule+nested+resolve+resolve_wrapper+rewrapped+rows+struct_rule+under+unwrap+wrapper.Lts-rows as rows-lts
 use Rattle.merge.proofs.coerce.struct_rule.Reads as struct-rule
 use Rattle.merge.proofs.coerce.struct_rule.Kinds as struct-rule-kinds
-use Rattle.merge.proofs.coerce.+both_parts+coerce+coerce_field+entry+list_rule+list_struct+map_rule+nested+resolve+resolve_wrapper+rewrapped+rows+struct_rule+under+unwrap+wrapper.Lts-struct_rule as struct-rule-lts
+use Rattle.merge.proofs.coerce.+both_parts+coerce+coerce_field+common+entry+list_rule+list_struct+map_rule+nested+resolve+resolve_wrapper+rewrapped+rows+struct_rule+under+unwrap+wrapper.Lts-struct_rule as struct-rule-lts
 use Rattle.merge.proofs.coerce.under.Reads as under
 use Rattle.merge.proofs.coerce.under.Kinds as under-kinds
-use Rattle.merge.proofs.coerce.+both_parts+coerce+coerce_field+entry+list_rule+list_struct+map_rule+nested+resolve+resolve_wrapper+rewrapped+rows+struct_rule+under+unwrap+wrapper.Lts-under as under-lts
+use Rattle.merge.proofs.coerce.+both_parts+coerce+coerce_field+common+entry+list_rule+list_struct+map_rule+nested+resolve+resolve_wrapper+rewrapped+rows+struct_rule+under+unwrap+wrapper.Lts-under as under-lts
 use Rattle.merge.proofs.coerce.unwrap.Reads as unwrap
 use Rattle.merge.proofs.coerce.unwrap.Kinds as unwrap-kinds
-use Rattle.merge.proofs.coerce.+both_parts+coerce+coerce_field+entry+list_rule+list_struct+map_rule+nested+resolve+resolve_wrapper+rewrapped+rows+struct_rule+under+unwrap+wrapper.Lts-unwrap as unwrap-lts
+use Rattle.merge.proofs.coerce.+both_parts+coerce+coerce_field+common+entry+list_rule+list_struct+map_rule+nested+resolve+resolve_wrapper+rewrapped+rows+struct_rule+under+unwrap+wrapper.Lts-unwrap as unwrap-lts
 use Rattle.merge.proofs.coerce.wrapper.Reads as wrapper
 use Rattle.merge.proofs.coerce.wrapper.Kinds as wrapper-kinds
-use Rattle.merge.proofs.coerce.+both_parts+coerce+coerce_field+entry+list_rule+list_struct+map_rule+nested+resolve+resolve_wrapper+rewrapped+rows+struct_rule+under+unwrap+wrapper.Lts-wrapper as wrapper-lts
+use Rattle.merge.proofs.coerce.+both_parts+coerce+coerce_field+common+entry+list_rule+list_struct+map_rule+nested+resolve+resolve_wrapper+rewrapped+rows+struct_rule+under+unwrap+wrapper.Lts-wrapper as wrapper-lts
 use Rattle.buffers.proofs.alike.same_sides.Reads as same-sides-reads
 use Rattle.buffers.proofs.copy.copy_head.Reads as copy-head-reads
 use Rattle.buffers.proofs.copy.is_nullable.Reads as is-nullable-reads
@@ -79,6 +82,7 @@ use Rattle.buffers.proofs.lay.tie.Reads as tie-reads
 use Rattle.buffers.proofs.names.have_same_names.Reads as have-same-names-reads
 use Rattle.buffers.proofs.names.row.Reads as row-reads
 use Rattle.buffers.proofs.names.same_arity.Reads as same-arity-reads
+use Rattle.buffers.proofs.part.sides_but_part.Reads as sides-but-part-reads
 use Rattle.buffers.proofs.plain.is_list_question.Reads as is-list-question-reads
 use Rattle.buffers.proofs.plain.list_kind.Reads as list-kind-reads
 use Rattle.buffers.proofs.plain.list_size.Reads as list-size-reads
@@ -86,14 +90,15 @@ use Rattle.buffers.proofs.stamp.plain_rule.Reads as plain-rule-reads
 use Rattle.buffers.proofs.write.kind_at.Reads as kind-at-reads
 use Rattle.buffers.proofs.write.look.Reads as look-reads
 use Rattle.buffers.proofs.write.value_at.Reads as value-at-reads
-use Rattle.wrappers.proofs.walk.way.Reads as way-reads
 use Rattle.kinds.proofs.tests.both.Reads as both-reads
 use Rattle.kinds.proofs.tests.either.Reads as either-reads
 use Rattle.kinds.proofs.tests.is_list.Reads as is-list-reads
-use Rattle.merge.proofs.coerce.+both_parts+coerce+coerce_field+entry+list_rule+list_struct+map_rule+nested+resolve+resolve_wrapper+rewrapped+rows+struct_rule+under+unwrap+wrapper.{
+use Rattle.merge.proofs.coerce.are_same.Reads as are-same-reads
+use Rattle.wrappers.proofs.walk.way.Reads as way-reads
+use Rattle.merge.proofs.coerce.+both_parts+coerce+coerce_field+common+entry+list_rule+list_struct+map_rule+nested+resolve+resolve_wrapper+rewrapped+rows+struct_rule+under+unwrap+wrapper.{
   statement,
 }
-use Rattle.merge.proofs.coerce.+both_parts+coerce+coerce_field+entry+list_rule+list_struct+map_rule+nested+resolve+resolve_wrapper+rewrapped+rows+struct_rule+under+unwrap+wrapper.Tie.{
+use Rattle.merge.proofs.coerce.+both_parts+coerce+coerce_field+common+entry+list_rule+list_struct+map_rule+nested+resolve+resolve_wrapper+rewrapped+rows+struct_rule+under+unwrap+wrapper.Tie.{
   close,
 }
 
@@ -108,6 +113,10 @@ abbrev μ-coerce : Measures 2 coerce-kinds.ps ℕ
 abbrev μ-coerce-field : Measures 2 coerce-field-kinds.ps ℕ
 μ-coerce-field κs a =
     16 * a .1 .1 .1 .1 .1 .0 + 5
+
+abbrev μ-common : Measures 2 common-kinds.ps ℕ
+μ-common κs a =
+    16 * a .1 .1 .1 .1 .1 .0 + 3
 
 abbrev μ-entry : Measures 2 entry-kinds.ps ℕ
 μ-entry κs a =
@@ -186,6 +195,12 @@ coerce-field-below t =
     coerce-field-kinds.ps
     (falls 2 coerce-field-kinds.ps _<_ μ-coerce-field t)
     coerce-field.Pre
+
+abbrev common-at : ℕ → In 2 common-kinds.ps
+common-at t = and 2 common-kinds.ps (is 2 common-kinds.ps μ-common t) common.Pre
+
+abbrev common-below : ℕ → In 2 common-kinds.ps
+common-below t = and 2 common-kinds.ps (falls 2 common-kinds.ps _<_ μ-common t) common.Pre
 
 abbrev entry-at : ℕ → In 2 entry-kinds.ps
 entry-at t = and 2 entry-kinds.ps (is 2 entry-kinds.ps μ-entry t) entry.Pre
@@ -286,13 +301,13 @@ abbrev both-parts-calls : ℕ → both-parts-lts.Claims
 both-parts-calls t =
     (look-reads.Asked, look-reads.Learnt, copy-head-reads.Asked, copy-head-reads.Learnt, rows-below t, rows.Post)
 
-abbrev coerce-calls : ℕ → coerce-lts.Claims
-coerce-calls t =
-    (is-list-question-reads.Asked, is-list-question-reads.Learnt, same-sides-reads.Asked, same-sides-reads.Learnt, copy-type-reads.Asked, copy-type-reads.Learnt, kind-at-reads.Asked, kind-at-reads.Learnt, both-reads.Asked, both-reads.Learnt, plain-rule-reads.Asked, plain-rule-reads.Learnt, resolve-below t, resolve.Post, unwrap-below t, unwrap.Post)
-
 abbrev coerce-field-calls : ℕ → coerce-field-lts.Claims
 coerce-field-calls t =
     (look-reads.Asked, look-reads.Learnt, is-nullable-reads.Asked, is-nullable-reads.Learnt, name-field-reads.Asked, name-field-reads.Learnt, coerce-below t, coerce.Post)
+
+abbrev common-calls : ℕ → common-lts.Claims
+common-calls t =
+    (is-list-question-reads.Asked, is-list-question-reads.Learnt, are-same-reads.Asked, are-same-reads.Learnt, copy-type-reads.Asked, copy-type-reads.Learnt, kind-at-reads.Asked, kind-at-reads.Learnt, both-reads.Asked, both-reads.Learnt, plain-rule-reads.Asked, plain-rule-reads.Learnt, nested-below t, nested.Post, resolve-below t, resolve.Post, unwrap-below t, unwrap.Post)
 
 abbrev entry-calls : ℕ → entry-lts.Claims
 entry-calls t =
@@ -300,7 +315,7 @@ entry-calls t =
 
 abbrev list-rule-calls : ℕ → list-rule-lts.Claims
 list-rule-calls t =
-    (look-reads.Asked, look-reads.Learnt, list-kind-reads.Asked, list-kind-reads.Learnt, list-size-reads.Asked, list-size-reads.Learnt, under-below t, under.Post)
+    (look-reads.Asked, look-reads.Learnt, list-kind-reads.Asked, list-kind-reads.Learnt, list-size-reads.Asked, list-size-reads.Learnt, is-list-question-reads.Asked, is-list-question-reads.Learnt, sides-but-part-reads.Asked, sides-but-part-reads.Learnt, both-reads.Asked, both-reads.Learnt, under-below t, under.Post)
 
 abbrev list-struct-calls : ℕ → list-struct-lts.Claims
 list-struct-calls t =
@@ -328,7 +343,7 @@ rewrapped-calls t =
 
 abbrev rows-calls : ℕ → rows-lts.Claims
 rows-calls t =
-    (row-end-reads.Asked, row-end-reads.Learnt, look-reads.Asked, look-reads.Learnt, row-reads.Asked, row-reads.Learnt, name-field-reads.Asked, name-field-reads.Learnt, coerce-below t, coerce.Post, rows-below t, rows.Post, next-link-reads.Asked, next-link-reads.Learnt, tie-reads.Asked, tie-reads.Learnt)
+    (row-end-reads.Asked, row-end-reads.Learnt, look-reads.Asked, look-reads.Learnt, row-reads.Asked, row-reads.Learnt, name-field-reads.Asked, name-field-reads.Learnt, common-below t, common.Post, rows-below t, rows.Post, next-link-reads.Asked, next-link-reads.Learnt, tie-reads.Asked, tie-reads.Learnt)
 
 abbrev struct-rule-calls : ℕ → struct-rule-lts.Claims
 struct-rule-calls t =
@@ -346,712 +361,771 @@ abbrev wrapper-calls : ℕ → wrapper-lts.Claims
 wrapper-calls t =
     (kind-at-reads.Asked, kind-at-reads.Learnt, value-at-reads.Asked, value-at-reads.Learnt, coerce-below t, coerce.Post, same-sides-reads.Asked, same-sides-reads.Learnt, copy-type-reads.Asked, copy-type-reads.Learnt)
 
--- src/coerce.rt:182:9
+-- src/coerce.rt:264:9
 both-parts-returns : (t : ℕ) → both-parts-lts.Need-returns (both-parts-calls t) (both-parts-at t) both-parts.Post
 both-parts-returns t c =
     merges-full _ _ _ _ _ _ _ _ _ (c .if1 .taken)
 
--- src/coerce.rt:184:9
+-- src/coerce.rt:266:9
 both-parts-look-requires : (t : ℕ) → both-parts-lts.Need-look-requires (both-parts-calls t) (both-parts-at t) both-parts.Post
 both-parts-look-requires t c κs =
     search needs
 
--- src/coerce.rt:185:9
+-- src/coerce.rt:267:9
 both-parts-look-requires-2 : (t : ℕ) → both-parts-lts.Need-look-requires-2 (both-parts-calls t) (both-parts-at t) both-parts.Post
 both-parts-look-requires-2 t c κs =
     search needs
 
--- src/coerce.rt:188:11
+-- src/coerce.rt:270:11
 both-parts-copy-head-requires : (t : ℕ) → both-parts-lts.Need-copy-head-requires (both-parts-calls t) (both-parts-at t) both-parts.Post
 both-parts-copy-head-requires t c κs =
     ((c .before .before .before .before .before .before .before .before .before .before .pre .1), ((c .before .before .before .before .before .if1 .left), (omega arith, (c .before .before .before .look .ensures .1))))
 
--- src/coerce.rt:189:19
+-- src/coerce.rt:271:19
 both-parts-enum-known-d : (t : ℕ) → both-parts-lts.Need-enum-known-d (both-parts-calls t) (both-parts-at t) both-parts.Post
 both-parts-enum-known-d t c =
     search needs
 
--- src/coerce.rt:189:25
+-- src/coerce.rt:271:25
 both-parts-rows-requires : (t : ℕ) → both-parts-lts.Need-rows-requires (both-parts-calls t) (both-parts-at t) both-parts.Post
 both-parts-rows-requires t c κs =
     let h = rw (c .before .before .d .given .1) at (c .before .before .before .before .before .before .copy-head .ensures) in
     (omega (arith, (c .before .before .before .before .before .before .before .before .before .before .before .before .before .before .before .before .before .pre .0)), (room-kept (h .kept) (c .before .before .before .before .before .before .before .before .before .before .before .before .before .before .before .before .before .pre .1 .0), h .passes .0))
 
--- src/coerce.rt:203:20
+-- src/coerce.rt:286:20
 both-parts-enum-told : (t : ℕ) → both-parts-lts.Need-enum-told (both-parts-calls t) (both-parts-at t) both-parts.Post
 both-parts-enum-told t c =
     search needs
 
--- src/coerce.rt:204:22
+-- src/coerce.rt:287:22
 both-parts-enum-told-2 : (t : ℕ) → both-parts-lts.Need-enum-told-2 (both-parts-calls t) (both-parts-at t) both-parts.Post
 both-parts-enum-told-2 t c =
     search needs
 
--- src/coerce.rt:166:1
+-- src/coerce.rt:248:1
 both-parts-same-length : (t : ℕ) → both-parts-lts.Need-same-length (both-parts-calls t) (both-parts-at t) both-parts.Post
 both-parts-same-length t c =
     search needs
 
--- src/coerce.rt:166:1
+-- src/coerce.rt:248:1
 both-parts-returns-2 : (t : ℕ) → both-parts-lts.Need-returns-2 (both-parts-calls t) (both-parts-at t) both-parts.Post
 both-parts-returns-2 t c =
     let h = rw (c .before .before .before .before .before .d .given .1) at (c .before .before .before .before .before .before .before .before .before .copy-head .ensures) in
     both-on _ _ _ _ _ _ _ _ _ (c .before .before .before .before .before .before .before .before .before .before .before .before .before .before .before .before .before .before .before .before .pre .1 .0) _ _ (c .before .before .before .before .before .before .before .before .before .before .before .before .before .look .ensures .0) (c .before .before .before .before .before .before .before .before .before .before .before .look2 .ensures .0) _ _ _ _ h (c .before .before .rows .ensures)
 
--- src/coerce.rt:166:1
+-- src/coerce.rt:248:1
 both-parts-same-length-2 : (t : ℕ) → both-parts-lts.Need-same-length-2 (both-parts-calls t) (both-parts-at t) both-parts.Post
 both-parts-same-length-2 t c =
     search needs
 
--- src/coerce.rt:166:1
+-- src/coerce.rt:248:1
 both-parts-returns-3 : (t : ℕ) → both-parts-lts.Need-returns-3 (both-parts-calls t) (both-parts-at t) both-parts.Post
 both-parts-returns-3 t c =
     absurd ((rw (c .enum-told .given .1) at (c .before .before .before .before .copy-head .ensures)) .means)
 
--- src/coerce.rt:166:1
+-- src/coerce.rt:248:1
 both-parts-same-length-3 : (t : ℕ) → both-parts-lts.Need-same-length-3 (both-parts-calls t) (both-parts-at t) both-parts.Post
 both-parts-same-length-3 t c =
     search needs
 
--- src/coerce.rt:166:1
+-- src/coerce.rt:248:1
 both-parts-returns-4 : (t : ℕ) → both-parts-lts.Need-returns-4 (both-parts-calls t) (both-parts-at t) both-parts.Post
 both-parts-returns-4 t c =
     head-crowded _ _ _ _ _ _ _ _ _ _ (c .before .before .before .before .before .before .before .before .look .ensures .0) _ (rw (c .enum-told2 .given .1) at (c .before .before .before .before .copy-head .ensures))
 
--- src/coerce.rt:65:9
-coerce-returns : (t : ℕ) → coerce-lts.Need-returns (coerce-calls t) (coerce-at t) coerce.Post
-coerce-returns t c =
-    coerce-spent (c .before .before .before .args .question) (c .before .before .before .args .mask) (c .before .before .before .args .space) (c .before .before .before .args .left) (c .before .before .before .args .swap) _ _ _ _ _ (c .if1 .taken)
+-- src/coerce.rt:67:5
+coerce-common-requires :
+    (t : ℕ) →
+    coerce-lts.Need-common-requires (common-below t, common.Post) (coerce-at t) coerce.Post
+coerce-common-requires t c κs =
+    (omega (arith, (c .before .before .before .pre .0)), (c .before .before .before .pre .1))
 
--- src/coerce.rt:67:9
-coerce-is-list-question-requires : (t : ℕ) → coerce-lts.Need-is-list-question-requires (coerce-calls t) (coerce-at t) coerce.Post
-coerce-is-list-question-requires t c κs =
-    search needs
-
--- src/coerce.rt:68:8
-coerce-same-sides-requires : (t : ℕ) → coerce-lts.Need-same-sides-requires (coerce-calls t) (coerce-at t) coerce.Post
-coerce-same-sides-requires t c κs =
-    search needs
-
--- src/coerce.rt:69:9
-coerce-copy-type-requires : (t : ℕ) → coerce-lts.Need-copy-type-requires (coerce-calls t) (coerce-at t) coerce.Post
-coerce-copy-type-requires t c κs =
-    (c .before .before .before .before .before .before .before .before .pre .1)
-
--- src/coerce.rt:69:9
-coerce-same-length : (t : ℕ) → coerce-lts.Need-same-length (coerce-calls t) (coerce-at t) coerce.Post
+-- src/coerce.rt:52:1
+coerce-same-length :
+    (t : ℕ) → coerce-lts.Need-same-length (common-below t, common.Post) (coerce-at t) coerce.Post
 coerce-same-length t c =
     search needs
 
--- src/coerce.rt:69:9
-coerce-returns-2 : (t : ℕ) → coerce-lts.Need-returns-2 (coerce-calls t) (coerce-at t) coerce.Post
-coerce-returns-2 t c =
-    coerce-same (c .before .before .before .before .before .before .before .before .before .before .before .args .question) (c .before .before .before .before .before .before .before .before .before .before .before .args .mask) (c .before .before .before .before .before .before .before .before .before .before .before .args .space) (c .before .before .before .before .before .before .before .before .before .before .before .args .left) (c .before .before .before .before .before .before .before .before .before .before .before .args .swap) _ _ _ _ _ (c .before .before .before .before .before .before .before .is-list-question .ensures) (c .before .before .before .before .before .same-sides .ensures) _ _ (c .before .before .before .before .if2 .taken) (c .before .before .copy-type .ensures)
+-- src/coerce.rt:52:1
+coerce-returns :
+    (t : ℕ) → coerce-lts.Need-returns (common-below t, common.Post) (coerce-at t) coerce.Post
+coerce-returns t c =
+    none-known (c .before .before .before .before .before .before .args .swap) (c .before .before .common .ensures)
 
--- src/coerce.rt:71:9
-coerce-kind-at-requires : (t : ℕ) → coerce-lts.Need-kind-at-requires (coerce-calls t) (coerce-at t) coerce.Post
-coerce-kind-at-requires t c κs =
-    search needs
-
--- src/coerce.rt:72:9
-coerce-kind-at-requires-2 : (t : ℕ) → coerce-lts.Need-kind-at-requires-2 (coerce-calls t) (coerce-at t) coerce.Post
-coerce-kind-at-requires-2 t c κs =
-    search needs
-
--- src/coerce.rt:73:8
-coerce-both-requires : (t : ℕ) → coerce-lts.Need-both-requires (coerce-calls t) (coerce-at t) coerce.Post
-coerce-both-requires t c κs =
-    search needs
-
--- src/coerce.rt:74:9
-coerce-plain-rule-requires : (t : ℕ) → coerce-lts.Need-plain-rule-requires (coerce-calls t) (coerce-at t) coerce.Post
-coerce-plain-rule-requires t c κs =
-    (c .before .before .before .before .before .before .before .before .before .before .before .before .before .before .pre .1)
-
--- src/coerce.rt:74:9
-coerce-same-length-2 : (t : ℕ) → coerce-lts.Need-same-length-2 (coerce-calls t) (coerce-at t) coerce.Post
-coerce-same-length-2 t c =
-    search needs
-
--- src/coerce.rt:74:9
-coerce-returns-3 : (t : ℕ) → coerce-lts.Need-returns-3 (coerce-calls t) (coerce-at t) coerce.Post
-coerce-returns-3 t c =
-    coerce-plain (c .before .before .before .before .before .before .before .before .before .before .before .before .before .before .before .before .before .args .question) (c .before .before .before .before .before .before .before .before .before .before .before .before .before .before .before .before .before .args .mask) (c .before .before .before .before .before .before .before .before .before .before .before .before .before .before .before .before .before .args .space) (c .before .before .before .before .before .before .before .before .before .before .before .before .before .before .before .before .before .args .left) (c .before .before .before .before .before .before .before .before .before .before .before .before .before .before .before .before .before .args .swap) _ _ _ _ _ (c .before .before .before .before .before .before .before .before .before .before .before .before .before .is-list-question .ensures) (c .before .before .before .before .before .before .before .before .before .before .before .same-sides .ensures) _ _ (c .before .before .before .before .before .before .before .before .before .before .if2 .left) (c .before .before .before .before .before .before .before .before .kind-at .ensures) (c .before .before .before .before .before .before .kind-at2 .ensures) (sym (c .before .before .before .before .before .both .ensures) ∙ (c .before .before .before .before .if3 .taken)) (c .before .before .plain-rule .ensures)
-
--- src/coerce.rt:77:60
-coerce-sub-resolve : (t : ℕ) → coerce-lts.Need-sub-resolve (coerce-calls t) (coerce-at t) coerce.Post
-coerce-sub-resolve t c =
-    search needs
-
--- src/coerce.rt:77:9
-coerce-resolve-requires : (t : ℕ) → coerce-lts.Need-resolve-requires (coerce-calls t) (coerce-at t) coerce.Post
-coerce-resolve-requires t c κs =
-    (omega (arith, (c .before .before .before .before .before .before .before .before .before .before .before .before .before .before .before .pre .0), (c .before .before .before .before .before .before .before .before .before .before .before .before .if1 .left)), (c .before .before .before .before .before .before .before .before .before .before .before .before .before .before .before .pre .1))
-
--- src/coerce.rt:77:9
-coerce-same-length-3 : (t : ℕ) → coerce-lts.Need-same-length-3 (coerce-calls t) (coerce-at t) coerce.Post
-coerce-same-length-3 t c =
-    search needs
-
--- src/coerce.rt:77:9
-coerce-returns-4 : (t : ℕ) → coerce-lts.Need-returns-4 (coerce-calls t) (coerce-at t) coerce.Post
-coerce-returns-4 t c =
-    coerce-list (c .before .before .before .before .before .before .before .before .before .before .before .before .before .before .before .before .before .before .args .question) (c .before .before .before .before .before .before .before .before .before .before .before .before .before .before .before .before .before .before .args .mask) (c .before .before .before .before .before .before .before .before .before .before .before .before .before .before .before .before .before .before .args .space) (c .before .before .before .before .before .before .before .before .before .before .before .before .before .before .before .before .before .before .args .left) (c .before .before .before .before .before .before .before .before .before .before .before .before .before .before .before .before .before .before .args .swap) _ _ _ _ _ (c .before .before .before .before .before .before .before .before .before .before .before .before .before .before .is-list-question .ensures) (c .before .before .before .before .before .before .before .before .before .before .before .before .same-sides .ensures) _ _ (c .before .before .before .before .before .before .before .before .before .before .before .if2 .left) (c .before .before .before .before .if4 .taken) (c .before .before .before .before .before .before .before .before .before .before .before .before .before .before .before .if1 .left) (c .before .before .resolve .ensures)
-
--- src/coerce.rt:79:48
-coerce-sub-unwrap : (t : ℕ) → coerce-lts.Need-sub-unwrap (coerce-calls t) (coerce-at t) coerce.Post
-coerce-sub-unwrap t c =
-    search needs
-
--- src/coerce.rt:79:5
-coerce-unwrap-requires : (t : ℕ) → coerce-lts.Need-unwrap-requires (coerce-calls t) (coerce-at t) coerce.Post
-coerce-unwrap-requires t c κs =
-    (omega (arith, (c .before .before .before .before .before .before .before .before .before .before .before .before .before .before .before .pre .0), (c .before .before .before .before .before .before .before .before .before .before .before .before .if1 .left)), ((c .before .before .before .before .before .before .before .before .before .before .before .before .before .before .before .pre .1), sym (c .before .before .before .before .before .before .before .before .before .before .before .is-list-question .ensures) ∙ (c .before .if4 .left)))
-
--- src/coerce.rt:49:1
-coerce-same-length-4 : (t : ℕ) → coerce-lts.Need-same-length-4 (coerce-calls t) (coerce-at t) coerce.Post
-coerce-same-length-4 t c =
-    search needs
-
--- src/coerce.rt:49:1
-coerce-returns-5 : (t : ℕ) → coerce-lts.Need-returns-5 (coerce-calls t) (coerce-at t) coerce.Post
-coerce-returns-5 t c =
-    coerce-pair (c .before .before .before .before .before .before .before .before .before .before .before .before .before .before .before .before .before .before .args .question) (c .before .before .before .before .before .before .before .before .before .before .before .before .before .before .before .before .before .before .args .mask) (c .before .before .before .before .before .before .before .before .before .before .before .before .before .before .before .before .before .before .args .space) (c .before .before .before .before .before .before .before .before .before .before .before .before .before .before .before .before .before .before .args .left) (c .before .before .before .before .before .before .before .before .before .before .before .before .before .before .before .before .before .before .args .swap) _ _ _ _ _ (c .before .before .before .before .before .before .before .before .before .before .before .before .before .before .is-list-question .ensures) (c .before .before .before .before .before .before .before .before .before .before .before .before .same-sides .ensures) _ _ (c .before .before .before .before .before .before .before .before .before .before .before .if2 .left) (c .before .before .before .before .if4 .left) (c .before .before .before .before .before .before .before .before .before .before .before .before .before .before .before .if1 .left) (c .before .before .unwrap .ensures)
-
--- src/coerce.rt:278:9
+-- src/coerce.rt:361:9
 coerce-field-look-requires : (t : ℕ) → coerce-field-lts.Need-look-requires (coerce-field-calls t) (coerce-field-at t) coerce-field.Post
 coerce-field-look-requires t c κs =
     search needs
 
--- src/coerce.rt:280:9
+-- src/coerce.rt:363:9
 coerce-field-is-nullable-requires : (t : ℕ) → coerce-field-lts.Need-is-nullable-requires (coerce-field-calls t) (coerce-field-at t) coerce-field.Post
 coerce-field-is-nullable-requires t c κs =
     search needs
 
--- src/coerce.rt:281:8
+-- src/coerce.rt:364:8
 coerce-field-name-field-requires : (t : ℕ) → coerce-field-lts.Need-name-field-requires (coerce-field-calls t) (coerce-field-at t) coerce-field.Post
 coerce-field-name-field-requires t c κs =
     ((c .before .before .before .before .before .before .pre .1 .0), ((c .before .before .before .before .before .before .pre .1 .1), (c .before .before .look .ensures .1)))
 
--- src/coerce.rt:288:9
+-- src/coerce.rt:371:9
 coerce-field-coerce-requires : (t : ℕ) → coerce-field-lts.Need-coerce-requires (coerce-field-calls t) (coerce-field-at t) coerce-field.Post
 coerce-field-coerce-requires t c κs =
     (omega (arith, (c .before .before .before .before .before .before .before .before .before .before .before .pre .0)), (room-kept ((c .before .before .before .before .name-field .ensures .kept)) (c .before .before .before .before .before .before .before .before .before .before .before .pre .1 .0), field-ready _ (c .before .before .before .before .before .before .before .before .before .before .before .pre .1 .1) (c .before .before .before .before .before .before .before .look .ensures .1) (c .before .if1 .taken) (c .before .before .before .before .name-field .ensures)))
 
--- src/coerce.rt:288:9
+-- src/coerce.rt:371:9
 coerce-field-same-length : (t : ℕ) → coerce-field-lts.Need-same-length (coerce-field-calls t) (coerce-field-at t) coerce-field.Post
 coerce-field-same-length t c =
     search needs
 
--- src/coerce.rt:288:9
+-- src/coerce.rt:371:9
 coerce-field-returns : (t : ℕ) → coerce-field-lts.Need-returns (coerce-field-calls t) (coerce-field-at t) coerce-field.Post
 coerce-field-returns t c =
     field-merged _ _ _ _ _ _ _ _ _ _ (c .before .before .before .before .before .before .before .before .before .before .look .ensures .0) _ _ (c .before .before .before .before .before .before .before .name-field .ensures) _ _ _ (c .before .before .before .before .before .before .before .before .before .before .before .before .before .before .pre .1 .0) (c .before .before .before .before .if1 .taken) (c .before .before .before .before .before .before .before .before .before .is-nullable .ensures) (c .before .before .coerce .ensures)
 
--- src/coerce.rt:263:1
+-- src/coerce.rt:346:1
 coerce-field-same-length-2 : (t : ℕ) → coerce-field-lts.Need-same-length-2 (coerce-field-calls t) (coerce-field-at t) coerce-field.Post
 coerce-field-same-length-2 t c =
     search needs
 
--- src/coerce.rt:263:1
+-- src/coerce.rt:346:1
 coerce-field-returns-2 : (t : ℕ) → coerce-field-lts.Need-returns-2 (coerce-field-calls t) (coerce-field-at t) coerce-field.Post
 coerce-field-returns-2 t c =
     field-crowded _ _ _ _ _ _ _ _ _ _ (c .before .before .before .before .before .before .look .ensures .0) _ _ (c .before .before .before .name-field .ensures) (c .if1 .left)
 
--- src/coerce.rt:643:9
+-- src/coerce.rt:100:9
+common-returns : (t : ℕ) → common-lts.Need-returns (common-calls t) (common-at t) common.Post
+common-returns t c =
+    coerce-spent (c .before .before .before .args .question) (c .before .before .before .args .mask) (c .before .before .before .args .space) (c .before .before .before .args .left) (c .before .before .before .args .swap) _ _ _ _ _ (c .if1 .taken)
+
+-- src/coerce.rt:102:9
+common-is-list-question-requires : (t : ℕ) → common-lts.Need-is-list-question-requires (common-calls t) (common-at t) common.Post
+common-is-list-question-requires t c κs =
+    search needs
+
+-- src/coerce.rt:103:8
+common-are-same-requires : (t : ℕ) → common-lts.Need-are-same-requires (common-calls t) (common-at t) common.Post
+common-are-same-requires t c κs =
+    search needs
+
+-- src/coerce.rt:104:9
+common-copy-type-requires : (t : ℕ) → common-lts.Need-copy-type-requires (common-calls t) (common-at t) common.Post
+common-copy-type-requires t c κs =
+    (c .before .before .before .before .before .before .before .before .pre .1)
+
+-- src/coerce.rt:104:9
+common-same-length : (t : ℕ) → common-lts.Need-same-length (common-calls t) (common-at t) common.Post
+common-same-length t c =
+    search needs
+
+-- src/coerce.rt:104:9
+common-returns-2 : (t : ℕ) → common-lts.Need-returns-2 (common-calls t) (common-at t) common.Post
+common-returns-2 t c =
+    coerce-same (c .before .before .before .before .before .before .before .before .before .before .before .args .question) (c .before .before .before .before .before .before .before .before .before .before .before .args .mask) (c .before .before .before .before .before .before .before .before .before .before .before .args .space) (c .before .before .before .before .before .before .before .before .before .before .before .args .left) (c .before .before .before .before .before .before .before .before .before .before .before .args .swap) _ _ _ _ _ (c .before .before .before .before .before .before .before .is-list-question .ensures) (c .before .before .before .before .before .are-same .ensures) _ _ (c .before .before .before .before .if2 .taken) (c .before .before .copy-type .ensures)
+
+-- src/coerce.rt:106:9
+common-kind-at-requires : (t : ℕ) → common-lts.Need-kind-at-requires (common-calls t) (common-at t) common.Post
+common-kind-at-requires t c κs =
+    search needs
+
+-- src/coerce.rt:107:9
+common-kind-at-requires-2 : (t : ℕ) → common-lts.Need-kind-at-requires-2 (common-calls t) (common-at t) common.Post
+common-kind-at-requires-2 t c κs =
+    search needs
+
+-- src/coerce.rt:108:8
+common-both-requires : (t : ℕ) → common-lts.Need-both-requires (common-calls t) (common-at t) common.Post
+common-both-requires t c κs =
+    search needs
+
+-- src/coerce.rt:109:9
+common-plain-rule-requires : (t : ℕ) → common-lts.Need-plain-rule-requires (common-calls t) (common-at t) common.Post
+common-plain-rule-requires t c κs =
+    (c .before .before .before .before .before .before .before .before .before .before .before .before .before .before .pre .1)
+
+-- src/coerce.rt:109:9
+common-same-length-2 : (t : ℕ) → common-lts.Need-same-length-2 (common-calls t) (common-at t) common.Post
+common-same-length-2 t c =
+    search needs
+
+-- src/coerce.rt:109:9
+common-returns-3 : (t : ℕ) → common-lts.Need-returns-3 (common-calls t) (common-at t) common.Post
+common-returns-3 t c =
+    coerce-plain (c .before .before .before .before .before .before .before .before .before .before .before .before .before .before .before .before .before .args .question) (c .before .before .before .before .before .before .before .before .before .before .before .before .before .before .before .before .before .args .mask) (c .before .before .before .before .before .before .before .before .before .before .before .before .before .before .before .before .before .args .space) (c .before .before .before .before .before .before .before .before .before .before .before .before .before .before .before .before .before .args .left) (c .before .before .before .before .before .before .before .before .before .before .before .before .before .before .before .before .before .args .swap) _ _ _ _ _ (c .before .before .before .before .before .before .before .before .before .before .before .before .before .is-list-question .ensures) (c .before .before .before .before .before .before .before .before .before .before .before .are-same .ensures) _ _ (c .before .before .before .before .before .before .before .before .before .before .if2 .left) (c .before .before .before .before .before .before .before .before .kind-at .ensures) (c .before .before .before .before .before .before .kind-at2 .ensures) (sym (c .before .before .before .before .before .both .ensures) ∙ (c .before .before .before .before .if3 .taken)) (c .before .before .plain-rule .ensures)
+
+-- src/coerce.rt:111:8
+common-both-requires-2 : (t : ℕ) → common-lts.Need-both-requires-2 (common-calls t) (common-at t) common.Post
+common-both-requires-2 t c κs =
+    search needs
+
+-- src/coerce.rt:118:13
+common-sub-nested : (t : ℕ) → common-lts.Need-sub-nested (common-calls t) (common-at t) common.Post
+common-sub-nested t c =
+    search needs
+
+-- src/coerce.rt:112:9
+common-nested-requires : (t : ℕ) → common-lts.Need-nested-requires (common-calls t) (common-at t) common.Post
+common-nested-requires t c κs =
+    (omega (arith, (c .before .before .before .before .before .before .before .before .before .before .before .before .before .before .before .before .pre .0), (c .before .before .before .before .before .before .before .before .before .before .before .before .before .if1 .left)), (c .before .before .before .before .before .before .before .before .before .before .before .before .before .before .before .before .pre .1))
+
+-- src/coerce.rt:112:9
+common-same-length-3 : (t : ℕ) → common-lts.Need-same-length-3 (common-calls t) (common-at t) common.Post
+common-same-length-3 t c =
+    search needs
+
+-- src/coerce.rt:112:9
+common-returns-4 : (t : ℕ) → common-lts.Need-returns-4 (common-calls t) (common-at t) common.Post
+common-returns-4 t c =
+    coerce-bare (c .before .before .before .before .before .before .before .before .before .before .before .before .before .before .before .before .before .before .before .args .question) (c .before .before .before .before .before .before .before .before .before .before .before .before .before .before .before .before .before .before .before .args .mask) (c .before .before .before .before .before .before .before .before .before .before .before .before .before .before .before .before .before .before .before .args .space) (c .before .before .before .before .before .before .before .before .before .before .before .before .before .before .before .before .before .before .before .args .left) (c .before .before .before .before .before .before .before .before .before .before .before .before .before .before .before .before .before .before .before .args .swap) _ _ _ _ _ (c .before .before .before .before .before .before .before .before .before .before .before .before .before .before .before .is-list-question .ensures) (c .before .before .before .before .before .before .before .before .before .before .before .before .before .are-same .ensures) _ _ (c .before .before .before .before .before .before .before .before .before .before .before .before .if2 .left) (c .before .before .before .before .before .before .before .before .before .before .kind-at .ensures) (c .before .before .before .before .before .before .before .before .kind-at2 .ensures) (sym (c .before .before .before .before .before .both2 .ensures) ∙ (c .before .before .before .before .if4 .taken)) (c .before .before .before .before .before .before .before .before .before .before .before .before .before .before .before .before .if1 .left) (c .before .before .nested .ensures)
+
+-- src/coerce.rt:127:60
+common-sub-resolve : (t : ℕ) → common-lts.Need-sub-resolve (common-calls t) (common-at t) common.Post
+common-sub-resolve t c =
+    search needs
+
+-- src/coerce.rt:127:9
+common-resolve-requires : (t : ℕ) → common-lts.Need-resolve-requires (common-calls t) (common-at t) common.Post
+common-resolve-requires t c κs =
+    (omega (arith, (c .before .before .before .before .before .before .before .before .before .before .before .before .before .before .before .before .before .pre .0), (c .before .before .before .before .before .before .before .before .before .before .before .before .before .before .if1 .left)), (c .before .before .before .before .before .before .before .before .before .before .before .before .before .before .before .before .before .pre .1))
+
+-- src/coerce.rt:127:9
+common-same-length-4 : (t : ℕ) → common-lts.Need-same-length-4 (common-calls t) (common-at t) common.Post
+common-same-length-4 t c =
+    search needs
+
+-- src/coerce.rt:127:9
+common-returns-5 : (t : ℕ) → common-lts.Need-returns-5 (common-calls t) (common-at t) common.Post
+common-returns-5 t c =
+    coerce-list (c .before .before .before .before .before .before .before .before .before .before .before .before .before .before .before .before .before .before .before .before .args .question) (c .before .before .before .before .before .before .before .before .before .before .before .before .before .before .before .before .before .before .before .before .args .mask) (c .before .before .before .before .before .before .before .before .before .before .before .before .before .before .before .before .before .before .before .before .args .space) (c .before .before .before .before .before .before .before .before .before .before .before .before .before .before .before .before .before .before .before .before .args .left) (c .before .before .before .before .before .before .before .before .before .before .before .before .before .before .before .before .before .before .before .before .args .swap) _ _ _ _ _ (c .before .before .before .before .before .before .before .before .before .before .before .before .before .before .before .before .is-list-question .ensures) (c .before .before .before .before .before .before .before .before .before .before .before .before .before .before .are-same .ensures) _ _ (c .before .before .before .before .before .before .before .before .before .before .before .before .before .if2 .left) (c .before .before .before .before .if5 .taken) (c .before .before .before .before .before .before .before .before .before .before .before .before .before .before .before .before .before .if1 .left) (c .before .before .resolve .ensures)
+
+-- src/coerce.rt:129:48
+common-sub-unwrap : (t : ℕ) → common-lts.Need-sub-unwrap (common-calls t) (common-at t) common.Post
+common-sub-unwrap t c =
+    search needs
+
+-- src/coerce.rt:129:5
+common-unwrap-requires : (t : ℕ) → common-lts.Need-unwrap-requires (common-calls t) (common-at t) common.Post
+common-unwrap-requires t c κs =
+    (omega (arith, (c .before .before .before .before .before .before .before .before .before .before .before .before .before .before .before .before .before .pre .0), (c .before .before .before .before .before .before .before .before .before .before .before .before .before .before .if1 .left)), ((c .before .before .before .before .before .before .before .before .before .before .before .before .before .before .before .before .before .pre .1), sym (c .before .before .before .before .before .before .before .before .before .before .before .before .before .is-list-question .ensures) ∙ (c .before .if5 .left)))
+
+-- src/coerce.rt:83:1
+common-same-length-5 : (t : ℕ) → common-lts.Need-same-length-5 (common-calls t) (common-at t) common.Post
+common-same-length-5 t c =
+    search needs
+
+-- src/coerce.rt:83:1
+common-returns-6 : (t : ℕ) → common-lts.Need-returns-6 (common-calls t) (common-at t) common.Post
+common-returns-6 t c =
+    coerce-pair (c .before .before .before .before .before .before .before .before .before .before .before .before .before .before .before .before .before .before .before .before .args .question) (c .before .before .before .before .before .before .before .before .before .before .before .before .before .before .before .before .before .before .before .before .args .mask) (c .before .before .before .before .before .before .before .before .before .before .before .before .before .before .before .before .before .before .before .before .args .space) (c .before .before .before .before .before .before .before .before .before .before .before .before .before .before .before .before .before .before .before .before .args .left) (c .before .before .before .before .before .before .before .before .before .before .before .before .before .before .before .before .before .before .before .before .args .swap) _ _ _ _ _ (c .before .before .before .before .before .before .before .before .before .before .before .before .before .before .before .before .is-list-question .ensures) (c .before .before .before .before .before .before .before .before .before .before .before .before .before .before .are-same .ensures) _ _ (c .before .before .before .before .before .before .before .before .before .before .before .before .before .if2 .left) (c .before .before .before .before .if5 .left) (c .before .before .before .before .before .before .before .before .before .before .before .before .before .before .before .before .before .if1 .left) (c .before .before .unwrap .ensures)
+
+-- src/coerce.rt:773:9
 entry-look-requires : (t : ℕ) → entry-lts.Need-look-requires (entry-calls t) (entry-at t) entry.Post
 entry-look-requires t c κs =
     search needs
 
--- src/coerce.rt:645:9
+-- src/coerce.rt:775:9
 entry-is-nullable-requires : (t : ℕ) → entry-lts.Need-is-nullable-requires (entry-calls t) (entry-at t) entry.Post
 entry-is-nullable-requires t c κs =
     search needs
 
--- src/coerce.rt:646:8
+-- src/coerce.rt:776:8
 entry-name-field-requires : (t : ℕ) → entry-lts.Need-name-field-requires (entry-calls t) (entry-at t) entry.Post
 entry-name-field-requires t c κs =
     ((c .before .before .before .before .before .before .pre .1 .0), ((c .before .before .before .before .before .before .pre .1 .1), (c .before .before .look .ensures .1)))
 
--- src/coerce.rt:653:9
+-- src/coerce.rt:783:9
 entry-struct-rule-requires : (t : ℕ) → entry-lts.Need-struct-rule-requires (entry-calls t) (entry-at t) entry.Post
 entry-struct-rule-requires t c κs =
     (omega (arith, (c .before .before .before .before .before .before .before .before .before .before .before .pre .0)), (room-kept ((c .before .before .before .before .name-field .ensures .kept)) (c .before .before .before .before .before .before .before .before .before .before .before .pre .1 .0), field-ready _ (c .before .before .before .before .before .before .before .before .before .before .before .pre .1 .1) (c .before .before .before .before .before .before .before .look .ensures .1) (c .before .if1 .taken) (c .before .before .before .before .name-field .ensures)))
 
--- src/coerce.rt:653:9
+-- src/coerce.rt:783:9
 entry-same-length : (t : ℕ) → entry-lts.Need-same-length (entry-calls t) (entry-at t) entry.Post
 entry-same-length t c =
     search needs
 
--- src/coerce.rt:653:9
+-- src/coerce.rt:783:9
 entry-returns : (t : ℕ) → entry-lts.Need-returns (entry-calls t) (entry-at t) entry.Post
 entry-returns t c =
     field-merged _ _ _ _ _ _ _ _ _ _ (c .before .before .before .before .before .before .before .before .before .before .look .ensures .0) _ _ (c .before .before .before .before .before .before .before .name-field .ensures) _ _ _ (c .before .before .before .before .before .before .before .before .before .before .before .before .before .before .pre .1 .0) (c .before .before .before .before .if1 .taken) (c .before .before .before .before .before .before .before .before .before .is-nullable .ensures) (c .before .before .struct-rule .ensures)
 
--- src/coerce.rt:628:1
+-- src/coerce.rt:758:1
 entry-same-length-2 : (t : ℕ) → entry-lts.Need-same-length-2 (entry-calls t) (entry-at t) entry.Post
 entry-same-length-2 t c =
     search needs
 
--- src/coerce.rt:628:1
+-- src/coerce.rt:758:1
 entry-returns-2 : (t : ℕ) → entry-lts.Need-returns-2 (entry-calls t) (entry-at t) entry.Post
 entry-returns-2 t c =
     field-crowded _ _ _ _ _ _ _ _ _ _ (c .before .before .before .before .before .before .look .ensures .0) _ _ (c .before .before .before .name-field .ensures) (c .if1 .left)
 
--- src/coerce.rt:451:9
+-- src/coerce.rt:572:9
 list-rule-look-requires : (t : ℕ) → list-rule-lts.Need-look-requires (list-rule-calls t) (list-rule-at t) list-rule.Post
 list-rule-look-requires t c κs =
     search needs
 
--- src/coerce.rt:452:9
+-- src/coerce.rt:573:9
 list-rule-look-requires-2 : (t : ℕ) → list-rule-lts.Need-look-requires-2 (list-rule-calls t) (list-rule-at t) list-rule.Post
 list-rule-look-requires-2 t c κs =
     search needs
 
--- src/coerce.rt:453:9
+-- src/coerce.rt:574:9
 list-rule-list-kind-requires : (t : ℕ) → list-rule-lts.Need-list-kind-requires (list-rule-calls t) (list-rule-at t) list-rule.Post
 list-rule-list-kind-requires t c κs =
     search needs
 
--- src/coerce.rt:454:9
+-- src/coerce.rt:575:9
 list-rule-list-size-requires : (t : ℕ) → list-rule-lts.Need-list-size-requires (list-rule-calls t) (list-rule-at t) list-rule.Post
 list-rule-list-size-requires t c κs =
     search needs
 
--- src/coerce.rt:457:5
+-- src/coerce.rt:578:9
+list-rule-is-list-question-requires : (t : ℕ) → list-rule-lts.Need-is-list-question-requires (list-rule-calls t) (list-rule-at t) list-rule.Post
+list-rule-is-list-question-requires t c κs =
+    search needs
+
+-- src/coerce.rt:581:9
+list-rule-sides-but-part-requires : (t : ℕ) → list-rule-lts.Need-sides-but-part-requires (list-rule-calls t) (list-rule-at t) list-rule.Post
+list-rule-sides-but-part-requires t c κs =
+    search needs
+
+-- src/coerce.rt:579:9
+list-rule-both-requires : (t : ℕ) → list-rule-lts.Need-both-requires (list-rule-calls t) (list-rule-at t) list-rule.Post
+list-rule-both-requires t c κs =
+    search needs
+
+-- src/coerce.rt:583:5
 list-rule-under-requires : (t : ℕ) → list-rule-lts.Need-under-requires (list-rule-calls t) (list-rule-at t) list-rule.Post
 list-rule-under-requires t c κs =
-    (omega (arith, (c .before .before .before .before .before .before .before .before .before .pre .0)), ((c .before .before .before .before .before .before .before .before .before .pre .1), (c .before .list-size .ensures .1)))
+    (omega (arith, (c .before .before .before .before .before .before .before .before .before .before .before .before .before .pre .0)), ((c .before .before .before .before .before .before .before .before .before .before .before .before .before .pre .1), (c .before .before .before .before .before .list-size .ensures .1)))
 
--- src/coerce.rt:436:1
+-- src/coerce.rt:556:1
 list-rule-same-length : (t : ℕ) → list-rule-lts.Need-same-length (list-rule-calls t) (list-rule-at t) list-rule.Post
 list-rule-same-length t c =
     search needs
 
--- src/coerce.rt:436:1
+-- src/coerce.rt:556:1
 list-rule-returns : (t : ℕ) → list-rule-lts.Need-returns (list-rule-calls t) (list-rule-at t) list-rule.Post
 list-rule-returns t c =
-    list-merged _ _ _ (c .before .before .before .before .before .before .before .before .before .before .before .before .args .swap) _ _ _ _ _ _ _ (c .before .before .before .before .before .before .before .before .look .ensures .0) (c .before .before .before .before .before .before .look2 .ensures .0) (c .before .before .before .before .before .list-kind .ensures) (c .before .before .before .before .list-size .ensures .0) _ _ (c .before .before .under .ensures)
+    list-merged _ _ _ (c .before .before .before .before .before .before .before .before .before .before .before .before .before .before .before .before .args .swap) _ _ _ _ _ _ _ (c .before .before .before .before .before .before .before .before .before .before .before .before .look .ensures .0) (c .before .before .before .before .before .before .before .before .before .before .look2 .ensures .0) (c .before .before .before .before .before .before .before .is-list-question .ensures) (c .before .before .before .before .before .sides-but-part .ensures) (c .before .before .before .before .both .ensures) (c .before .before .before .before .before .before .before .before .before .list-kind .ensures) (c .before .before .before .before .before .before .before .before .list-size .ensures .0) _ _ (c .before .before .under .ensures)
 
--- src/coerce.rt:554:13
+-- src/coerce.rt:683:13
 list-struct-look-requires : (t : ℕ) → list-struct-lts.Need-look-requires (list-struct-calls t) (list-struct-at t) list-struct.Post
 list-struct-look-requires t c κs =
     search needs
 
--- src/coerce.rt:555:13
+-- src/coerce.rt:684:13
 list-struct-look-requires-2 : (t : ℕ) → list-struct-lts.Need-look-requires-2 (list-struct-calls t) (list-struct-at t) list-struct.Post
 list-struct-look-requires-2 t c κs =
     search needs
 
--- src/coerce.rt:557:9
+-- src/coerce.rt:686:9
 list-struct-same-arity-requires : (t : ℕ) → list-struct-lts.Need-same-arity-requires (list-struct-calls t) (list-struct-at t) list-struct.Post
 list-struct-same-arity-requires t c κs =
     search needs
 
--- src/coerce.rt:558:9
+-- src/coerce.rt:687:9
 list-struct-have-same-names-requires : (t : ℕ) → list-struct-lts.Need-have-same-names-requires (list-struct-calls t) (list-struct-at t) list-struct.Post
 list-struct-have-same-names-requires t c κs =
     (c .before .before .before .before .before .before .before .before .before .pre .1 .0 .0 .few)
 
--- src/coerce.rt:556:8
+-- src/coerce.rt:685:8
 list-struct-both-requires : (t : ℕ) → list-struct-lts.Need-both-requires (list-struct-calls t) (list-struct-at t) list-struct.Post
 list-struct-both-requires t c κs =
     search needs
 
--- src/coerce.rt:560:9
+-- src/coerce.rt:689:9
 list-struct-under-requires : (t : ℕ) → list-struct-lts.Need-under-requires (list-struct-calls t) (list-struct-at t) list-struct.Post
 list-struct-under-requires t c κs =
     (omega (arith, (c .before .before .before .before .before .before .before .before .before .before .before .before .before .pre .0)), ((c .before .before .before .before .before .before .before .before .before .before .before .before .before .pre .1 .0), omega arith))
 
--- src/coerce.rt:560:9
+-- src/coerce.rt:689:9
 list-struct-same-length : (t : ℕ) → list-struct-lts.Need-same-length (list-struct-calls t) (list-struct-at t) list-struct.Post
 list-struct-same-length t c =
     search needs
 
--- src/coerce.rt:560:9
+-- src/coerce.rt:689:9
 list-struct-returns : (t : ℕ) → list-struct-lts.Need-returns (list-struct-calls t) (list-struct-at t) list-struct.Post
 list-struct-returns t c =
     listed-merged _ _ _ (c .before .before .before .before .before .before .before .before .before .before .before .before .before .before .before .before .args .swap) _ _ _ _ _ _ _ (c .before .before .before .before .before .before .before .before .before .before .before .before .look .ensures .0) (c .before .before .before .before .before .before .before .before .before .before .look2 .ensures .0) (c .before .before .before .before .before .before .before .before .same-arity .ensures) (c .before .before .before .before .before .before .have-same-names .ensures) (sym (c .before .before .before .before .before .both .ensures) ∙ (c .before .before .before .before .if1 .taken)) (c .before .before .before .before .before .before .before .before .before .before .before .before .before .before .before .before .pre .1 .1 .0) (c .before .before .before .before .before .before .before .before .before .before .before .before .before .before .before .before .pre .1 .1 .1) _ _ (c .before .before .under .ensures)
 
--- src/coerce.rt:538:1
+-- src/coerce.rt:667:1
 list-struct-same-length-2 : (t : ℕ) → list-struct-lts.Need-same-length-2 (list-struct-calls t) (list-struct-at t) list-struct.Post
 list-struct-same-length-2 t c =
     search needs
 
--- src/coerce.rt:538:1
+-- src/coerce.rt:667:1
 list-struct-returns-2 : (t : ℕ) → list-struct-lts.Need-returns-2 (list-struct-calls t) (list-struct-at t) list-struct.Post
 list-struct-returns-2 t c =
     listed-none _ _ _ (c .before .before .before .before .before .before .before .before .before .before .before .before .args .swap) _ _ _ _ _ _ _ (c .before .before .before .before .before .before .before .before .look .ensures .0) (c .before .before .before .before .before .before .look2 .ensures .0) (c .before .before .before .before .same-arity .ensures) (c .before .before .have-same-names .ensures) (sym (c .before .both .ensures) ∙ (c .if1 .left))
 
--- src/coerce.rt:597:17
+-- src/coerce.rt:727:17
 map-rule-add-label : (t : ℕ) → map-rule-lts.Need-add-label (map-rule-calls t) (map-rule-at t) map-rule.Post
 map-rule-add-label t c =
     search needs
 
--- src/coerce.rt:599:9
+-- src/coerce.rt:729:9
 map-rule-returns : (t : ℕ) → map-rule-lts.Need-returns (map-rule-calls t) (map-rule-at t) map-rule.Post
 map-rule-returns t c =
     merges-full _ _ _ _ _ _ _ _ _ (c .if1 .taken)
 
--- src/coerce.rt:601:9
+-- src/coerce.rt:731:9
 map-rule-look-requires : (t : ℕ) → map-rule-lts.Need-look-requires (map-rule-calls t) (map-rule-at t) map-rule.Post
 map-rule-look-requires t c κs =
     search needs
 
--- src/coerce.rt:602:9
+-- src/coerce.rt:732:9
 map-rule-look-requires-2 : (t : ℕ) → map-rule-lts.Need-look-requires-2 (map-rule-calls t) (map-rule-at t) map-rule.Post
 map-rule-look-requires-2 t c κs =
     search needs
 
--- src/coerce.rt:605:9
+-- src/coerce.rt:735:9
 map-rule-both-requires : (t : ℕ) → map-rule-lts.Need-both-requires (map-rule-calls t) (map-rule-at t) map-rule.Post
 map-rule-both-requires t c κs =
     search needs
 
--- src/coerce.rt:607:9
+-- src/coerce.rt:737:9
 map-rule-same-length : (t : ℕ) → map-rule-lts.Need-same-length (map-rule-calls t) (map-rule-at t) map-rule.Post
 map-rule-same-length t c =
     search needs
 
--- src/coerce.rt:607:9
+-- src/coerce.rt:737:9
 map-rule-returns-2 : (t : ℕ) → map-rule-lts.Need-returns-2 (map-rule-calls t) (map-rule-at t) map-rule.Post
 map-rule-returns-2 t c =
     map-left-end _ _ _ _ _ _ _ _ _ _ _ (c .before .before .before .before .before .before .look .ensures .0) (c .before .before .before .before .look2 .ensures .0) (c .if2 .taken)
 
--- src/coerce.rt:610:9
+-- src/coerce.rt:740:9
 map-rule-same-length-2 : (t : ℕ) → map-rule-lts.Need-same-length-2 (map-rule-calls t) (map-rule-at t) map-rule.Post
 map-rule-same-length-2 t c =
     search needs
 
--- src/coerce.rt:610:9
+-- src/coerce.rt:740:9
 map-rule-returns-3 : (t : ℕ) → map-rule-lts.Need-returns-3 (map-rule-calls t) (map-rule-at t) map-rule.Post
 map-rule-returns-3 t c =
     map-right-end _ _ _ _ _ _ _ _ _ _ _ (c .before .before .before .before .before .before .before .look .ensures .0) (c .before .before .before .before .before .look2 .ensures .0) (c .if3 .taken)
 
--- src/coerce.rt:612:46
+-- src/coerce.rt:742:46
 map-rule-add-lay : (t : ℕ) → map-rule-lts.Need-add-lay (map-rule-calls t) (map-rule-at t) map-rule.Post
 map-rule-add-lay t c =
     search needs
 
--- src/coerce.rt:612:5
+-- src/coerce.rt:742:5
 map-rule-lay-requires : (t : ℕ) → map-rule-lts.Need-lay-requires (map-rule-calls t) (map-rule-at t) map-rule.Post
 map-rule-lay-requires t c κs =
     ((c .before .before .before .before .before .before .before .before .before .before .before .before .before .before .before .pre .1), ((c .before .before .before .before .before .before .before .before .before .before .if1 .left), (omega arith, omega (arith, (c .before .before .before .before .before .before .before .before .before .before .if1 .left), (c .before .before .before .before .before .before .before .before .before .before .before .before .before .before .before .pre .1 .0 .few)))))
 
--- src/coerce.rt:623:20
+-- src/coerce.rt:753:20
 map-rule-add-t31 : (t : ℕ) → map-rule-lts.Need-add-t31 (map-rule-calls t) (map-rule-at t) map-rule.Post
 map-rule-add-t31 t c =
     record { fits = omega (arith, (c .before .before .before .before .before .before .before .before .before .before .before .before .before .before .if1 .left), (c .before .before .before .before .before .before .before .before .before .before .before .before .before .before .before .before .before .before .before .pre .1 .0 .few)) }
 
--- src/coerce.rt:613:5
+-- src/coerce.rt:743:5
 map-rule-entry-requires : (t : ℕ) → map-rule-lts.Need-entry-requires (map-rule-calls t) (map-rule-at t) map-rule.Post
 map-rule-entry-requires t c κs =
     (omega (arith, (c .before .before .before .before .before .before .before .before .before .before .before .before .before .before .before .before .before .before .before .pre .0)), (room-kept ((c .before .before .before .lay .ensures .kept)) (c .before .before .before .before .before .before .before .before .before .before .before .before .before .before .before .before .before .before .before .pre .1 .0), after-passes _ (c .before .before .before .before .before .before .before .before .before .before .before .before .before .before .before .before .before .before .before .pre .1 .1) (c .before .before .before .before .before .before .before .before .before .before .before .before .before .before .if1 .left) .0))
 
--- src/coerce.rt:581:1
+-- src/coerce.rt:711:1
 map-rule-same-length-3 : (t : ℕ) → map-rule-lts.Need-same-length-3 (map-rule-calls t) (map-rule-at t) map-rule.Post
 map-rule-same-length-3 t c =
     search needs
 
--- src/coerce.rt:581:1
+-- src/coerce.rt:711:1
 map-rule-returns-4 : (t : ℕ) → map-rule-lts.Need-returns-4 (map-rule-calls t) (map-rule-at t) map-rule.Post
 map-rule-returns-4 t c =
     map-on _ _ _ _ _ _ _ _ _ _ _ (c .before .before .before .before .before .before .before .before .before .before .before .before .before .before .before .look .ensures .0) (c .before .before .before .before .before .before .before .before .before .before .before .before .before .look2 .ensures .0) (c .before .before .before .before .before .before .before .before .before .before .before .before .before .before .before .before .before .before .before .before .before .before .pre .1 .0) (c .before .before .before .before .before .before .before .before .before .before .before .before .before .before .before .before .before .before .before .before .before .before .pre .1 .1) (c .before .before .before .before .before .before .before .before .before .before .before .before .before .before .before .before .before .if1 .left) _ _ _ _ (c .before .before .before .before .before .before .before .before .before .before .both .ensures) (c .before .before .before .before .before .before .before .before .before .if2 .left) (c .before .before .before .before .before .before .before .before .if3 .left) (c .before .before .before .before .before .before .lay .ensures) (c .before .before .entry .ensures)
 
--- src/coerce.rt:376:9
+-- src/coerce.rt:482:9
 nested-kind-at-requires : (t : ℕ) → nested-lts.Need-kind-at-requires (nested-calls t) (nested-at t) nested.Post
 nested-kind-at-requires t c κs =
     search needs
 
--- src/coerce.rt:377:9
+-- src/coerce.rt:483:9
 nested-kind-at-requires-2 : (t : ℕ) → nested-lts.Need-kind-at-requires-2 (nested-calls t) (nested-at t) nested.Post
 nested-kind-at-requires-2 t c κs =
     search needs
 
--- src/coerce.rt:378:13
+-- src/coerce.rt:484:13
 nested-is-list-requires : (t : ℕ) → nested-lts.Need-is-list-requires (nested-calls t) (nested-at t) nested.Post
 nested-is-list-requires t c κs =
     search needs
 
--- src/coerce.rt:378:25
+-- src/coerce.rt:484:25
 nested-is-list-requires-2 : (t : ℕ) → nested-lts.Need-is-list-requires-2 (nested-calls t) (nested-at t) nested.Post
 nested-is-list-requires-2 t c κs =
     search needs
 
--- src/coerce.rt:378:8
+-- src/coerce.rt:484:8
 nested-both-requires : (t : ℕ) → nested-lts.Need-both-requires (nested-calls t) (nested-at t) nested.Post
 nested-both-requires t c κs =
     search needs
 
--- src/coerce.rt:379:9
+-- src/coerce.rt:485:9
 nested-list-rule-requires : (t : ℕ) → nested-lts.Need-list-rule-requires (nested-calls t) (nested-at t) nested.Post
 nested-list-rule-requires t c κs =
     (omega (arith, (c .before .before .before .before .before .before .before .before .before .before .before .pre .0)), (c .before .before .before .before .before .before .before .before .before .before .before .pre .1))
 
--- src/coerce.rt:379:9
+-- src/coerce.rt:485:9
 nested-same-length : (t : ℕ) → nested-lts.Need-same-length (nested-calls t) (nested-at t) nested.Post
 nested-same-length t c =
     search needs
 
--- src/coerce.rt:379:9
+-- src/coerce.rt:485:9
 nested-returns : (t : ℕ) → nested-lts.Need-returns (nested-calls t) (nested-at t) nested.Post
 nested-returns t c =
-    nested-list _ _ _ _ (c .before .before .before .before .before .before .before .before .before .before .before .before .before .before .args .swap) _ _ _ _ _ (c .before .before .before .before .before .before .before .before .before .before .kind-at .ensures) (c .before .before .before .before .before .before .before .before .kind-at2 .ensures) _ _ (and-are (c .before .before .before .before .before .before .before .is-list .ensures) (c .before .before .before .before .before .before .is-list2 .ensures) (c .before .before .before .before .before .both .ensures) ∙ (c .before .before .before .before .if1 .taken)) (c .before .before .list-rule .ensures)
+    nested-list (c .before .before .before .before .before .before .before .before .before .before .before .before .before .before .args .known) _ _ _ _ _ (c .before .before .before .before .before .before .before .before .before .before .before .before .before .before .args .swap) _ _ _ _ _ (c .before .before .before .before .before .before .before .before .before .before .kind-at .ensures) (c .before .before .before .before .before .before .before .before .kind-at2 .ensures) _ _ (and-are (c .before .before .before .before .before .before .before .is-list .ensures) (c .before .before .before .before .before .before .is-list2 .ensures) (c .before .before .before .before .before .both .ensures) ∙ (c .before .before .before .before .if1 .taken)) (c .before .before .list-rule .ensures)
 
--- src/coerce.rt:381:8
+-- src/coerce.rt:499:8
 nested-both-requires-2 : (t : ℕ) → nested-lts.Need-both-requires-2 (nested-calls t) (nested-at t) nested.Post
 nested-both-requires-2 t c κs =
     search needs
 
--- src/coerce.rt:382:12
+-- src/coerce.rt:500:12
 nested-is-list-question-requires : (t : ℕ) → nested-lts.Need-is-list-question-requires (nested-calls t) (nested-at t) nested.Post
 nested-is-list-question-requires t c κs =
     search needs
 
--- src/coerce.rt:383:13
+-- src/coerce.rt:501:13
 nested-list-struct-requires : (t : ℕ) → nested-lts.Need-list-struct-requires (nested-calls t) (nested-at t) nested.Post
 nested-list-struct-requires t c κs =
     (omega (arith, (c .before .before .before .before .before .before .before .before .before .before .before .before .before .before .before .pre .0)), ((c .before .before .before .before .before .before .before .before .before .before .before .before .before .before .before .pre .1), both-are _ _ _ _ _ _ (c .before .before .before .before .before .before .before .before .before .before .before .kind-at .ensures) (c .before .before .before .before .before .before .before .before .before .kind-at2 .ensures) (sym (c .before .before .before .before .both2 .ensures) ∙ (c .before .before .before .if2 .taken))))
 
--- src/coerce.rt:383:13
+-- src/coerce.rt:501:13
 nested-same-length-2 : (t : ℕ) → nested-lts.Need-same-length-2 (nested-calls t) (nested-at t) nested.Post
 nested-same-length-2 t c =
     search needs
 
--- src/coerce.rt:383:13
+-- src/coerce.rt:501:13
 nested-returns-2 : (t : ℕ) → nested-lts.Need-returns-2 (nested-calls t) (nested-at t) nested.Post
 nested-returns-2 t c =
-    nested-listed _ _ _ _ (c .before .before .before .before .before .before .before .before .before .before .before .before .before .before .before .before .before .before .args .swap) _ _ _ _ _ (c .before .before .before .before .before .before .before .before .before .before .before .before .before .before .kind-at .ensures) (c .before .before .before .before .before .before .before .before .before .before .before .before .kind-at2 .ensures) _ _ (and-are (c .before .before .before .before .before .before .before .before .before .before .before .is-list .ensures) (c .before .before .before .before .before .before .before .before .before .before .is-list2 .ensures) (c .before .before .before .before .before .before .before .before .before .both .ensures) ∙ (c .before .before .before .before .before .before .before .before .if1 .left)) (sym (c .before .before .before .before .before .before .before .both2 .ensures) ∙ (c .before .before .before .before .before .before .if2 .taken)) (sym (c .before .before .before .before .before .is-list-question .ensures) ∙ (c .before .before .before .before .if3 .taken)) (c .before .before .list-struct .ensures)
+    nested-listed (c .before .before .before .before .before .before .before .before .before .before .before .before .before .before .before .before .before .before .args .known) _ _ _ _ _ (c .before .before .before .before .before .before .before .before .before .before .before .before .before .before .before .before .before .before .args .swap) _ _ _ _ _ (c .before .before .before .before .before .before .before .before .before .before .before .before .before .before .kind-at .ensures) (c .before .before .before .before .before .before .before .before .before .before .before .before .kind-at2 .ensures) _ _ (and-are (c .before .before .before .before .before .before .before .before .before .before .before .is-list .ensures) (c .before .before .before .before .before .before .before .before .before .before .is-list2 .ensures) (c .before .before .before .before .before .before .before .before .before .both .ensures) ∙ (c .before .before .before .before .before .before .before .before .if1 .left)) (sym (c .before .before .before .before .before .before .before .both2 .ensures) ∙ (c .before .before .before .before .before .before .if2 .taken)) (sym (c .before .before .before .before .before .is-list-question .ensures) ∙ (c .before .before .before .before .if3 .taken)) (c .before .before .list-struct .ensures)
 
--- src/coerce.rt:385:9
+-- src/coerce.rt:503:9
 nested-struct-rule-requires : (t : ℕ) → nested-lts.Need-struct-rule-requires (nested-calls t) (nested-at t) nested.Post
 nested-struct-rule-requires t c κs =
     (omega (arith, (c .before .before .before .before .before .before .before .before .before .before .before .before .before .before .before .pre .0)), (c .before .before .before .before .before .before .before .before .before .before .before .before .before .before .before .pre .1))
 
--- src/coerce.rt:385:9
+-- src/coerce.rt:503:9
 nested-same-length-3 : (t : ℕ) → nested-lts.Need-same-length-3 (nested-calls t) (nested-at t) nested.Post
 nested-same-length-3 t c =
     search needs
 
--- src/coerce.rt:385:9
+-- src/coerce.rt:503:9
 nested-returns-3 : (t : ℕ) → nested-lts.Need-returns-3 (nested-calls t) (nested-at t) nested.Post
 nested-returns-3 t c =
-    nested-struct _ _ _ _ (c .before .before .before .before .before .before .before .before .before .before .before .before .before .before .before .before .before .before .args .swap) _ _ _ _ _ (c .before .before .before .before .before .before .before .before .before .before .before .before .before .before .kind-at .ensures) (c .before .before .before .before .before .before .before .before .before .before .before .before .kind-at2 .ensures) _ _ (and-are (c .before .before .before .before .before .before .before .before .before .before .before .is-list .ensures) (c .before .before .before .before .before .before .before .before .before .before .is-list2 .ensures) (c .before .before .before .before .before .before .before .before .before .both .ensures) ∙ (c .before .before .before .before .before .before .before .before .if1 .left)) (sym (c .before .before .before .before .before .before .before .both2 .ensures) ∙ (c .before .before .before .before .before .before .if2 .taken)) (sym (c .before .before .before .before .before .is-list-question .ensures) ∙ (c .before .before .before .before .if3 .left)) (c .before .before .struct-rule .ensures)
+    nested-struct (c .before .before .before .before .before .before .before .before .before .before .before .before .before .before .before .before .before .before .args .known) _ _ _ _ _ (c .before .before .before .before .before .before .before .before .before .before .before .before .before .before .before .before .before .before .args .swap) _ _ _ _ _ (c .before .before .before .before .before .before .before .before .before .before .before .before .before .before .kind-at .ensures) (c .before .before .before .before .before .before .before .before .before .before .before .before .kind-at2 .ensures) _ _ (and-are (c .before .before .before .before .before .before .before .before .before .before .before .is-list .ensures) (c .before .before .before .before .before .before .before .before .before .before .is-list2 .ensures) (c .before .before .before .before .before .before .before .before .before .both .ensures) ∙ (c .before .before .before .before .before .before .before .before .if1 .left)) (sym (c .before .before .before .before .before .before .before .both2 .ensures) ∙ (c .before .before .before .before .before .before .if2 .taken)) (sym (c .before .before .before .before .before .is-list-question .ensures) ∙ (c .before .before .before .before .if3 .left)) (c .before .before .struct-rule .ensures)
 
--- src/coerce.rt:387:8
+-- src/coerce.rt:505:8
 nested-both-requires-3 : (t : ℕ) → nested-lts.Need-both-requires-3 (nested-calls t) (nested-at t) nested.Post
 nested-both-requires-3 t c κs =
     search needs
 
--- src/coerce.rt:388:9
+-- src/coerce.rt:506:9
 nested-map-rule-requires : (t : ℕ) → nested-lts.Need-map-rule-requires (nested-calls t) (nested-at t) nested.Post
 nested-map-rule-requires t c κs =
     (omega (arith, (c .before .before .before .before .before .before .before .before .before .before .before .before .before .before .before .pre .0)), (c .before .before .before .before .before .before .before .before .before .before .before .before .before .before .before .pre .1))
 
--- src/coerce.rt:388:9
+-- src/coerce.rt:506:9
 nested-same-length-4 : (t : ℕ) → nested-lts.Need-same-length-4 (nested-calls t) (nested-at t) nested.Post
 nested-same-length-4 t c =
     search needs
 
--- src/coerce.rt:388:9
+-- src/coerce.rt:506:9
 nested-returns-4 : (t : ℕ) → nested-lts.Need-returns-4 (nested-calls t) (nested-at t) nested.Post
 nested-returns-4 t c =
-    nested-map _ _ _ _ (c .before .before .before .before .before .before .before .before .before .before .before .before .before .before .before .before .before .before .args .swap) _ _ _ _ _ (c .before .before .before .before .before .before .before .before .before .before .before .before .before .before .kind-at .ensures) (c .before .before .before .before .before .before .before .before .before .before .before .before .kind-at2 .ensures) _ _ (and-are (c .before .before .before .before .before .before .before .before .before .before .before .is-list .ensures) (c .before .before .before .before .before .before .before .before .before .before .is-list2 .ensures) (c .before .before .before .before .before .before .before .before .before .both .ensures) ∙ (c .before .before .before .before .before .before .before .before .if1 .left)) (sym (c .before .before .before .before .before .before .before .both2 .ensures) ∙ (c .before .before .before .before .before .before .if2 .left)) (sym (c .before .before .before .before .before .both3 .ensures) ∙ (c .before .before .before .before .if4 .taken)) (c .before .before .map-rule .ensures)
+    nested-map (c .before .before .before .before .before .before .before .before .before .before .before .before .before .before .before .before .before .before .args .known) _ _ _ _ _ (c .before .before .before .before .before .before .before .before .before .before .before .before .before .before .before .before .before .before .args .swap) _ _ _ _ _ (c .before .before .before .before .before .before .before .before .before .before .before .before .before .before .kind-at .ensures) (c .before .before .before .before .before .before .before .before .before .before .before .before .kind-at2 .ensures) _ _ (and-are (c .before .before .before .before .before .before .before .before .before .before .before .is-list .ensures) (c .before .before .before .before .before .before .before .before .before .before .is-list2 .ensures) (c .before .before .before .before .before .before .before .before .before .both .ensures) ∙ (c .before .before .before .before .before .before .before .before .if1 .left)) (sym (c .before .before .before .before .before .before .before .both2 .ensures) ∙ (c .before .before .before .before .before .before .if2 .left)) (sym (c .before .before .before .before .before .both3 .ensures) ∙ (c .before .before .before .before .if4 .taken)) (c .before .before .map-rule .ensures)
 
--- src/coerce.rt:390:5
+-- src/coerce.rt:508:5
 nested-plain-rule-requires : (t : ℕ) → nested-lts.Need-plain-rule-requires (nested-calls t) (nested-at t) nested.Post
 nested-plain-rule-requires t c κs =
     (c .before .before .before .before .before .before .before .before .before .before .before .before .before .before .before .pre .1)
 
--- src/coerce.rt:361:1
+-- src/coerce.rt:466:1
 nested-same-length-5 : (t : ℕ) → nested-lts.Need-same-length-5 (nested-calls t) (nested-at t) nested.Post
 nested-same-length-5 t c =
     search needs
 
--- src/coerce.rt:361:1
+-- src/coerce.rt:466:1
 nested-returns-5 : (t : ℕ) → nested-lts.Need-returns-5 (nested-calls t) (nested-at t) nested.Post
 nested-returns-5 t c =
-    nested-plain _ _ _ _ (c .before .before .before .before .before .before .before .before .before .before .before .before .before .before .before .before .before .before .args .swap) _ _ _ _ _ (c .before .before .before .before .before .before .before .before .before .before .before .before .before .before .kind-at .ensures) (c .before .before .before .before .before .before .before .before .before .before .before .before .kind-at2 .ensures) _ _ (and-are (c .before .before .before .before .before .before .before .before .before .before .before .is-list .ensures) (c .before .before .before .before .before .before .before .before .before .before .is-list2 .ensures) (c .before .before .before .before .before .before .before .before .before .both .ensures) ∙ (c .before .before .before .before .before .before .before .before .if1 .left)) (sym (c .before .before .before .before .before .before .before .both2 .ensures) ∙ (c .before .before .before .before .before .before .if2 .left)) (sym (c .before .before .before .before .before .both3 .ensures) ∙ (c .before .before .before .before .if4 .left)) (c .before .before .plain-rule .ensures)
+    nested-plain (c .before .before .before .before .before .before .before .before .before .before .before .before .before .before .before .before .before .before .args .known) _ _ _ _ _ (c .before .before .before .before .before .before .before .before .before .before .before .before .before .before .before .before .before .before .args .swap) _ _ _ _ _ (c .before .before .before .before .before .before .before .before .before .before .before .before .before .before .kind-at .ensures) (c .before .before .before .before .before .before .before .before .before .before .before .before .kind-at2 .ensures) _ _ (and-are (c .before .before .before .before .before .before .before .before .before .before .before .is-list .ensures) (c .before .before .before .before .before .before .before .before .before .before .is-list2 .ensures) (c .before .before .before .before .before .before .before .before .before .both .ensures) ∙ (c .before .before .before .before .before .before .before .before .if1 .left)) (sym (c .before .before .before .before .before .before .before .both2 .ensures) ∙ (c .before .before .before .before .before .before .if2 .left)) (sym (c .before .before .before .before .before .both3 .ensures) ∙ (c .before .before .before .before .if4 .left)) (c .before .before .plain-rule .ensures)
 
--- src/coerce.rt:98:9
+-- src/coerce.rt:168:9
 resolve-kind-at-requires : (t : ℕ) → resolve-lts.Need-kind-at-requires (resolve-calls t) (resolve-at t) resolve.Post
 resolve-kind-at-requires t c κs =
     search needs
 
--- src/coerce.rt:99:9
+-- src/coerce.rt:169:9
 resolve-kind-at-requires-2 : (t : ℕ) → resolve-lts.Need-kind-at-requires-2 (resolve-calls t) (resolve-at t) resolve.Post
 resolve-kind-at-requires-2 t c κs =
     search needs
 
--- src/coerce.rt:100:8
+-- src/coerce.rt:170:8
 resolve-either-requires : (t : ℕ) → resolve-lts.Need-either-requires (resolve-calls t) (resolve-at t) resolve.Post
 resolve-either-requires t c κs =
     search needs
 
--- src/coerce.rt:101:9
+-- src/coerce.rt:171:9
 resolve-resolve-wrapper-requires : (t : ℕ) → resolve-lts.Need-resolve-wrapper-requires (resolve-calls t) (resolve-at t) resolve.Post
 resolve-resolve-wrapper-requires t c κs =
     (omega (arith, (c .before .before .before .before .before .before .before .before .before .pre .0)), ((c .before .before .before .before .before .before .before .before .before .pre .1), refl))
 
--- src/coerce.rt:101:9
+-- src/coerce.rt:171:9
 resolve-same-length : (t : ℕ) → resolve-lts.Need-same-length (resolve-calls t) (resolve-at t) resolve.Post
 resolve-same-length t c =
     search needs
 
--- src/coerce.rt:101:9
+-- src/coerce.rt:171:9
 resolve-returns : (t : ℕ) → resolve-lts.Need-returns (resolve-calls t) (resolve-at t) resolve.Post
 resolve-returns t c =
     resolve-dictionary _ _ _ _ (c .before .before .before .before .before .before .before .before .before .before .before .before .args .swap) _ _ _ _ _ (c .before .before .before .before .before .before .before .before .kind-at .ensures) (c .before .before .before .before .before .before .kind-at2 .ensures) _ _ (sym (c .before .before .before .before .before .either .ensures) ∙ (c .before .before .before .before .if1 .taken)) (c .before .before .resolve-wrapper .ensures)
 
--- src/coerce.rt:103:8
+-- src/coerce.rt:173:8
 resolve-either-requires-2 : (t : ℕ) → resolve-lts.Need-either-requires-2 (resolve-calls t) (resolve-at t) resolve.Post
 resolve-either-requires-2 t c κs =
     search needs
 
--- src/coerce.rt:104:9
+-- src/coerce.rt:174:9
 resolve-resolve-wrapper-requires-2 : (t : ℕ) → resolve-lts.Need-resolve-wrapper-requires-2 (resolve-calls t) (resolve-at t) resolve.Post
 resolve-resolve-wrapper-requires-2 t c κs =
     (omega (arith, (c .before .before .before .before .before .before .before .before .before .before .before .pre .0)), ((c .before .before .before .before .before .before .before .before .before .before .before .pre .1), refl))
 
--- src/coerce.rt:104:9
+-- src/coerce.rt:174:9
 resolve-same-length-2 : (t : ℕ) → resolve-lts.Need-same-length-2 (resolve-calls t) (resolve-at t) resolve.Post
 resolve-same-length-2 t c =
     search needs
 
--- src/coerce.rt:104:9
+-- src/coerce.rt:174:9
 resolve-returns-2 : (t : ℕ) → resolve-lts.Need-returns-2 (resolve-calls t) (resolve-at t) resolve.Post
 resolve-returns-2 t c =
     resolve-runs _ _ _ _ (c .before .before .before .before .before .before .before .before .before .before .before .before .before .before .args .swap) _ _ _ _ _ (c .before .before .before .before .before .before .before .before .before .before .kind-at .ensures) (c .before .before .before .before .before .before .before .before .kind-at2 .ensures) _ _ (sym (c .before .before .before .before .before .before .before .either .ensures) ∙ (c .before .before .before .before .before .before .if1 .left)) (sym (c .before .before .before .before .before .either2 .ensures) ∙ (c .before .before .before .before .if2 .taken)) (c .before .before .resolve-wrapper2 .ensures)
 
--- src/coerce.rt:106:5
+-- src/coerce.rt:176:5
 resolve-nested-requires : (t : ℕ) → resolve-lts.Need-nested-requires (resolve-calls t) (resolve-at t) resolve.Post
 resolve-nested-requires t c κs =
     (omega (arith, (c .before .before .before .before .before .before .before .before .before .before .before .pre .0)), (c .before .before .before .before .before .before .before .before .before .before .before .pre .1))
 
--- src/coerce.rt:83:1
+-- src/coerce.rt:153:1
 resolve-same-length-3 : (t : ℕ) → resolve-lts.Need-same-length-3 (resolve-calls t) (resolve-at t) resolve.Post
 resolve-same-length-3 t c =
     search needs
 
--- src/coerce.rt:83:1
+-- src/coerce.rt:153:1
 resolve-returns-3 : (t : ℕ) → resolve-lts.Need-returns-3 (resolve-calls t) (resolve-at t) resolve.Post
 resolve-returns-3 t c =
-    resolve-nested _ _ _ _ (c .before .before .before .before .before .before .before .before .before .before .before .before .before .before .args .swap) _ _ _ _ _ (c .before .before .before .before .before .before .before .before .before .before .kind-at .ensures) (c .before .before .before .before .before .before .before .before .kind-at2 .ensures) _ _ (sym (c .before .before .before .before .before .before .before .either .ensures) ∙ (c .before .before .before .before .before .before .if1 .left)) (sym (c .before .before .before .before .before .either2 .ensures) ∙ (c .before .before .before .before .if2 .left)) (c .before .before .nested .ensures)
+    resolve-nested _ _ _ _ (c .before .before .before .before .before .before .before .before .before .before .before .before .before .before .args .swap) _ _ _ _ _ (c .before .before .before .before .before .before .before .before .before .before .kind-at .ensures) (c .before .before .before .before .before .before .before .before .kind-at2 .ensures) _ _ (sym (c .before .before .before .before .before .before .before .either .ensures) ∙ (c .before .before .before .before .before .before .if1 .left)) (sym (c .before .before .before .before .before .either2 .ensures) ∙ (c .before .before .before .before .if2 .left)) (none-known (c .before .before .before .before .before .before .before .before .before .before .before .before .before .before .args .swap) (c .before .before .nested .ensures))
 
--- src/coerce.rt:127:9
+-- src/coerce.rt:209:9
 resolve-wrapper-kind-at-requires : (t : ℕ) → resolve-wrapper-lts.Need-kind-at-requires (resolve-wrapper-calls t) (resolve-wrapper-at t) resolve-wrapper.Post
 resolve-wrapper-kind-at-requires t c κs =
     search needs
 
--- src/coerce.rt:128:9
+-- src/coerce.rt:210:9
 resolve-wrapper-kind-at-requires-2 : (t : ℕ) → resolve-wrapper-lts.Need-kind-at-requires-2 (resolve-wrapper-calls t) (resolve-wrapper-at t) resolve-wrapper.Post
 resolve-wrapper-kind-at-requires-2 t c κs =
     search needs
 
--- src/coerce.rt:131:13
+-- src/coerce.rt:213:13
 resolve-wrapper-both-parts-requires : (t : ℕ) → resolve-wrapper-lts.Need-both-parts-requires (resolve-wrapper-calls t) (resolve-wrapper-at t) resolve-wrapper.Post
 resolve-wrapper-both-parts-requires t c κs =
     (omega (arith, (c .before .before .before .before .before .before .before .before .before .pre .0)), (c .before .before .before .before .before .before .before .before .before .pre .1 .0))
 
--- src/coerce.rt:131:13
+-- src/coerce.rt:213:13
 resolve-wrapper-same-length : (t : ℕ) → resolve-wrapper-lts.Need-same-length (resolve-wrapper-calls t) (resolve-wrapper-at t) resolve-wrapper.Post
 resolve-wrapper-same-length t c =
     search needs
 
--- src/coerce.rt:131:13
+-- src/coerce.rt:213:13
 resolve-wrapper-returns : (t : ℕ) → resolve-wrapper-lts.Need-returns (resolve-wrapper-calls t) (resolve-wrapper-at t) resolve-wrapper.Post
 resolve-wrapper-returns t c =
     wrap-both _ _ _ (c .before .before .before .before .before .before .before .before .before .before .before .before .args .swap) _ _ _ _ _ (c .before .before .before .before .before .before .before .before .kind-at .ensures) (c .before .before .before .before .before .before .kind-at2 .ensures) (c .before .before .before .before .before .before .before .before .before .before .before .before .pre .1 .1) _ _ (c .before .before .before .before .before .if1 .taken) (c .before .before .before .before .if2 .taken) (c .before .before .both-parts .ensures)
 
--- src/coerce.rt:133:9
+-- src/coerce.rt:215:9
 resolve-wrapper-rewrapped-requires : (t : ℕ) → resolve-wrapper-lts.Need-rewrapped-requires (resolve-wrapper-calls t) (resolve-wrapper-at t) resolve-wrapper.Post
 resolve-wrapper-rewrapped-requires t c κs =
     (omega (arith, (c .before .before .before .before .before .before .before .before .before .pre .0)), ((c .before .before .before .before .before .before .before .before .before .pre .1 .0), ((c .before .before .before .before .before .before .before .before .before .pre .1 .1), sym (c .before .before .before .before .before .kind-at .ensures) ∙ (c .before .before .if1 .taken))))
 
--- src/coerce.rt:133:9
+-- src/coerce.rt:215:9
 resolve-wrapper-same-length-2 : (t : ℕ) → resolve-wrapper-lts.Need-same-length-2 (resolve-wrapper-calls t) (resolve-wrapper-at t) resolve-wrapper.Post
 resolve-wrapper-same-length-2 t c =
     search needs
 
--- src/coerce.rt:133:9
+-- src/coerce.rt:215:9
 resolve-wrapper-returns-2 : (t : ℕ) → resolve-wrapper-lts.Need-returns-2 (resolve-wrapper-calls t) (resolve-wrapper-at t) resolve-wrapper.Post
 resolve-wrapper-returns-2 t c =
     wrap-left _ _ _ (c .before .before .before .before .before .before .before .before .before .before .before .before .args .swap) _ _ _ _ _ (c .before .before .before .before .before .before .before .before .kind-at .ensures) (c .before .before .before .before .before .before .kind-at2 .ensures) (c .before .before .before .before .before .before .before .before .before .before .before .before .pre .1 .1) _ _ (c .before .before .before .before .before .if1 .taken) (c .before .before .before .before .if2 .left) (c .before .before .rewrapped .ensures)
 
--- src/coerce.rt:148:9
+-- src/coerce.rt:230:9
 resolve-wrapper-rewrapped-requires-2 : (t : ℕ) → resolve-wrapper-lts.Need-rewrapped-requires-2 (resolve-wrapper-calls t) (resolve-wrapper-at t) resolve-wrapper.Post
 resolve-wrapper-rewrapped-requires-2 t c κs =
     (omega (arith, (c .before .before .before .before .before .before .before .before .before .pre .0)), ((c .before .before .before .before .before .before .before .before .before .pre .1 .0), ((c .before .before .before .before .before .before .before .before .before .pre .1 .1), sym (c .before .before .before .kind-at2 .ensures) ∙ (c .before .if3 .taken))))
 
--- src/coerce.rt:148:9
+-- src/coerce.rt:230:9
 resolve-wrapper-same-length-3 : (t : ℕ) → resolve-wrapper-lts.Need-same-length-3 (resolve-wrapper-calls t) (resolve-wrapper-at t) resolve-wrapper.Post
 resolve-wrapper-same-length-3 t c =
     search needs
 
--- src/coerce.rt:148:9
+-- src/coerce.rt:230:9
 resolve-wrapper-returns-3 : (t : ℕ) → resolve-wrapper-lts.Need-returns-3 (resolve-wrapper-calls t) (resolve-wrapper-at t) resolve-wrapper.Post
 resolve-wrapper-returns-3 t c =
     wrap-right _ _ _ (c .before .before .before .before .before .before .before .before .before .before .before .before .args .swap) _ _ _ _ _ (c .before .before .before .before .before .before .before .before .kind-at .ensures) (c .before .before .before .before .before .before .kind-at2 .ensures) (c .before .before .before .before .before .before .before .before .before .before .before .before .pre .1 .1) _ _ (c .before .before .before .before .before .if1 .left) (c .before .before .before .before .if3 .taken) (c .before .before .rewrapped2 .ensures)
 
--- src/coerce.rt:110:1
+-- src/coerce.rt:192:1
 resolve-wrapper-same-length-4 : (t : ℕ) → resolve-wrapper-lts.Need-same-length-4 (resolve-wrapper-calls t) (resolve-wrapper-at t) resolve-wrapper.Post
 resolve-wrapper-same-length-4 t c =
     search needs
 
--- src/coerce.rt:110:1
+-- src/coerce.rt:192:1
 resolve-wrapper-returns-4 : (t : ℕ) → resolve-wrapper-lts.Need-returns-4 (resolve-wrapper-calls t) (resolve-wrapper-at t) resolve-wrapper.Post
 resolve-wrapper-returns-4 t c =
     wrap-none _ _ _ (c .before .before .before .before .before .before .before .before .args .swap) _ _ _ _ _ (c .before .before .before .before .kind-at .ensures) (c .before .before .kind-at2 .ensures) (c .before .before .before .before .before .before .before .before .pre .1 .1) (c .before .if1 .left) (c .if3 .left)
 
--- src/coerce.rt:227:9
+-- src/coerce.rt:310:9
 rewrapped-returns : (t : ℕ) → rewrapped-lts.Need-returns (rewrapped-calls t) (rewrapped-at t) rewrapped.Post
 rewrapped-returns t c =
     merges-full _ _ _ _ _ _ _ _ _ (c .if1 .taken)
 
--- src/coerce.rt:229:9
+-- src/coerce.rt:312:9
 rewrapped-look-requires : (t : ℕ) → rewrapped-lts.Need-look-requires (rewrapped-calls t) (rewrapped-at t) rewrapped.Post
 rewrapped-look-requires t c κs =
     search needs
 
--- src/coerce.rt:231:18
+-- src/coerce.rt:314:18
 rewrapped-look-requires-2 : (t : ℕ) → rewrapped-lts.Need-look-requires-2 (rewrapped-calls t) (rewrapped-at t) rewrapped.Post
 rewrapped-look-requires-2 t c κs =
     search needs
 
--- src/coerce.rt:232:11
+-- src/coerce.rt:315:11
 rewrapped-copy-head-requires : (t : ℕ) → rewrapped-lts.Need-copy-head-requires (rewrapped-calls t) (rewrapped-at t) rewrapped.Post
 rewrapped-copy-head-requires t c κs =
     ((c .before .before .before .before .before .before .before .before .before .before .pre .1 .0), ((c .before .before .before .before .before .if1 .left), (omega arith, (c .before .before .before .look .ensures .1))))
 
--- src/coerce.rt:233:19
+-- src/coerce.rt:316:19
 rewrapped-enum-known-a : (t : ℕ) → rewrapped-lts.Need-enum-known-a (rewrapped-calls t) (rewrapped-at t) rewrapped.Post
 rewrapped-enum-known-a t c =
     search needs
 
--- src/coerce.rt:233:31
+-- src/coerce.rt:316:31
 rewrapped-copy-field-requires : (t : ℕ) → rewrapped-lts.Need-copy-field-requires (rewrapped-calls t) (rewrapped-at t) rewrapped.Post
 rewrapped-copy-field-requires t c κs =
     let cp = rw (c .before .before .a .given .1) at (c .before .before .before .before .before .before .copy-head .ensures) in
     (room-kept (cp .kept) (c .before .before .before .before .before .before .before .before .before .before .before .before .before .before .before .before .before .pre .1 .0 .0), cp .passes .0)
 
--- src/coerce.rt:234:23
+-- src/coerce.rt:317:23
 rewrapped-enum-known-b : (t : ℕ) → rewrapped-lts.Need-enum-known-b (rewrapped-calls t) (rewrapped-at t) rewrapped.Post
 rewrapped-enum-known-b t c =
     search needs
 
--- src/coerce.rt:234:35
+-- src/coerce.rt:317:35
 rewrapped-coerce-field-requires : (t : ℕ) → rewrapped-lts.Need-coerce-field-requires (rewrapped-calls t) (rewrapped-at t) rewrapped.Post
 rewrapped-coerce-field-requires t c κs =
     let cp = rw (c .before .before .before .before .before .before .before .before .before .a .given .1) at (c .before .before .before .before .before .before .before .before .before .before .before .before .before .copy-head .ensures) in
     let cf = rw (c .before .before .b .given .1) at (c .before .before .before .before .before .before .copy-field .ensures) in
     (omega (arith, (c .before .before .before .before .before .before .before .before .before .before .before .before .before .before .before .before .before .before .before .before .before .before .before .before .pre .0)), (room-kept (cf .kept) (room-kept (cp .kept) (c .before .before .before .before .before .before .before .before .before .before .before .before .before .before .before .before .before .before .before .before .before .before .before .before .pre .1 .0 .0)), cf .grows .0))
 
--- src/coerce.rt:246:27
+-- src/coerce.rt:329:27
 rewrapped-enum-known-e : (t : ℕ) → rewrapped-lts.Need-enum-known-e (rewrapped-calls t) (rewrapped-at t) rewrapped.Post
 rewrapped-enum-known-e t c =
     search needs
 
--- src/coerce.rt:248:21
+-- src/coerce.rt:331:21
 rewrapped-tie-requires : (t : ℕ) → rewrapped-lts.Need-tie-requires (rewrapped-calls t) (rewrapped-at t) rewrapped.Post
 rewrapped-tie-requires t c κs =
     let cp = rw (c .before .before .before .before .before .before .before .before .before .before .before .before .before .before .before .before .a .given .1) at (c .before .before .before .before .before .before .before .before .before .before .before .before .before .before .before .before .before .before .before .before .copy-head .ensures) in
@@ -1059,7 +1133,7 @@ rewrapped-tie-requires t c κs =
     let mf = rw (c .before .before .e .given .1) at (c .before .before .before .before .before .before .coerce-field .ensures) in
     ((room-kept (mf .kept) (room-kept (cf .kept) (room-kept (cp .kept) (c .before .before .before .before .before .before .before .before .before .before .before .before .before .before .before .before .before .before .before .before .before .before .before .before .before .before .before .before .before .before .before .pre .1 .0 .0)))), (omega (arith, cf .further, cf .grows .0 .records), omega (arith, cf .grows .0 .records, (c .before .before .before .before .before .before .before .before .before .before .before .before .before .before .before .before .before .before .before .before .before .before .before .before .before .before .before .before .before .before .before .pre .1 .0 .0 .few))))
 
--- src/coerce.rt:249:21
+-- src/coerce.rt:332:21
 rewrapped-keep-wrapper-requires : (t : ℕ) → rewrapped-lts.Need-keep-wrapper-requires (rewrapped-calls t) (rewrapped-at t) rewrapped.Post
 rewrapped-keep-wrapper-requires t c κs =
     let cp = rw (c .before .before .before .before .before .before .before .before .before .before .before .before .before .before .before .before .before .before .before .before .a .given .1) at (c .before .before .before .before .before .before .before .before .before .before .before .before .before .before .before .before .before .before .before .before .before .before .before .before .copy-head .ensures) in
@@ -1067,37 +1141,37 @@ rewrapped-keep-wrapper-requires t c κs =
     let mf = rw (c .before .before .before .before .before .before .e .given .1) at (c .before .before .before .before .before .before .before .before .before .before .coerce-field .ensures) in
     (room-kept (tied-kept _ _ _ _ _ (c .before .before .before .tie .ensures) 0 (omega (arith, cf .further, cf .grows .0 .records))) (room-kept (mf .kept) (room-kept (cf .kept) (room-kept (cp .kept) (c .before .before .before .before .before .before .before .before .before .before .before .before .before .before .before .before .before .before .before .before .before .before .before .before .before .before .before .before .before .before .before .before .before .before .before .pre .1 .0 .0)))), (c .before .before .before .before .before .before .before .before .before .before .before .before .before .before .before .before .before .before .before .before .before .before .before .before .before .before .before .before .before .before .before .before .before .before .before .pre .1 .0 .1))
 
--- src/coerce.rt:251:28
+-- src/coerce.rt:334:28
 rewrapped-enum-told : (t : ℕ) → rewrapped-lts.Need-enum-told (rewrapped-calls t) (rewrapped-at t) rewrapped.Post
 rewrapped-enum-told t c =
     search needs
 
--- src/coerce.rt:252:30
+-- src/coerce.rt:335:30
 rewrapped-enum-told-2 : (t : ℕ) → rewrapped-lts.Need-enum-told-2 (rewrapped-calls t) (rewrapped-at t) rewrapped.Post
 rewrapped-enum-told-2 t c =
     search needs
 
--- src/coerce.rt:254:24
+-- src/coerce.rt:337:24
 rewrapped-enum-told-3 : (t : ℕ) → rewrapped-lts.Need-enum-told-3 (rewrapped-calls t) (rewrapped-at t) rewrapped.Post
 rewrapped-enum-told-3 t c =
     search needs
 
--- src/coerce.rt:255:26
+-- src/coerce.rt:338:26
 rewrapped-enum-told-4 : (t : ℕ) → rewrapped-lts.Need-enum-told-4 (rewrapped-calls t) (rewrapped-at t) rewrapped.Post
 rewrapped-enum-told-4 t c =
     search needs
 
--- src/coerce.rt:257:20
+-- src/coerce.rt:340:20
 rewrapped-enum-told-5 : (t : ℕ) → rewrapped-lts.Need-enum-told-5 (rewrapped-calls t) (rewrapped-at t) rewrapped.Post
 rewrapped-enum-told-5 t c =
     search needs
 
--- src/coerce.rt:258:22
+-- src/coerce.rt:341:22
 rewrapped-enum-told-6 : (t : ℕ) → rewrapped-lts.Need-enum-told-6 (rewrapped-calls t) (rewrapped-at t) rewrapped.Post
 rewrapped-enum-told-6 t c =
     search needs
 
--- src/coerce.rt:209:1
+-- src/coerce.rt:292:1
 rewrapped-same-length : (t : ℕ) → rewrapped-lts.Need-same-length (rewrapped-calls t) (rewrapped-at t) rewrapped.Post
 rewrapped-same-length t c =
     let cp = rw (c .before .before .before .before .before .before .before .before .before .before .before .before .before .before .before .before .before .before .before .before .before .before .before .a .given .1) at (c .before .before .before .before .before .before .before .before .before .before .before .before .before .before .before .before .before .before .before .before .before .before .before .before .before .before .before .copy-head .ensures) in
@@ -1105,7 +1179,7 @@ rewrapped-same-length t c =
     let mf = rw (c .before .before .before .before .before .before .before .before .before .e .given .1) at (c .before .before .before .before .before .before .before .before .before .before .before .before .before .coerce-field .ensures) in
     wrapper-on _ _ _ _ _ _ _ _ _ _ (c .before .before .before .before .before .before .before .before .before .before .before .before .before .before .before .before .before .before .before .before .before .before .before .before .before .before .before .before .before .before .before .before .before .before .before .before .before .before .pre .1 .0 .0) (c .before .before .before .before .before .before .before .before .before .before .before .before .before .before .before .before .before .before .before .before .before .before .before .before .before .before .before .before .before .before .before .before .before .before .before .before .before .before .pre .1 .1 .0) _ (c .before .before .before .before .before .before .before .before .before .before .before .before .before .before .before .before .before .before .before .before .before .before .before .before .before .before .before .before .before .before .before .look .ensures .0) (c .before .before .before .before .before .before .before .before .before .before .before .before .before .before .before .before .before .before .before .before .before .before .before .before .before .before .before .before .before .before .before .before .before .before .before .before .before .before .pre .1 .1 .1) _ (c .before .before .before .before .before .before .before .before .before .before .before .before .before .before .before .before .before .before .before .before .before .before .before .before .before .before .before .before .before .look2 .ensures .0) _ _ cp _ _ cf _ _ mf _ (c .before .before .before .before .before .before .tie .ensures) _ _ (c .before .before .keep-wrapper .ensures) .writes .kept .long
 
--- src/coerce.rt:209:1
+-- src/coerce.rt:292:1
 rewrapped-returns-2 : (t : ℕ) → rewrapped-lts.Need-returns-2 (rewrapped-calls t) (rewrapped-at t) rewrapped.Post
 rewrapped-returns-2 t c =
     let cp = rw (c .before .before .before .before .before .before .before .before .before .before .before .before .before .before .before .before .before .before .before .before .before .before .before .a .given .1) at (c .before .before .before .before .before .before .before .before .before .before .before .before .before .before .before .before .before .before .before .before .before .before .before .before .before .before .before .copy-head .ensures) in
@@ -1113,519 +1187,532 @@ rewrapped-returns-2 t c =
     let mf = rw (c .before .before .before .before .before .before .before .before .before .e .given .1) at (c .before .before .before .before .before .before .before .before .before .before .before .before .before .coerce-field .ensures) in
     wrapper-on _ _ _ _ _ _ _ _ _ _ (c .before .before .before .before .before .before .before .before .before .before .before .before .before .before .before .before .before .before .before .before .before .before .before .before .before .before .before .before .before .before .before .before .before .before .before .before .before .before .pre .1 .0 .0) (c .before .before .before .before .before .before .before .before .before .before .before .before .before .before .before .before .before .before .before .before .before .before .before .before .before .before .before .before .before .before .before .before .before .before .before .before .before .before .pre .1 .1 .0) _ (c .before .before .before .before .before .before .before .before .before .before .before .before .before .before .before .before .before .before .before .before .before .before .before .before .before .before .before .before .before .before .before .look .ensures .0) (c .before .before .before .before .before .before .before .before .before .before .before .before .before .before .before .before .before .before .before .before .before .before .before .before .before .before .before .before .before .before .before .before .before .before .before .before .before .before .pre .1 .1 .1) _ (c .before .before .before .before .before .before .before .before .before .before .before .before .before .before .before .before .before .before .before .before .before .before .before .before .before .before .before .before .before .look2 .ensures .0) _ _ cp _ _ cf _ _ mf _ (c .before .before .before .before .before .before .tie .ensures) _ _ (c .before .before .keep-wrapper .ensures)
 
--- src/coerce.rt:209:1
+-- src/coerce.rt:292:1
 rewrapped-same-length-2 : (t : ℕ) → rewrapped-lts.Need-same-length-2 (rewrapped-calls t) (rewrapped-at t) rewrapped.Post
 rewrapped-same-length-2 t c =
     search needs
 
--- src/coerce.rt:209:1
+-- src/coerce.rt:292:1
 rewrapped-returns-3 : (t : ℕ) → rewrapped-lts.Need-returns-3 (rewrapped-calls t) (rewrapped-at t) rewrapped.Post
 rewrapped-returns-3 t c =
     let cp = rw (c .before .before .before .before .before .before .before .before .before .before .before .before .before .before .a .given .1) at (c .before .before .before .before .before .before .before .before .before .before .before .before .before .before .before .before .before .before .copy-head .ensures) in
     let cf = rw (c .before .before .before .before .before .before .before .b .given .1) at (c .before .before .before .before .before .before .before .before .before .before .before .copy-field .ensures) in
     value-none _ _ _ _ _ _ _ _ _ _ (c .before .before .before .before .before .before .before .before .before .before .before .before .before .before .before .before .before .before .before .before .before .before .before .before .before .before .before .before .before .pre .1 .0 .0) (c .before .before .before .before .before .before .before .before .before .before .before .before .before .before .before .before .before .before .before .before .before .before .before .before .before .before .before .before .before .pre .1 .1 .0) _ (c .before .before .before .before .before .before .before .before .before .before .before .before .before .before .before .before .before .before .before .before .before .before .look .ensures .0) (c .before .before .before .before .before .before .before .before .before .before .before .before .before .before .before .before .before .before .before .before .before .before .before .before .before .before .before .before .before .pre .1 .1 .1) _ (c .before .before .before .before .before .before .before .before .before .before .before .before .before .before .before .before .before .before .before .before .look2 .ensures .0) _ _ cp _ _ cf _ (rw (c .enum-told .given .1) at (c .before .before .before .before .coerce-field .ensures))
 
--- src/coerce.rt:209:1
+-- src/coerce.rt:292:1
 rewrapped-same-length-3 : (t : ℕ) → rewrapped-lts.Need-same-length-3 (rewrapped-calls t) (rewrapped-at t) rewrapped.Post
 rewrapped-same-length-3 t c =
     search needs
 
--- src/coerce.rt:209:1
+-- src/coerce.rt:292:1
 rewrapped-returns-4 : (t : ℕ) → rewrapped-lts.Need-returns-4 (rewrapped-calls t) (rewrapped-at t) rewrapped.Post
 rewrapped-returns-4 t c =
     let cp = rw (c .before .before .before .before .before .before .before .before .before .before .before .before .before .before .a .given .1) at (c .before .before .before .before .before .before .before .before .before .before .before .before .before .before .before .before .before .before .copy-head .ensures) in
     let cf = rw (c .before .before .before .before .before .before .before .b .given .1) at (c .before .before .before .before .before .before .before .before .before .before .before .copy-field .ensures) in
     value-full _ _ _ _ _ _ _ _ _ _ (c .before .before .before .before .before .before .before .before .before .before .before .before .before .before .before .before .before .before .before .before .before .before .before .before .before .before .before .before .before .pre .1 .0 .0) (c .before .before .before .before .before .before .before .before .before .before .before .before .before .before .before .before .before .before .before .before .before .before .before .before .before .before .before .before .before .pre .1 .1 .0) _ (c .before .before .before .before .before .before .before .before .before .before .before .before .before .before .before .before .before .before .before .before .before .before .look .ensures .0) (c .before .before .before .before .before .before .before .before .before .before .before .before .before .before .before .before .before .before .before .before .before .before .before .before .before .before .before .before .before .pre .1 .1 .1) _ (c .before .before .before .before .before .before .before .before .before .before .before .before .before .before .before .before .before .before .before .before .look2 .ensures .0) _ _ cp _ _ cf _ (rw (c .enum-told2 .given .1) at (c .before .before .before .before .coerce-field .ensures))
 
--- src/coerce.rt:209:1
+-- src/coerce.rt:292:1
 rewrapped-same-length-4 : (t : ℕ) → rewrapped-lts.Need-same-length-4 (rewrapped-calls t) (rewrapped-at t) rewrapped.Post
 rewrapped-same-length-4 t c =
     search needs
 
--- src/coerce.rt:209:1
+-- src/coerce.rt:292:1
 rewrapped-returns-5 : (t : ℕ) → rewrapped-lts.Need-returns-5 (rewrapped-calls t) (rewrapped-at t) rewrapped.Post
 rewrapped-returns-5 t c =
     let cp = rw (c .before .before .before .before .before .before .before .a .given .1) at (c .before .before .before .before .before .before .before .before .before .before .before .copy-head .ensures) in
     index-none _ _ _ _ _ _ _ _ _ _ (c .before .before .before .before .before .before .before .before .before .before .before .before .before .before .before .before .before .before .before .before .before .before .pre .1 .0 .0) (c .before .before .before .before .before .before .before .before .before .before .before .before .before .before .before .before .before .before .before .before .before .before .pre .1 .1 .0) _ (c .before .before .before .before .before .before .before .before .before .before .before .before .before .before .before .look .ensures .0) (c .before .before .before .before .before .before .before .before .before .before .before .before .before .before .before .before .before .before .before .before .before .before .pre .1 .1 .1) _ (c .before .before .before .before .before .before .before .before .before .before .before .before .before .look2 .ensures .0) _ _ cp _ (rw (c .enum-told3 .given .1) at (c .before .before .before .before .copy-field .ensures))
 
--- src/coerce.rt:209:1
+-- src/coerce.rt:292:1
 rewrapped-same-length-5 : (t : ℕ) → rewrapped-lts.Need-same-length-5 (rewrapped-calls t) (rewrapped-at t) rewrapped.Post
 rewrapped-same-length-5 t c =
     search needs
 
--- src/coerce.rt:209:1
+-- src/coerce.rt:292:1
 rewrapped-returns-6 : (t : ℕ) → rewrapped-lts.Need-returns-6 (rewrapped-calls t) (rewrapped-at t) rewrapped.Post
 rewrapped-returns-6 t c =
     let cp = rw (c .before .before .before .before .before .before .before .a .given .1) at (c .before .before .before .before .before .before .before .before .before .before .before .copy-head .ensures) in
     index-full _ _ _ _ _ _ _ _ _ _ (c .before .before .before .before .before .before .before .before .before .before .before .before .before .before .before .before .before .before .before .before .before .before .pre .1 .0 .0) (c .before .before .before .before .before .before .before .before .before .before .before .before .before .before .before .before .before .before .before .before .before .before .pre .1 .1 .0) _ (c .before .before .before .before .before .before .before .before .before .before .before .before .before .before .before .look .ensures .0) (c .before .before .before .before .before .before .before .before .before .before .before .before .before .before .before .before .before .before .before .before .before .before .pre .1 .1 .1) _ (c .before .before .before .before .before .before .before .before .before .before .before .before .before .look2 .ensures .0) _ _ cp _ (rw (c .enum-told4 .given .1) at (c .before .before .before .before .copy-field .ensures))
 
--- src/coerce.rt:209:1
+-- src/coerce.rt:292:1
 rewrapped-same-length-6 : (t : ℕ) → rewrapped-lts.Need-same-length-6 (rewrapped-calls t) (rewrapped-at t) rewrapped.Post
 rewrapped-same-length-6 t c =
     search needs
 
--- src/coerce.rt:209:1
+-- src/coerce.rt:292:1
 rewrapped-returns-7 : (t : ℕ) → rewrapped-lts.Need-returns-7 (rewrapped-calls t) (rewrapped-at t) rewrapped.Post
 rewrapped-returns-7 t c =
     absurd ((rw (c .enum-told5 .given .1) at (c .before .before .before .before .copy-head .ensures)) .means)
 
--- src/coerce.rt:209:1
+-- src/coerce.rt:292:1
 rewrapped-same-length-7 : (t : ℕ) → rewrapped-lts.Need-same-length-7 (rewrapped-calls t) (rewrapped-at t) rewrapped.Post
 rewrapped-same-length-7 t c =
     search needs
 
--- src/coerce.rt:209:1
+-- src/coerce.rt:292:1
 rewrapped-returns-8 : (t : ℕ) → rewrapped-lts.Need-returns-8 (rewrapped-calls t) (rewrapped-at t) rewrapped.Post
 rewrapped-returns-8 t c =
     head-crowded _ _ _ _ _ _ _ _ _ _ (c .before .before .before .before .before .before .before .before .look .ensures .0) _ (rw (c .enum-told6 .given .1) at (c .before .before .before .before .copy-head .ensures))
 
--- src/coerce.rt:677:9
+-- src/coerce.rt:808:9
 rows-row-end-requires : (t : ℕ) → rows-lts.Need-row-end-requires (rows-calls t) (rows-at t) rows.Post
 rows-row-end-requires t c κs =
     search needs
 
--- src/coerce.rt:677:9
+-- src/coerce.rt:808:9
 rows-returns : (t : ℕ) → rows-lts.Need-returns (rows-calls t) (rows-at t) rows.Post
 rows-returns t c =
-    rows-end _ (c .before .before .before .before .args .space) (c .before .before .before .before .args .left) (c .before .before .before .before .args .swap) _ _ (c .before .before .before .before .args .feed) _ _ _ _ _ (c .before .before .before .before .pre .1 .1) (c .before .if1 .taken) (c .row-end .ensures)
+    rows-end (c .before .before .before .before .args .known) _ _ (c .before .before .before .before .args .space) (c .before .before .before .before .args .left) (c .before .before .before .before .args .swap) _ _ (c .before .before .before .before .args .feed) _ _ _ _ _ (c .before .before .before .before .pre .1 .1) (c .before .if1 .taken) (c .row-end .ensures)
 
--- src/coerce.rt:680:9
+-- src/coerce.rt:811:9
 rows-returns-2 : (t : ℕ) → rows-lts.Need-returns-2 (rows-calls t) (rows-at t) rows.Post
 rows-returns-2 t c =
-    rows-spent _ (c .before .before .before .before .args .space) (c .before .before .before .before .args .left) (c .before .before .before .before .args .swap) _ _ (c .before .before .before .before .args .feed) _ _ _ _ (c .before .if1 .left) (c .if2 .taken)
+    rows-spent (c .before .before .before .before .args .known) _ _ (c .before .before .before .before .args .space) (c .before .before .before .before .args .left) (c .before .before .before .before .args .swap) _ _ (c .before .before .before .before .args .feed) _ _ _ _ (c .before .if1 .left) (c .if2 .taken)
 
--- src/coerce.rt:682:9
+-- src/coerce.rt:813:9
 rows-look-requires : (t : ℕ) → rows-lts.Need-look-requires (rows-calls t) (rows-at t) rows.Post
 rows-look-requires t c κs =
     search needs
 
--- src/coerce.rt:683:9
+-- src/coerce.rt:814:9
 rows-row-requires : (t : ℕ) → rows-lts.Need-row-requires (rows-calls t) (rows-at t) rows.Post
 rows-row-requires t c κs =
     (c .before .before .before .before .before .before .before .pre .1 .0 .few)
 
--- src/coerce.rt:690:9
+-- src/coerce.rt:821:9
 rows-same-length : (t : ℕ) → rows-lts.Need-same-length (rows-calls t) (rows-at t) rows.Post
 rows-same-length t c =
     search needs
 
--- src/coerce.rt:690:9
+-- src/coerce.rt:821:9
 rows-returns-3 : (t : ℕ) → rows-lts.Need-returns-3 (rows-calls t) (rows-at t) rows.Post
 rows-returns-3 t c =
-    rows-unfed _ (c .before .before .before .before .before .before .before .before .before .args .space) (c .before .before .before .before .before .before .before .before .before .args .left) (c .before .before .before .before .before .before .before .before .before .args .swap) _ _ (c .before .before .before .before .before .before .before .before .before .args .feed) _ _ _ _ _ (c .before .before .before .before .before .before .if1 .left) (c .before .row .ensures) (c .if3 .taken)
+    rows-unfed (c .before .before .before .before .before .before .before .before .before .args .known) _ _ (c .before .before .before .before .before .before .before .before .before .args .space) (c .before .before .before .before .before .before .before .before .before .args .left) (c .before .before .before .before .before .before .before .before .before .args .swap) _ _ (c .before .before .before .before .before .before .before .before .before .args .feed) _ _ _ _ _ (c .before .before .before .before .before .before .if1 .left) (c .before .row .ensures) (c .if3 .taken)
 
--- src/coerce.rt:692:9
+-- src/coerce.rt:823:9
 rows-name-field-requires : (t : ℕ) → rows-lts.Need-name-field-requires (rows-calls t) (rows-at t) rows.Post
 rows-name-field-requires t c κs =
     ((c .before .before .before .before .before .before .before .before .before .before .pre .1 .0), ((c .before .before .before .before .before .before .before .before .before .before .pre .1 .1), (c .before .before .before .before .look .ensures .1)))
 
--- src/coerce.rt:693:9
+-- src/coerce.rt:824:9
 rows-same-length-2 : (t : ℕ) → rows-lts.Need-same-length-2 (rows-calls t) (rows-at t) rows.Post
 rows-same-length-2 t c =
     search needs
 
--- src/coerce.rt:693:9
+-- src/coerce.rt:824:9
 rows-returns-4 : (t : ℕ) → rows-lts.Need-returns-4 (rows-calls t) (rows-at t) rows.Post
 rows-returns-4 t c =
-    rows-crowded _ (c .before .before .before .before .before .before .before .before .before .before .before .before .before .before .args .space) (c .before .before .before .before .before .before .before .before .before .before .before .before .before .before .args .left) (c .before .before .before .before .before .before .before .before .before .before .before .before .before .before .args .swap) _ _ (c .before .before .before .before .before .before .before .before .before .before .before .before .before .before .args .feed) _ _ _ _ (c .before .before .before .before .before .before .before .before .before .before .before .before .before .before .pre .1 .0) (c .before .before .before .before .before .before .before .before .before .before .before .before .before .before .pre .1 .1) _ (c .before .before .before .before .before .before .before .before .look .ensures .0) (c .before .before .before .before .before .before .before .before .before .before .before .if1 .left) _ (c .before .before .before .before .before .before .row .ensures) (c .before .before .before .before .before .if3 .left) _ _ (c .before .before .before .name-field .ensures) (not-true _ (c .if4 .taken))
+    rows-crowded (c .before .before .before .before .before .before .before .before .before .before .before .before .before .before .args .known) _ _ (c .before .before .before .before .before .before .before .before .before .before .before .before .before .before .args .space) (c .before .before .before .before .before .before .before .before .before .before .before .before .before .before .args .left) (c .before .before .before .before .before .before .before .before .before .before .before .before .before .before .args .swap) _ _ (c .before .before .before .before .before .before .before .before .before .before .before .before .before .before .args .feed) _ _ _ _ (c .before .before .before .before .before .before .before .before .before .before .before .before .before .before .pre .1 .0) (c .before .before .before .before .before .before .before .before .before .before .before .before .before .before .pre .1 .1) _ (c .before .before .before .before .before .before .before .before .look .ensures .0) (c .before .before .before .before .before .before .before .before .before .before .before .if1 .left) _ (c .before .before .before .before .before .before .row .ensures) (c .before .before .before .before .before .if3 .left) _ _ (c .before .before .before .name-field .ensures) (not-true _ (c .if4 .taken))
 
--- src/coerce.rt:701:11
-rows-coerce-requires : (t : ℕ) → rows-lts.Need-coerce-requires (rows-calls t) (rows-at t) rows.Post
-rows-coerce-requires t c κs =
+-- src/coerce.rt:832:11
+rows-common-requires : (t : ℕ) → rows-lts.Need-common-requires (rows-calls t) (rows-at t) rows.Post
+rows-common-requires t c κs =
     (omega (arith, (c .before .before .before .before .before .before .before .before .before .before .before .before .before .before .before .pre .0)), (room-kept (c .before .before .before .before .name-field .ensures .kept) (c .before .before .before .before .before .before .before .before .before .before .before .before .before .before .before .pre .1 .0), field-ready _ (c .before .before .before .before .before .before .before .before .before .before .before .before .before .before .before .pre .1 .1) (c .before .before .before .before .before .before .before .before .before .look .ensures .1) (not-false _ (c .before .if4 .left)) (c .before .before .before .before .name-field .ensures)))
 
--- src/coerce.rt:713:19
+-- src/coerce.rt:845:19
 rows-enum-known-d : (t : ℕ) → rows-lts.Need-enum-known-d (rows-calls t) (rows-at t) rows.Post
 rows-enum-known-d t c =
     search needs
 
--- src/coerce.rt:719:13
+-- src/coerce.rt:851:13
 rows-sub-rows : (t : ℕ) → rows-lts.Need-sub-rows (rows-calls t) (rows-at t) rows.Post
 rows-sub-rows t c =
     search needs
 
--- src/coerce.rt:713:31
+-- src/coerce.rt:845:31
 rows-rows-requires : (t : ℕ) → rows-lts.Need-rows-requires (rows-calls t) (rows-at t) rows.Post
 rows-rows-requires t c κs =
-    let done = rw (c .before .before .d .given .1) at (c .before .before .before .before .before .before .coerce .ensures) in
+    let done = rw (c .before .before .d .given .1) at (c .before .before .before .before .before .before .common .ensures) in
     (omega (arith, (c .before .before .before .before .before .before .before .before .before .before .before .before .before .before .before .before .before .before .before .before .before .before .pre .0), (c .before .before .before .before .before .before .before .before .before .before .before .before .before .before .before .before .before .before .if2 .left)), (room-kept (done .writes .kept) (room-kept (c .before .before .before .before .before .before .before .before .before .before .before .name-field .ensures .kept) (c .before .before .before .before .before .before .before .before .before .before .before .before .before .before .before .before .before .before .before .before .before .before .pre .1 .0)), done .writes .passes .0))
 
--- src/coerce.rt:727:23
+-- src/coerce.rt:860:23
 rows-enum-known-e : (t : ℕ) → rows-lts.Need-enum-known-e (rows-calls t) (rows-at t) rows.Post
 rows-enum-known-e t c =
     search needs
 
--- src/coerce.rt:728:38
+-- src/coerce.rt:861:38
 rows-next-link-requires : (t : ℕ) → rows-lts.Need-next-link-requires (rows-calls t) (rows-at t) rows.Post
 rows-next-link-requires t c κs =
     search needs
 
--- src/coerce.rt:728:17
+-- src/coerce.rt:861:17
 rows-tie-requires : (t : ℕ) → rows-lts.Need-tie-requires (rows-calls t) (rows-at t) rows.Post
 rows-tie-requires t c κs =
-    let done = rw (c .before .before .before .before .before .before .before .before .before .before .d .given .1) at (c .before .before .before .before .before .before .before .before .before .before .before .before .before .before .coerce .ensures) in
+    let done = rw (c .before .before .before .before .before .before .before .before .before .before .d .given .1) at (c .before .before .before .before .before .before .before .before .before .before .before .before .before .before .common .ensures) in
     let more = rw (c .before .before .before .e .given .1) at (c .before .before .before .before .before .before .before .rows .ensures) in
     let room = room-kept (more .kept) (room-kept (done .writes .kept) (room-kept (c .before .before .before .before .before .before .before .before .before .before .before .before .before .before .before .before .before .before .before .name-field .ensures .kept) (c .before .before .before .before .before .before .before .before .before .before .before .before .before .before .before .before .before .before .before .before .before .before .before .before .before .before .before .before .before .before .pre .1 .0))) in
     (room, (omega (arith, done .writes .passes .1 .0, done .writes .passes .0 .records), omega (arith, (c .next-link .ensures .1), done .writes .passes .0 .records, room .few)))
 
--- src/coerce.rt:731:24
+-- src/coerce.rt:864:24
 rows-enum-told : (t : ℕ) → rows-lts.Need-enum-told (rows-calls t) (rows-at t) rows.Post
 rows-enum-told t c =
     search needs
 
--- src/coerce.rt:732:26
+-- src/coerce.rt:865:26
 rows-enum-told-2 : (t : ℕ) → rows-lts.Need-enum-told-2 (rows-calls t) (rows-at t) rows.Post
 rows-enum-told-2 t c =
     search needs
 
--- src/coerce.rt:734:20
+-- src/coerce.rt:867:20
 rows-enum-told-3 : (t : ℕ) → rows-lts.Need-enum-told-3 (rows-calls t) (rows-at t) rows.Post
 rows-enum-told-3 t c =
     search needs
 
--- src/coerce.rt:735:22
+-- src/coerce.rt:868:22
 rows-enum-told-4 : (t : ℕ) → rows-lts.Need-enum-told-4 (rows-calls t) (rows-at t) rows.Post
 rows-enum-told-4 t c =
     search needs
 
--- src/coerce.rt:659:1
+-- src/coerce.rt:789:1
 rows-same-length-3 : (t : ℕ) → rows-lts.Need-same-length-3 (rows-calls t) (rows-at t) rows.Post
 rows-same-length-3 t c =
     search needs
 
--- src/coerce.rt:659:1
+-- src/coerce.rt:789:1
 rows-returns-5 : (t : ℕ) → rows-lts.Need-returns-5 (rows-calls t) (rows-at t) rows.Post
 rows-returns-5 t c =
-    let done = rw (c .before .before .before .before .before .before .before .before .before .before .before .before .before .d .given .1) at (c .before .before .before .before .before .before .before .before .before .before .before .before .before .before .before .before .before .coerce .ensures) in
+    let done = rw (c .before .before .before .before .before .before .before .before .before .before .before .before .before .d .given .1) at (c .before .before .before .before .before .before .before .before .before .before .before .before .before .before .before .before .before .common .ensures) in
     let more = rw (c .before .before .before .before .before .before .e .given .1) at (c .before .before .before .before .before .before .before .before .before .before .rows .ensures) in
-    rows-done _ (c .before .before .before .before .before .before .before .before .before .before .before .before .before .before .before .before .before .before .before .before .before .before .before .before .before .before .before .before .before .before .before .before .before .args .space) (c .before .before .before .before .before .before .before .before .before .before .before .before .before .before .before .before .before .before .before .before .before .before .before .before .before .before .before .before .before .before .before .before .before .args .left) (c .before .before .before .before .before .before .before .before .before .before .before .before .before .before .before .before .before .before .before .before .before .before .before .before .before .before .before .before .before .before .before .before .before .args .swap) _ _ (c .before .before .before .before .before .before .before .before .before .before .before .before .before .before .before .before .before .before .before .before .before .before .before .before .before .before .before .before .before .before .before .before .before .args .feed) _ _ _ _ (c .before .before .before .before .before .before .before .before .before .before .before .before .before .before .before .before .before .before .before .before .before .before .before .before .before .before .before .before .before .before .before .before .before .pre .1 .0) (c .before .before .before .before .before .before .before .before .before .before .before .before .before .before .before .before .before .before .before .before .before .before .before .before .before .before .before .before .before .before .before .before .before .pre .1 .1) _ (c .before .before .before .before .before .before .before .before .before .before .before .before .before .before .before .before .before .before .before .before .before .before .before .before .before .before .before .look .ensures .0) (c .before .before .before .before .before .before .before .before .before .before .before .before .before .before .before .before .before .before .before .before .before .before .before .before .before .before .before .before .before .before .if1 .left) _ (c .before .before .before .before .before .before .before .before .before .before .before .before .before .before .before .before .before .before .before .before .before .before .before .before .before .row .ensures) (c .before .before .before .before .before .before .before .before .before .before .before .before .before .before .before .before .before .before .before .before .before .before .before .before .if3 .left) _ _ (c .before .before .before .before .before .before .before .before .before .before .before .before .before .before .before .before .before .before .before .before .before .before .name-field .ensures) (not-false _ (c .before .before .before .before .before .before .before .before .before .before .before .before .before .before .before .before .before .before .before .if4 .left)) _ _ done _ _ _ _ more (c .before .before .before .next-link .ensures .0) (c .before .before .tie .ensures)
+    rows-done (c .before .before .before .before .before .before .before .before .before .before .before .before .before .before .before .before .before .before .before .before .before .before .before .before .before .before .before .before .before .before .before .before .before .args .known) _ _ (c .before .before .before .before .before .before .before .before .before .before .before .before .before .before .before .before .before .before .before .before .before .before .before .before .before .before .before .before .before .before .before .before .before .args .space) (c .before .before .before .before .before .before .before .before .before .before .before .before .before .before .before .before .before .before .before .before .before .before .before .before .before .before .before .before .before .before .before .before .before .args .left) (c .before .before .before .before .before .before .before .before .before .before .before .before .before .before .before .before .before .before .before .before .before .before .before .before .before .before .before .before .before .before .before .before .before .args .swap) _ _ (c .before .before .before .before .before .before .before .before .before .before .before .before .before .before .before .before .before .before .before .before .before .before .before .before .before .before .before .before .before .before .before .before .before .args .feed) _ _ _ _ (c .before .before .before .before .before .before .before .before .before .before .before .before .before .before .before .before .before .before .before .before .before .before .before .before .before .before .before .before .before .before .before .before .before .pre .1 .0) (c .before .before .before .before .before .before .before .before .before .before .before .before .before .before .before .before .before .before .before .before .before .before .before .before .before .before .before .before .before .before .before .before .before .pre .1 .1) _ (c .before .before .before .before .before .before .before .before .before .before .before .before .before .before .before .before .before .before .before .before .before .before .before .before .before .before .before .look .ensures .0) (c .before .before .before .before .before .before .before .before .before .before .before .before .before .before .before .before .before .before .before .before .before .before .before .before .before .before .before .before .before .before .if1 .left) _ (c .before .before .before .before .before .before .before .before .before .before .before .before .before .before .before .before .before .before .before .before .before .before .before .before .before .row .ensures) (c .before .before .before .before .before .before .before .before .before .before .before .before .before .before .before .before .before .before .before .before .before .before .before .before .if3 .left) _ _ (c .before .before .before .before .before .before .before .before .before .before .before .before .before .before .before .before .before .before .before .before .before .before .name-field .ensures) (not-false _ (c .before .before .before .before .before .before .before .before .before .before .before .before .before .before .before .before .before .before .before .if4 .left)) _ _ done _ _ _ _ more (c .before .before .before .next-link .ensures .0) (c .before .before .tie .ensures)
 
--- src/coerce.rt:659:1
+-- src/coerce.rt:789:1
 rows-same-length-4 : (t : ℕ) → rows-lts.Need-same-length-4 (rows-calls t) (rows-at t) rows.Post
 rows-same-length-4 t c =
     search needs
 
--- src/coerce.rt:659:1
+-- src/coerce.rt:789:1
 rows-returns-6 : (t : ℕ) → rows-lts.Need-returns-6 (rows-calls t) (rows-at t) rows.Post
 rows-returns-6 t c =
-    let done = rw (c .before .before .before .before .before .before .before .d .given .1) at (c .before .before .before .before .before .before .before .before .before .before .before .coerce .ensures) in
+    let done = rw (c .before .before .before .before .before .before .before .d .given .1) at (c .before .before .before .before .before .before .before .before .before .before .before .common .ensures) in
     let more = rw (c .enum-told .given .1) at (c .before .before .before .before .rows .ensures) in
-    rows-rest-none _ (c .before .before .before .before .before .before .before .before .before .before .before .before .before .before .before .before .before .before .before .before .before .before .before .before .before .before .before .args .space) (c .before .before .before .before .before .before .before .before .before .before .before .before .before .before .before .before .before .before .before .before .before .before .before .before .before .before .before .args .left) (c .before .before .before .before .before .before .before .before .before .before .before .before .before .before .before .before .before .before .before .before .before .before .before .before .before .before .before .args .swap) _ _ (c .before .before .before .before .before .before .before .before .before .before .before .before .before .before .before .before .before .before .before .before .before .before .before .before .before .before .before .args .feed) _ _ _ _ (c .before .before .before .before .before .before .before .before .before .before .before .before .before .before .before .before .before .before .before .before .before .before .before .before .before .before .before .pre .1 .0) (c .before .before .before .before .before .before .before .before .before .before .before .before .before .before .before .before .before .before .before .before .before .before .before .before .before .before .before .pre .1 .1) _ (c .before .before .before .before .before .before .before .before .before .before .before .before .before .before .before .before .before .before .before .before .before .look .ensures .0) (c .before .before .before .before .before .before .before .before .before .before .before .before .before .before .before .before .before .before .before .before .before .before .before .before .if1 .left) _ (c .before .before .before .before .before .before .before .before .before .before .before .before .before .before .before .before .before .before .before .row .ensures) (c .before .before .before .before .before .before .before .before .before .before .before .before .before .before .before .before .before .before .if3 .left) _ _ (c .before .before .before .before .before .before .before .before .before .before .before .before .before .before .before .before .name-field .ensures) (not-false _ (c .before .before .before .before .before .before .before .before .before .before .before .before .before .if4 .left)) _ _ done _ more
+    rows-rest-none (c .before .before .before .before .before .before .before .before .before .before .before .before .before .before .before .before .before .before .before .before .before .before .before .before .before .before .before .args .known) _ _ (c .before .before .before .before .before .before .before .before .before .before .before .before .before .before .before .before .before .before .before .before .before .before .before .before .before .before .before .args .space) (c .before .before .before .before .before .before .before .before .before .before .before .before .before .before .before .before .before .before .before .before .before .before .before .before .before .before .before .args .left) (c .before .before .before .before .before .before .before .before .before .before .before .before .before .before .before .before .before .before .before .before .before .before .before .before .before .before .before .args .swap) _ _ (c .before .before .before .before .before .before .before .before .before .before .before .before .before .before .before .before .before .before .before .before .before .before .before .before .before .before .before .args .feed) _ _ _ _ (c .before .before .before .before .before .before .before .before .before .before .before .before .before .before .before .before .before .before .before .before .before .before .before .before .before .before .before .pre .1 .0) (c .before .before .before .before .before .before .before .before .before .before .before .before .before .before .before .before .before .before .before .before .before .before .before .before .before .before .before .pre .1 .1) _ (c .before .before .before .before .before .before .before .before .before .before .before .before .before .before .before .before .before .before .before .before .before .look .ensures .0) (c .before .before .before .before .before .before .before .before .before .before .before .before .before .before .before .before .before .before .before .before .before .before .before .before .if1 .left) _ (c .before .before .before .before .before .before .before .before .before .before .before .before .before .before .before .before .before .before .before .row .ensures) (c .before .before .before .before .before .before .before .before .before .before .before .before .before .before .before .before .before .before .if3 .left) _ _ (c .before .before .before .before .before .before .before .before .before .before .before .before .before .before .before .before .name-field .ensures) (not-false _ (c .before .before .before .before .before .before .before .before .before .before .before .before .before .if4 .left)) _ _ done _ more
 
--- src/coerce.rt:659:1
+-- src/coerce.rt:789:1
 rows-same-length-5 : (t : ℕ) → rows-lts.Need-same-length-5 (rows-calls t) (rows-at t) rows.Post
 rows-same-length-5 t c =
     search needs
 
--- src/coerce.rt:659:1
+-- src/coerce.rt:789:1
 rows-returns-7 : (t : ℕ) → rows-lts.Need-returns-7 (rows-calls t) (rows-at t) rows.Post
 rows-returns-7 t c =
-    let done = rw (c .before .before .before .before .before .before .before .d .given .1) at (c .before .before .before .before .before .before .before .before .before .before .before .coerce .ensures) in
+    let done = rw (c .before .before .before .before .before .before .before .d .given .1) at (c .before .before .before .before .before .before .before .before .before .before .before .common .ensures) in
     let more = rw (c .enum-told2 .given .1) at (c .before .before .before .before .rows .ensures) in
-    rows-rest-full _ (c .before .before .before .before .before .before .before .before .before .before .before .before .before .before .before .before .before .before .before .before .before .before .before .before .before .before .before .args .space) (c .before .before .before .before .before .before .before .before .before .before .before .before .before .before .before .before .before .before .before .before .before .before .before .before .before .before .before .args .left) (c .before .before .before .before .before .before .before .before .before .before .before .before .before .before .before .before .before .before .before .before .before .before .before .before .before .before .before .args .swap) _ _ (c .before .before .before .before .before .before .before .before .before .before .before .before .before .before .before .before .before .before .before .before .before .before .before .before .before .before .before .args .feed) _ _ _ _ (c .before .before .before .before .before .before .before .before .before .before .before .before .before .before .before .before .before .before .before .before .before .before .before .before .before .before .before .pre .1 .0) (c .before .before .before .before .before .before .before .before .before .before .before .before .before .before .before .before .before .before .before .before .before .before .before .before .before .before .before .pre .1 .1) _ (c .before .before .before .before .before .before .before .before .before .before .before .before .before .before .before .before .before .before .before .before .before .look .ensures .0) (c .before .before .before .before .before .before .before .before .before .before .before .before .before .before .before .before .before .before .before .before .before .before .before .before .if1 .left) _ (c .before .before .before .before .before .before .before .before .before .before .before .before .before .before .before .before .before .before .before .row .ensures) (c .before .before .before .before .before .before .before .before .before .before .before .before .before .before .before .before .before .before .if3 .left) _ _ (c .before .before .before .before .before .before .before .before .before .before .before .before .before .before .before .before .name-field .ensures) (not-false _ (c .before .before .before .before .before .before .before .before .before .before .before .before .before .if4 .left)) _ _ done _ more
+    rows-rest-full (c .before .before .before .before .before .before .before .before .before .before .before .before .before .before .before .before .before .before .before .before .before .before .before .before .before .before .before .args .known) _ _ (c .before .before .before .before .before .before .before .before .before .before .before .before .before .before .before .before .before .before .before .before .before .before .before .before .before .before .before .args .space) (c .before .before .before .before .before .before .before .before .before .before .before .before .before .before .before .before .before .before .before .before .before .before .before .before .before .before .before .args .left) (c .before .before .before .before .before .before .before .before .before .before .before .before .before .before .before .before .before .before .before .before .before .before .before .before .before .before .before .args .swap) _ _ (c .before .before .before .before .before .before .before .before .before .before .before .before .before .before .before .before .before .before .before .before .before .before .before .before .before .before .before .args .feed) _ _ _ _ (c .before .before .before .before .before .before .before .before .before .before .before .before .before .before .before .before .before .before .before .before .before .before .before .before .before .before .before .pre .1 .0) (c .before .before .before .before .before .before .before .before .before .before .before .before .before .before .before .before .before .before .before .before .before .before .before .before .before .before .before .pre .1 .1) _ (c .before .before .before .before .before .before .before .before .before .before .before .before .before .before .before .before .before .before .before .before .before .look .ensures .0) (c .before .before .before .before .before .before .before .before .before .before .before .before .before .before .before .before .before .before .before .before .before .before .before .before .if1 .left) _ (c .before .before .before .before .before .before .before .before .before .before .before .before .before .before .before .before .before .before .before .row .ensures) (c .before .before .before .before .before .before .before .before .before .before .before .before .before .before .before .before .before .before .if3 .left) _ _ (c .before .before .before .before .before .before .before .before .before .before .before .before .before .before .before .before .name-field .ensures) (not-false _ (c .before .before .before .before .before .before .before .before .before .before .before .before .before .if4 .left)) _ _ done _ more
 
--- src/coerce.rt:659:1
+-- src/coerce.rt:789:1
 rows-same-length-6 : (t : ℕ) → rows-lts.Need-same-length-6 (rows-calls t) (rows-at t) rows.Post
 rows-same-length-6 t c =
     search needs
 
--- src/coerce.rt:659:1
+-- src/coerce.rt:789:1
 rows-returns-8 : (t : ℕ) → rows-lts.Need-returns-8 (rows-calls t) (rows-at t) rows.Post
 rows-returns-8 t c =
-    let one = rw (c .enum-told3 .given .1) at (c .before .before .before .before .coerce .ensures) in
-    rows-none _ (c .before .before .before .before .before .before .before .before .before .before .before .before .before .before .before .before .before .before .before .before .args .space) (c .before .before .before .before .before .before .before .before .before .before .before .before .before .before .before .before .before .before .before .before .args .left) (c .before .before .before .before .before .before .before .before .before .before .before .before .before .before .before .before .before .before .before .before .args .swap) _ _ (c .before .before .before .before .before .before .before .before .before .before .before .before .before .before .before .before .before .before .before .before .args .feed) _ _ _ _ (c .before .before .before .before .before .before .before .before .before .before .before .before .before .before .before .before .before .before .before .before .pre .1 .0) (c .before .before .before .before .before .before .before .before .before .before .before .before .before .before .before .before .before .before .before .before .pre .1 .1) _ (c .before .before .before .before .before .before .before .before .before .before .before .before .before .before .look .ensures .0) (c .before .before .before .before .before .before .before .before .before .before .before .before .before .before .before .before .before .if1 .left) _ (c .before .before .before .before .before .before .before .before .before .before .before .before .row .ensures) (c .before .before .before .before .before .before .before .before .before .before .before .if3 .left) _ _ (c .before .before .before .before .before .before .before .before .before .name-field .ensures) (not-false _ (c .before .before .before .before .before .before .if4 .left)) _ one
+    let one = rw (c .enum-told3 .given .1) at (c .before .before .before .before .common .ensures) in
+    rows-none (c .before .before .before .before .before .before .before .before .before .before .before .before .before .before .before .before .before .before .before .before .args .known) _ _ (c .before .before .before .before .before .before .before .before .before .before .before .before .before .before .before .before .before .before .before .before .args .space) (c .before .before .before .before .before .before .before .before .before .before .before .before .before .before .before .before .before .before .before .before .args .left) (c .before .before .before .before .before .before .before .before .before .before .before .before .before .before .before .before .before .before .before .before .args .swap) _ _ (c .before .before .before .before .before .before .before .before .before .before .before .before .before .before .before .before .before .before .before .before .args .feed) _ _ _ _ (c .before .before .before .before .before .before .before .before .before .before .before .before .before .before .before .before .before .before .before .before .pre .1 .0) (c .before .before .before .before .before .before .before .before .before .before .before .before .before .before .before .before .before .before .before .before .pre .1 .1) _ (c .before .before .before .before .before .before .before .before .before .before .before .before .before .before .look .ensures .0) (c .before .before .before .before .before .before .before .before .before .before .before .before .before .before .before .before .before .if1 .left) _ (c .before .before .before .before .before .before .before .before .before .before .before .before .row .ensures) (c .before .before .before .before .before .before .before .before .before .before .before .if3 .left) _ _ (c .before .before .before .before .before .before .before .before .before .name-field .ensures) (not-false _ (c .before .before .before .before .before .before .if4 .left)) _ one
 
--- src/coerce.rt:659:1
+-- src/coerce.rt:789:1
 rows-same-length-7 : (t : ℕ) → rows-lts.Need-same-length-7 (rows-calls t) (rows-at t) rows.Post
 rows-same-length-7 t c =
     search needs
 
--- src/coerce.rt:659:1
+-- src/coerce.rt:789:1
 rows-returns-9 : (t : ℕ) → rows-lts.Need-returns-9 (rows-calls t) (rows-at t) rows.Post
 rows-returns-9 t c =
-    let one = rw (c .enum-told4 .given .1) at (c .before .before .before .before .coerce .ensures) in
-    rows-full _ (c .before .before .before .before .before .before .before .before .before .before .before .before .before .before .before .before .before .before .before .before .args .space) (c .before .before .before .before .before .before .before .before .before .before .before .before .before .before .before .before .before .before .before .before .args .left) (c .before .before .before .before .before .before .before .before .before .before .before .before .before .before .before .before .before .before .before .before .args .swap) _ _ (c .before .before .before .before .before .before .before .before .before .before .before .before .before .before .before .before .before .before .before .before .args .feed) _ _ _ _ (c .before .before .before .before .before .before .before .before .before .before .before .before .before .before .before .before .before .before .before .before .pre .1 .0) (c .before .before .before .before .before .before .before .before .before .before .before .before .before .before .before .before .before .before .before .before .pre .1 .1) _ (c .before .before .before .before .before .before .before .before .before .before .before .before .before .before .look .ensures .0) (c .before .before .before .before .before .before .before .before .before .before .before .before .before .before .before .before .before .if1 .left) _ (c .before .before .before .before .before .before .before .before .before .before .before .before .row .ensures) (c .before .before .before .before .before .before .before .before .before .before .before .if3 .left) _ _ (c .before .before .before .before .before .before .before .before .before .name-field .ensures) (not-false _ (c .before .before .before .before .before .before .if4 .left)) _ one
+    let one = rw (c .enum-told4 .given .1) at (c .before .before .before .before .common .ensures) in
+    rows-full (c .before .before .before .before .before .before .before .before .before .before .before .before .before .before .before .before .before .before .before .before .args .known) _ _ (c .before .before .before .before .before .before .before .before .before .before .before .before .before .before .before .before .before .before .before .before .args .space) (c .before .before .before .before .before .before .before .before .before .before .before .before .before .before .before .before .before .before .before .before .args .left) (c .before .before .before .before .before .before .before .before .before .before .before .before .before .before .before .before .before .before .before .before .args .swap) _ _ (c .before .before .before .before .before .before .before .before .before .before .before .before .before .before .before .before .before .before .before .before .args .feed) _ _ _ _ (c .before .before .before .before .before .before .before .before .before .before .before .before .before .before .before .before .before .before .before .before .pre .1 .0) (c .before .before .before .before .before .before .before .before .before .before .before .before .before .before .before .before .before .before .before .before .pre .1 .1) _ (c .before .before .before .before .before .before .before .before .before .before .before .before .before .before .look .ensures .0) (c .before .before .before .before .before .before .before .before .before .before .before .before .before .before .before .before .before .if1 .left) _ (c .before .before .before .before .before .before .before .before .before .before .before .before .row .ensures) (c .before .before .before .before .before .before .before .before .before .before .before .if3 .left) _ _ (c .before .before .before .before .before .before .before .before .before .name-field .ensures) (not-false _ (c .before .before .before .before .before .before .if4 .left)) _ one
 
--- src/coerce.rt:491:9
+-- src/coerce.rt:618:9
 struct-rule-look-requires : (t : ℕ) → struct-rule-lts.Need-look-requires (struct-rule-calls t) (struct-rule-at t) struct-rule.Post
 struct-rule-look-requires t c κs =
     search needs
 
--- src/coerce.rt:492:9
+-- src/coerce.rt:619:9
 struct-rule-look-requires-2 : (t : ℕ) → struct-rule-lts.Need-look-requires-2 (struct-rule-calls t) (struct-rule-at t) struct-rule.Post
 struct-rule-look-requires-2 t c κs =
     search needs
 
--- src/coerce.rt:496:9
+-- src/coerce.rt:623:9
 struct-rule-both-requires : (t : ℕ) → struct-rule-lts.Need-both-requires (struct-rule-calls t) (struct-rule-at t) struct-rule.Post
 struct-rule-both-requires t c κs =
     search needs
 
--- src/coerce.rt:497:9
+-- src/coerce.rt:624:9
 struct-rule-same-arity-requires : (t : ℕ) → struct-rule-lts.Need-same-arity-requires (struct-rule-calls t) (struct-rule-at t) struct-rule.Post
 struct-rule-same-arity-requires t c κs =
     search needs
 
--- src/coerce.rt:495:8
+-- src/coerce.rt:622:8
 struct-rule-both-requires-2 : (t : ℕ) → struct-rule-lts.Need-both-requires-2 (struct-rule-calls t) (struct-rule-at t) struct-rule.Post
 struct-rule-both-requires-2 t c κs =
     search needs
 
--- src/coerce.rt:499:12
+-- src/coerce.rt:626:12
 struct-rule-have-same-names-requires : (t : ℕ) → struct-rule-lts.Need-have-same-names-requires (struct-rule-calls t) (struct-rule-at t) struct-rule.Post
 struct-rule-have-same-names-requires t c κs =
     (c .before .before .before .before .before .before .before .before .before .before .before .before .before .before .pre .1 .0 .few)
 
--- src/coerce.rt:500:13
+-- src/coerce.rt:627:13
 struct-rule-under-requires : (t : ℕ) → struct-rule-lts.Need-under-requires (struct-rule-calls t) (struct-rule-at t) struct-rule.Post
 struct-rule-under-requires t c κs =
     (omega (arith, (c .before .before .before .before .before .before .before .before .before .before .before .before .before .before .before .before .before .pre .0)), ((c .before .before .before .before .before .before .before .before .before .before .before .before .before .before .before .before .before .pre .1), omega arith))
 
--- src/coerce.rt:500:13
+-- src/coerce.rt:627:13
 struct-rule-same-length : (t : ℕ) → struct-rule-lts.Need-same-length (struct-rule-calls t) (struct-rule-at t) struct-rule.Post
 struct-rule-same-length t c =
     search needs
 
--- src/coerce.rt:500:13
+-- src/coerce.rt:627:13
 struct-rule-returns : (t : ℕ) → struct-rule-lts.Need-returns (struct-rule-calls t) (struct-rule-at t) struct-rule.Post
 struct-rule-returns t c =
     struct-named _ _ _ (c .before .before .before .before .before .before .before .before .before .before .before .before .before .before .before .before .before .before .before .before .args .swap) _ _ _ _ _ _ _ (c .before .before .before .before .before .before .before .before .before .before .before .before .before .before .before .before .look .ensures .0) (c .before .before .before .before .before .before .before .before .before .before .before .before .before .before .look2 .ensures .0) (c .before .before .before .before .before .before .before .before .before .same-arity .ensures) (c .before .before .before .before .before .have-same-names .ensures) (and-are (c .before .before .before .before .before .before .before .before .before .before .before .both .ensures) refl (c .before .before .before .before .before .before .before .before .both2 .ensures) ∙ (c .before .before .before .before .before .before .before .if1 .taken)) _ _ (c .before .before .before .before .if2 .taken) (c .before .before .under .ensures)
 
--- src/coerce.rt:517:9
+-- src/coerce.rt:645:9
 struct-rule-under-requires-2 : (t : ℕ) → struct-rule-lts.Need-under-requires-2 (struct-rule-calls t) (struct-rule-at t) struct-rule.Post
 struct-rule-under-requires-2 t c κs =
     (omega (arith, (c .before .before .before .before .before .before .before .before .before .before .before .before .before .before .before .before .before .pre .0)), ((c .before .before .before .before .before .before .before .before .before .before .before .before .before .before .before .before .before .pre .1), omega arith))
 
--- src/coerce.rt:517:9
+-- src/coerce.rt:645:9
 struct-rule-same-length-2 : (t : ℕ) → struct-rule-lts.Need-same-length-2 (struct-rule-calls t) (struct-rule-at t) struct-rule.Post
 struct-rule-same-length-2 t c =
     search needs
 
--- src/coerce.rt:517:9
+-- src/coerce.rt:645:9
 struct-rule-returns-2 : (t : ℕ) → struct-rule-lts.Need-returns-2 (struct-rule-calls t) (struct-rule-at t) struct-rule.Post
 struct-rule-returns-2 t c =
     struct-placed _ _ _ (c .before .before .before .before .before .before .before .before .before .before .before .before .before .before .before .before .before .before .before .before .args .swap) _ _ _ _ _ _ _ (c .before .before .before .before .before .before .before .before .before .before .before .before .before .before .before .before .look .ensures .0) (c .before .before .before .before .before .before .before .before .before .before .before .before .before .before .look2 .ensures .0) (c .before .before .before .before .before .before .before .before .before .same-arity .ensures) (c .before .before .before .before .before .have-same-names .ensures) (and-are (c .before .before .before .before .before .before .before .before .before .before .before .both .ensures) refl (c .before .before .before .before .before .before .before .before .both2 .ensures) ∙ (c .before .before .before .before .before .before .before .if1 .taken)) _ _ (c .before .before .before .before .if2 .left) (c .before .before .under2 .ensures)
 
--- src/coerce.rt:476:1
+-- src/coerce.rt:603:1
 struct-rule-same-length-3 : (t : ℕ) → struct-rule-lts.Need-same-length-3 (struct-rule-calls t) (struct-rule-at t) struct-rule.Post
 struct-rule-same-length-3 t c =
     search needs
 
--- src/coerce.rt:476:1
+-- src/coerce.rt:603:1
 struct-rule-returns-3 : (t : ℕ) → struct-rule-lts.Need-returns-3 (struct-rule-calls t) (struct-rule-at t) struct-rule.Post
 struct-rule-returns-3 t c =
     struct-none _ _ _ (c .before .before .before .before .before .before .before .before .before .before .before .before .before .args .swap) _ _ _ _ _ _ _ (c .before .before .before .before .before .before .before .before .before .look .ensures .0) (c .before .before .before .before .before .before .before .look2 .ensures .0) (c .before .before .same-arity .ensures) (and-are (c .before .before .before .before .both .ensures) refl (c .before .both2 .ensures) ∙ (c .if1 .left))
 
--- src/coerce.rt:414:17
+-- src/coerce.rt:533:17
 under-add-label : (t : ℕ) → under-lts.Need-add-label (under-calls t) (under-at t) under.Post
 under-add-label t c =
     search needs
 
--- src/coerce.rt:416:9
+-- src/coerce.rt:535:9
 under-returns : (t : ℕ) → under-lts.Need-returns (under-calls t) (under-at t) under.Post
 under-returns t c =
     under-full _ _ _ _ _ _ _ _ _ _ _ _ (c .if1 .taken)
 
--- src/coerce.rt:418:50
+-- src/coerce.rt:537:50
 under-first-link-requires : (t : ℕ) → under-lts.Need-first-link-requires (under-calls t) (under-at t) under.Post
 under-first-link-requires t c κs =
     search needs
 
--- src/coerce.rt:418:5
+-- src/coerce.rt:537:5
 under-lay-requires : (t : ℕ) → under-lts.Need-lay-requires (under-calls t) (under-at t) under.Post
 under-lay-requires t c κs =
     ((c .before .before .before .before .before .before .before .pre .1 .0), ((c .before .before .if1 .left), ((c .before .before .before .before .before .before .before .pre .1 .1), (c .first-link .ensures .1))))
 
--- src/coerce.rt:431:20
-under-add-t21 : (t : ℕ) → under-lts.Need-add-t21 (under-calls t) (under-at t) under.Post
-under-add-t21 t c =
+-- src/coerce.rt:551:20
+under-add-t22 : (t : ℕ) → under-lts.Need-add-t22 (under-calls t) (under-at t) under.Post
+under-add-t22 t c =
     search needs
 
--- src/coerce.rt:419:5
+-- src/coerce.rt:538:5
 under-rows-requires : (t : ℕ) → under-lts.Need-rows-requires (under-calls t) (under-at t) under.Post
 under-rows-requires t c κs =
     (omega (arith, (c .before .before .before .before .before .before .before .before .before .before .before .pre .0)), (room-kept ((c .before .before .before .lay .ensures .kept)) (c .before .before .before .before .before .before .before .before .before .before .before .pre .1 .0 .0), after-passes _ (c .before .before .before .before .before .before .before .before .before .before .before .pre .1 .0 .1) (c .before .before .before .before .before .before .if1 .left) .0))
 
--- src/coerce.rt:394:1
+-- src/coerce.rt:512:1
 under-same-length : (t : ℕ) → under-lts.Need-same-length (under-calls t) (under-at t) under.Post
 under-same-length t c =
     search needs
 
--- src/coerce.rt:394:1
+-- src/coerce.rt:512:1
 under-returns-2 : (t : ℕ) → under-lts.Need-returns-2 (under-calls t) (under-at t) under.Post
 under-returns-2 t c =
     under-on _ _ _ _ _ _ _ _ _ _ _ _ _ _ (c .before .before .before .before .before .before .before .before .before .before .before .before .before .before .pre .1 .0 .0) (c .before .before .before .before .before .before .before .before .before .before .before .before .before .before .pre .1 .0 .1) (c .before .before .before .before .before .before .before .before .before .if1 .left) (c .before .before .before .before .before .before .before .first-link .ensures .0) (c .before .before .before .before .before .before .lay .ensures) (c .before .before .rows .ensures)
 
+-- src/coerce.rt:393:9
 unwrap-way-requires : (t : ℕ) → unwrap-lts.Need-way-requires (unwrap-calls t) (unwrap-at t) unwrap.Post
 unwrap-way-requires t c κs =
     search needs
 
+-- src/coerce.rt:394:11
 unwrap-wrapper-requires : (t : ℕ) → unwrap-lts.Need-wrapper-requires (unwrap-calls t) (unwrap-at t) unwrap.Post
 unwrap-wrapper-requires t c κs =
     (omega (arith, (c .before .before .before .before .before .pre .0)), ((c .before .before .before .before .before .pre .1 .0), (c .before .way .ensures .wrapper)))
 
+-- src/coerce.rt:407:19
 unwrap-enum-known-d : (t : ℕ) → unwrap-lts.Need-enum-known-d (unwrap-calls t) (unwrap-at t) unwrap.Post
 unwrap-enum-known-d t c =
     search needs
 
+-- src/coerce.rt:410:13
 unwrap-enum-told : (t : ℕ) → unwrap-lts.Need-enum-told (unwrap-calls t) (unwrap-at t) unwrap.Post
 unwrap-enum-told t c =
     search needs
 
+-- src/coerce.rt:408:20
 unwrap-nested-requires : (t : ℕ) → unwrap-lts.Need-nested-requires (unwrap-calls t) (unwrap-at t) unwrap.Post
 unwrap-nested-requires t c κs =
     (omega (arith, (c .before .before .before .before .before .before .before .before .before .before .before .pre .0)), (room-kept (c .before .before .before .before .before .wrapper .ensures .writes .kept) (c .before .before .before .before .before .before .before .before .before .before .before .pre .1 .0 .0), (c .before .before .before .before .before .before .before .before .before .before .before .pre .1 .0 .1)))
 
+-- src/coerce.rt:421:22
 unwrap-enum-told-2 : (t : ℕ) → unwrap-lts.Need-enum-told-2 (unwrap-calls t) (unwrap-at t) unwrap.Post
 unwrap-enum-told-2 t c =
     search needs
 
+-- src/coerce.rt:377:1
 unwrap-same-length : (t : ℕ) → unwrap-lts.Need-same-length (unwrap-calls t) (unwrap-at t) unwrap.Post
 unwrap-same-length t c =
     search needs
 
+-- src/coerce.rt:377:1
 unwrap-returns : (t : ℕ) → unwrap-lts.Need-returns (unwrap-calls t) (unwrap-at t) unwrap.Post
 unwrap-returns t c =
     unwrap-done _ (c .before .before .before .before .before .before .before .before .before .before .before .pre .1 .1) _ _ (c .before .before .before .before .before .before .before .before .before .before .before .args .swap) _ _ _ _ _ (c .before .before .before .before .before .before .before .way .ensures) _ _ (rw (c .before .d .given .1) at (c .before .before .before .before .before .wrapper .ensures))
 
+-- src/coerce.rt:377:1
 unwrap-same-length-2 : (t : ℕ) → unwrap-lts.Need-same-length-2 (unwrap-calls t) (unwrap-at t) unwrap.Post
 unwrap-same-length-2 t c =
     search needs
 
+-- src/coerce.rt:377:1
 unwrap-returns-2 : (t : ℕ) → unwrap-lts.Need-returns-2 (unwrap-calls t) (unwrap-at t) unwrap.Post
 unwrap-returns-2 t c =
-    unwrap-nested _ (c .before .before .before .before .before .before .before .before .before .before .before .before .before .before .pre .1 .1) _ _ (c .before .before .before .before .before .before .before .before .before .before .before .before .before .before .args .swap) _ _ _ _ _ (c .before .before .before .before .before .before .before .before .before .before .way .ensures) _ (c .before .before .before .before .before .before .before .before .before .before .before .before .before .before .pre .1 .0 .0) _ _ (rw (c .before .before .before .before .enum-told .given .1) at (c .before .before .before .before .before .before .before .before .wrapper .ensures)) (c .before .before .nested .ensures)
+    unwrap-nested _ (c .before .before .before .before .before .before .before .before .before .before .before .before .before .before .pre .1 .1) _ _ (c .before .before .before .before .before .before .before .before .before .before .before .before .before .before .args .swap) _ _ _ _ _ (c .before .before .before .before .before .before .before .before .before .before .way .ensures) _ (c .before .before .before .before .before .before .before .before .before .before .before .before .before .before .pre .1 .0 .0) _ _ (rw (c .before .before .before .before .enum-told .given .1) at (c .before .before .before .before .before .before .before .before .wrapper .ensures)) (none-known (c .before .before .before .before .before .before .before .before .before .before .before .before .before .before .args .swap) (c .before .before .nested .ensures))
 
+-- src/coerce.rt:377:1
 unwrap-same-length-3 : (t : ℕ) → unwrap-lts.Need-same-length-3 (unwrap-calls t) (unwrap-at t) unwrap.Post
 unwrap-same-length-3 t c =
     search needs
 
+-- src/coerce.rt:377:1
 unwrap-returns-3 : (t : ℕ) → unwrap-lts.Need-returns-3 (unwrap-calls t) (unwrap-at t) unwrap.Post
 unwrap-returns-3 t c =
     unwrap-full _ (c .before .before .before .before .before .before .before .before .before .before .pre .1 .1) _ _ (c .before .before .before .before .before .before .before .before .before .before .args .swap) _ _ _ _ _ (c .before .before .before .before .before .before .way .ensures) _ (rw (c .enum-told2 .given .1) at (c .before .before .before .before .wrapper .ensures))
 
--- src/coerce.rt:338:9
+-- src/coerce.rt:443:9
 wrapper-kind-at-requires : (t : ℕ) → wrapper-lts.Need-kind-at-requires (wrapper-calls t) (wrapper-at t) wrapper.Post
 wrapper-kind-at-requires t c κs =
     search needs
 
--- src/coerce.rt:339:9
+-- src/coerce.rt:444:9
 wrapper-kind-at-requires-2 : (t : ℕ) → wrapper-lts.Need-kind-at-requires-2 (wrapper-calls t) (wrapper-at t) wrapper.Post
 wrapper-kind-at-requires-2 t c κs =
     search needs
 
--- src/coerce.rt:340:9
+-- src/coerce.rt:445:9
 wrapper-value-at-requires : (t : ℕ) → wrapper-lts.Need-value-at-requires (wrapper-calls t) (wrapper-at t) wrapper.Post
 wrapper-value-at-requires t c κs =
     search needs
 
--- src/coerce.rt:341:9
+-- src/coerce.rt:446:9
 wrapper-value-at-requires-2 : (t : ℕ) → wrapper-lts.Need-value-at-requires-2 (wrapper-calls t) (wrapper-at t) wrapper.Post
 wrapper-value-at-requires-2 t c κs =
     search needs
 
--- src/coerce.rt:344:13
+-- src/coerce.rt:449:13
 wrapper-coerce-requires : (t : ℕ) → wrapper-lts.Need-coerce-requires (wrapper-calls t) (wrapper-at t) wrapper.Post
 wrapper-coerce-requires t c κs =
     (omega (arith, (c .before .before .before .before .before .before .before .before .before .before .before .before .before .pre .0)), (c .before .before .before .before .before .before .before .before .before .before .before .before .before .pre .1 .0))
 
--- src/coerce.rt:344:13
+-- src/coerce.rt:449:13
 wrapper-same-length : (t : ℕ) → wrapper-lts.Need-same-length (wrapper-calls t) (wrapper-at t) wrapper.Post
 wrapper-same-length t c =
     search needs
 
--- src/coerce.rt:344:13
+-- src/coerce.rt:449:13
 wrapper-returns : (t : ℕ) → wrapper-lts.Need-returns (wrapper-calls t) (wrapper-at t) wrapper.Post
 wrapper-returns t c =
     wrapper-both _ _ _ (c .before .before .before .before .before .before .before .before .before .before .before .before .before .before .before .before .args .swap) _ _ _ _ _ (c .before .before .before .before .before .before .before .before .before .before .before .before .kind-at .ensures) (c .before .before .before .before .before .before .before .before .before .before .kind-at2 .ensures) (c .before .before .before .before .before .before .before .before .before .before .before .before .before .before .before .before .pre .1 .1) _ _ (c .before .before .before .before .before .before .before .before .value-at .ensures) (c .before .before .before .before .before .before .value-at2 .ensures) (c .before .before .before .before .before .if1 .taken) (c .before .before .before .before .if2 .taken) (c .before .before .coerce .ensures)
 
--- src/coerce.rt:346:12
+-- src/coerce.rt:451:12
 wrapper-same-sides-requires : (t : ℕ) → wrapper-lts.Need-same-sides-requires (wrapper-calls t) (wrapper-at t) wrapper.Post
 wrapper-same-sides-requires t c κs =
     search needs
 
--- src/coerce.rt:347:13
+-- src/coerce.rt:452:13
 wrapper-copy-type-requires : (t : ℕ) → wrapper-lts.Need-copy-type-requires (wrapper-calls t) (wrapper-at t) wrapper.Post
 wrapper-copy-type-requires t c κs =
     (c .before .before .before .before .before .before .before .before .before .before .before .before .before .before .before .before .pre .1 .0)
 
--- src/coerce.rt:347:13
+-- src/coerce.rt:452:13
 wrapper-same-length-2 : (t : ℕ) → wrapper-lts.Need-same-length-2 (wrapper-calls t) (wrapper-at t) wrapper.Post
 wrapper-same-length-2 t c =
     search needs
 
--- src/coerce.rt:347:13
+-- src/coerce.rt:452:13
 wrapper-returns-2 : (t : ℕ) → wrapper-lts.Need-returns-2 (wrapper-calls t) (wrapper-at t) wrapper.Post
 wrapper-returns-2 t c =
     wrapper-left-same _ _ _ (c .before .before .before .before .before .before .before .before .before .before .before .before .before .before .before .before .before .before .before .args .swap) _ _ _ _ _ (c .before .before .before .before .before .before .before .before .before .before .before .before .before .before .before .kind-at .ensures) (c .before .before .before .before .before .before .before .before .before .before .before .before .before .kind-at2 .ensures) (c .before .before .before .before .before .before .before .before .before .before .before .before .before .before .before .before .before .before .before .pre .1 .1) _ _ (c .before .before .before .before .before .before .before .before .if1 .taken) (c .before .before .before .before .before .before .before .if2 .left) (c .before .before .before .before .before .before .before .before .before .before .before .value-at .ensures) (c .before .before .before .before .before .same-sides .ensures) (c .before .before .before .before .if3 .taken) (c .before .before .copy-type .ensures)
 
--- src/coerce.rt:349:9
+-- src/coerce.rt:454:9
 wrapper-coerce-requires-2 : (t : ℕ) → wrapper-lts.Need-coerce-requires-2 (wrapper-calls t) (wrapper-at t) wrapper.Post
 wrapper-coerce-requires-2 t c κs =
     (omega (arith, (c .before .before .before .before .before .before .before .before .before .before .before .before .before .before .before .before .pre .0)), (c .before .before .before .before .before .before .before .before .before .before .before .before .before .before .before .before .pre .1 .0))
 
--- src/coerce.rt:349:9
+-- src/coerce.rt:454:9
 wrapper-same-length-3 : (t : ℕ) → wrapper-lts.Need-same-length-3 (wrapper-calls t) (wrapper-at t) wrapper.Post
 wrapper-same-length-3 t c =
     search needs
 
--- src/coerce.rt:349:9
+-- src/coerce.rt:454:9
 wrapper-returns-3 : (t : ℕ) → wrapper-lts.Need-returns-3 (wrapper-calls t) (wrapper-at t) wrapper.Post
 wrapper-returns-3 t c =
     wrapper-left _ _ _ (c .before .before .before .before .before .before .before .before .before .before .before .before .before .before .before .before .before .before .before .args .swap) _ _ _ _ _ (c .before .before .before .before .before .before .before .before .before .before .before .before .before .before .before .kind-at .ensures) (c .before .before .before .before .before .before .before .before .before .before .before .before .before .kind-at2 .ensures) (c .before .before .before .before .before .before .before .before .before .before .before .before .before .before .before .before .before .before .before .pre .1 .1) _ _ (c .before .before .before .before .before .before .before .before .if1 .taken) (c .before .before .before .before .before .before .before .if2 .left) (c .before .before .before .before .before .before .before .before .before .before .before .value-at .ensures) (c .before .before .before .before .before .same-sides .ensures) (c .before .before .before .before .if3 .left) (c .before .before .coerce2 .ensures)
 
--- src/coerce.rt:352:12
+-- src/coerce.rt:457:12
 wrapper-same-sides-requires-2 : (t : ℕ) → wrapper-lts.Need-same-sides-requires-2 (wrapper-calls t) (wrapper-at t) wrapper.Post
 wrapper-same-sides-requires-2 t c κs =
     search needs
 
--- src/coerce.rt:353:13
+-- src/coerce.rt:458:13
 wrapper-copy-type-requires-2 : (t : ℕ) → wrapper-lts.Need-copy-type-requires-2 (wrapper-calls t) (wrapper-at t) wrapper.Post
 wrapper-copy-type-requires-2 t c κs =
     (c .before .before .before .before .before .before .before .before .before .before .before .before .before .before .before .before .pre .1 .0)
 
--- src/coerce.rt:353:13
+-- src/coerce.rt:458:13
 wrapper-same-length-4 : (t : ℕ) → wrapper-lts.Need-same-length-4 (wrapper-calls t) (wrapper-at t) wrapper.Post
 wrapper-same-length-4 t c =
     search needs
 
--- src/coerce.rt:353:13
+-- src/coerce.rt:458:13
 wrapper-returns-4 : (t : ℕ) → wrapper-lts.Need-returns-4 (wrapper-calls t) (wrapper-at t) wrapper.Post
 wrapper-returns-4 t c =
     wrapper-right-same _ _ _ (c .before .before .before .before .before .before .before .before .before .before .before .before .before .before .before .before .before .before .before .args .swap) _ _ _ _ _ (c .before .before .before .before .before .before .before .before .before .before .before .before .before .before .before .kind-at .ensures) (c .before .before .before .before .before .before .before .before .before .before .before .before .before .kind-at2 .ensures) (c .before .before .before .before .before .before .before .before .before .before .before .before .before .before .before .before .before .before .before .pre .1 .1) _ _ (c .before .before .before .before .before .before .before .before .if1 .left) (c .before .before .before .before .before .before .before .if4 .taken) (c .before .before .before .before .before .before .before .before .before .value-at2 .ensures) (c .before .before .before .before .before .same-sides2 .ensures) (c .before .before .before .before .if5 .taken) (c .before .before .copy-type2 .ensures)
 
--- src/coerce.rt:355:9
+-- src/coerce.rt:460:9
 wrapper-coerce-requires-3 : (t : ℕ) → wrapper-lts.Need-coerce-requires-3 (wrapper-calls t) (wrapper-at t) wrapper.Post
 wrapper-coerce-requires-3 t c κs =
     (omega (arith, (c .before .before .before .before .before .before .before .before .before .before .before .before .before .before .before .before .pre .0)), (c .before .before .before .before .before .before .before .before .before .before .before .before .before .before .before .before .pre .1 .0))
 
--- src/coerce.rt:355:9
+-- src/coerce.rt:460:9
 wrapper-same-length-5 : (t : ℕ) → wrapper-lts.Need-same-length-5 (wrapper-calls t) (wrapper-at t) wrapper.Post
 wrapper-same-length-5 t c =
     search needs
 
--- src/coerce.rt:355:9
+-- src/coerce.rt:460:9
 wrapper-returns-5 : (t : ℕ) → wrapper-lts.Need-returns-5 (wrapper-calls t) (wrapper-at t) wrapper.Post
 wrapper-returns-5 t c =
     wrapper-right _ _ _ (c .before .before .before .before .before .before .before .before .before .before .before .before .before .before .before .before .before .before .before .args .swap) _ _ _ _ _ (c .before .before .before .before .before .before .before .before .before .before .before .before .before .before .before .kind-at .ensures) (c .before .before .before .before .before .before .before .before .before .before .before .before .before .kind-at2 .ensures) (c .before .before .before .before .before .before .before .before .before .before .before .before .before .before .before .before .before .before .before .pre .1 .1) _ _ (c .before .before .before .before .before .before .before .before .if1 .left) (c .before .before .before .before .before .before .before .if4 .taken) (c .before .before .before .before .before .before .before .before .before .value-at2 .ensures) (c .before .before .before .before .before .same-sides2 .ensures) (c .before .before .before .before .if5 .left) (c .before .before .coerce3 .ensures)
 
--- src/coerce.rt:321:1
+-- src/coerce.rt:426:1
 wrapper-same-length-6 : (t : ℕ) → wrapper-lts.Need-same-length-6 (wrapper-calls t) (wrapper-at t) wrapper.Post
 wrapper-same-length-6 t c =
     search needs
 
--- src/coerce.rt:321:1
+-- src/coerce.rt:426:1
 wrapper-returns-6 : (t : ℕ) → wrapper-lts.Need-returns-6 (wrapper-calls t) (wrapper-at t) wrapper.Post
 wrapper-returns-6 t c =
     wrapper-none _ _ _ (c .before .before .before .before .before .before .before .before .before .before .before .before .args .swap) _ _ _ _ _ (c .before .before .before .before .before .before .before .before .kind-at .ensures) (c .before .before .before .before .before .before .kind-at2 .ensures) (c .before .before .before .before .before .before .before .before .before .before .before .before .pre .1 .1) (c .before .if1 .left) (c .if4 .left)
 
-pub +both-parts+coerce+coerce-field+entry+list-rule+list-struct+map-rule+nested+resolve+resolve-wrapper+rewrapped+rows+struct-rule+under+unwrap+wrapper-spec :
+pub +both-parts+coerce+coerce-field+common+entry+list-rule+list-struct+map-rule+nested+resolve+resolve-wrapper+rewrapped+rows+struct-rule+under+unwrap+wrapper-spec :
     {M : Type 1} → statement M
-+both-parts+coerce+coerce-field+entry+list-rule+list-struct+map-rule+nested+resolve+resolve-wrapper+rewrapped+rows+struct-rule+under+unwrap+wrapper-spec =
++both-parts+coerce+coerce-field+common+entry+list-rule+list-struct+map-rule+nested+resolve+resolve-wrapper+rewrapped+rows+struct-rule+under+unwrap+wrapper-spec =
     close
     μ-both-parts
     μ-coerce
     μ-coerce-field
+    μ-common
     μ-entry
     μ-list-rule
     μ-list-struct
@@ -1656,29 +1743,13 @@ pub +both-parts+coerce+coerce-field+entry+list-rule+list-struct+map-rule+nested+
     (both-parts-returns-3 t)
     (both-parts-same-length-3 t)
     (both-parts-returns-4 t))
-    (λ t. coerce-lts.spec (coerce-calls t)
+    (λ t. coerce-lts.spec
+    (common-below t, common.Post)
     (coerce-at t)
     coerce.Post
-    (coerce-returns t)
-    (coerce-is-list-question-requires t)
-    (coerce-same-sides-requires t)
-    (coerce-copy-type-requires t)
+    (coerce-common-requires t)
     (coerce-same-length t)
-    (coerce-returns-2 t)
-    (coerce-kind-at-requires t)
-    (coerce-kind-at-requires-2 t)
-    (coerce-both-requires t)
-    (coerce-plain-rule-requires t)
-    (coerce-same-length-2 t)
-    (coerce-returns-3 t)
-    (coerce-sub-resolve t)
-    (coerce-resolve-requires t)
-    (coerce-same-length-3 t)
-    (coerce-returns-4 t)
-    (coerce-sub-unwrap t)
-    (coerce-unwrap-requires t)
-    (coerce-same-length-4 t)
-    (coerce-returns-5 t))
+    (coerce-returns t))
     (λ t. coerce-field-lts.spec (coerce-field-calls t)
     (coerce-field-at t)
     coerce-field.Post
@@ -1690,6 +1761,34 @@ pub +both-parts+coerce+coerce-field+entry+list-rule+list-struct+map-rule+nested+
     (coerce-field-returns t)
     (coerce-field-same-length-2 t)
     (coerce-field-returns-2 t))
+    (λ t. common-lts.spec (common-calls t)
+    (common-at t)
+    common.Post
+    (common-returns t)
+    (common-is-list-question-requires t)
+    (common-are-same-requires t)
+    (common-copy-type-requires t)
+    (common-same-length t)
+    (common-returns-2 t)
+    (common-kind-at-requires t)
+    (common-kind-at-requires-2 t)
+    (common-both-requires t)
+    (common-plain-rule-requires t)
+    (common-same-length-2 t)
+    (common-returns-3 t)
+    (common-both-requires-2 t)
+    (common-sub-nested t)
+    (common-nested-requires t)
+    (common-same-length-3 t)
+    (common-returns-4 t)
+    (common-sub-resolve t)
+    (common-resolve-requires t)
+    (common-same-length-4 t)
+    (common-returns-5 t)
+    (common-sub-unwrap t)
+    (common-unwrap-requires t)
+    (common-same-length-5 t)
+    (common-returns-6 t))
     (λ t. entry-lts.spec (entry-calls t)
     (entry-at t)
     entry.Post
@@ -1708,6 +1807,9 @@ pub +both-parts+coerce+coerce-field+entry+list-rule+list-struct+map-rule+nested+
     (list-rule-look-requires-2 t)
     (list-rule-list-kind-requires t)
     (list-rule-list-size-requires t)
+    (list-rule-is-list-question-requires t)
+    (list-rule-sides-but-part-requires t)
+    (list-rule-both-requires t)
     (list-rule-under-requires t)
     (list-rule-same-length t)
     (list-rule-returns t))
@@ -1847,7 +1949,7 @@ pub +both-parts+coerce+coerce-field+entry+list-rule+list-struct+map-rule+nested+
     (rows-name-field-requires t)
     (rows-same-length-2 t)
     (rows-returns-4 t)
-    (rows-coerce-requires t)
+    (rows-common-requires t)
     (rows-enum-known-d t)
     (rows-sub-rows t)
     (rows-rows-requires t)
@@ -1892,7 +1994,7 @@ pub +both-parts+coerce+coerce-field+entry+list-rule+list-struct+map-rule+nested+
     (under-returns t)
     (under-first-link-requires t)
     (under-lay-requires t)
-    (under-add-t21 t)
+    (under-add-t22 t)
     (under-rows-requires t)
     (under-same-length t)
     (under-returns-2 t))
