@@ -111,12 +111,12 @@ unlisted (field name nullable shape parts rest) h g a = omega (arith, link-insid
 pub some-listed : {space : Space} {s : List ℕ} {floor link : ℕ} → floor < link → Listed space s floor link end → ⊥
 some-listed h a = omega (arith, a .held .source .leads .is)
 
-plain-field : (name : List ℕ) (nullable : Bool) (shape : Shape) (parts : Fields) → FieldRight 0 name nullable shape parts
+-- a field whose parent names no parts
+pub plain-field : {up : ℕ} (name : List ℕ) (nullable : Bool) (shape : Shape) (parts : Fields) → namesParts up ≡ false → FieldRight up name nullable shape parts
     → field name nullable shape parts end ≡ field [] false shape parts end
-unfolding namesParts between
-plain-field [] false shape parts a = refl
-plain-field [] true shape parts a = let e = a .mayBeNull in let z : _≡_ {A = ℕ} 0 1 = cc in absurd (omega arith)
-plain-field (b ∷ bs) nullable shape parts a = let e = a .mayBeNamed in let z : _≡_ {A = ℕ} 0 1 = cc in absurd (omega arith)
+plain-field [] false shape parts n a = refl
+plain-field [] true shape parts n a = never (sym n ∙ a .mayBeNull)
+plain-field (b ∷ bs) nullable shape parts n a = never (sym n ∙ a .mayBeNamed)
 
 -- the first of some listed types, and those behind it
 module _ {space : Space} {s : List ℕ} {floor link : ℕ} {name : List ℕ} {nullable : Bool} {shape : Shape} {parts rest : Fields}
@@ -125,7 +125,8 @@ module _ {space : Space} {s : List ℕ} {floor link : ℕ} {name : List ℕ} {nu
   listed-chain = record { floor = floor; at = a .at; label = a .label; up = 0; held = a .held }
 
   listed-plain : field name nullable shape parts end ≡ single (typeOf shape parts)
-  listed-plain = plain-field name nullable shape parts (a .held .source .right .0)
+  unfolding namesParts between
+  listed-plain = plain-field name nullable shape parts refl (a .held .source .right .0)
 
 module _ {space : Space} {records bytes : ℕ} (name : List ℕ) (nullable : Bool) (shape : Shape) (parts rest : Fields)
     (f : Fits space records bytes (field name nullable shape parts rest)) where
@@ -193,15 +194,27 @@ module _ (rules : Rules) (space : Space) (Is : DataType → Type 0) {s w : List 
   folds-lost h g = record { within = within-self w; means = λ c types k a f. absurd (unlisted types h g a) }
 
   module _ (past : floor < link) (h : Head) (e : h ≡ headAt s link) where
-    -- a Null is skipped
-    pub folds-null : {v : List ℕ} (o : Out) → h .kind ≡ 1 → Folds (foldFrom rules) space Is s w v link (h .next) o → Folds (foldFrom rules) space Is s w v floor link o
-    unfolding foldFrom typesOf
-    folds-null {v} o n m = record { within = m .within; means = go }
+    -- a type that leaves the candidate as it is
+    folds-past : {v : List ℕ} (o : Out) → ((x c : DataType) → Typed space s link x → Is c → (ts : List DataType) → foldFrom rules c (x ∷ ts) ≡ foldFrom rules c ts)
+        → Folds (foldFrom rules) space Is s w v link (h .next) o → Folds (foldFrom rules) space Is s w v floor link o
+    unfolding typesOf
+    folds-past {v} o same m = record { within = m .within; means = go }
       where
         go : (c : DataType) (types : Fields) → Is c → Listed space s floor link types → Fits space (size c) (letters c) types → AnswerIs space v o (foldFrom rules c (typesOf types))
         go c end k a f = absurd (some-listed past a)
         go c (field name nullable shape parts rest) k a f =
-            rw (eq-eqb (shape .kind) 1 (sym (typed-kind h e (listed-typed a)) ∙ n)) (m .means c rest k (listed-next a h e) (fits-rest name nullable shape parts rest f))
+            subst (AnswerIs space v o) (sym (same (typeOf shape parts) c (listed-typed a) k (typesOf rest))) (m .means c rest k (listed-next a h e) (fits-rest name nullable shape parts rest f))
+
+    -- a Null is skipped
+    pub folds-null : {v : List ℕ} (o : Out) → h .kind ≡ 1 → Folds (foldFrom rules) space Is s w v link (h .next) o → Folds (foldFrom rules) space Is s w v floor link o
+    unfolding foldFrom
+    folds-null o n m = folds-past o (λ x c a k ts. rw (eq-eqb (x .shape .kind) 1 (sym (typed-kind h e a) ∙ n)) refl) m
+
+    -- the common type is the candidate itself
+    pub folds-kept : {v : List ℕ} (o : Out) → (h .kind ≡ 1 → ⊥) → ((x c : DataType) → Typed space s link x → Is c → coercion rules x c ≡ some c)
+        → Folds (foldFrom rules) space Is s w v link (h .next) o → Folds (foldFrom rules) space Is s w v floor link o
+    unfolding foldFrom
+    folds-kept o n same m = folds-past o (λ x c a k ts. rw (ne-eqb (x .shape .kind) 1 (λ q. n (typed-kind h e a ∙ q)), same x c a k) refl) m
 
     module _ {v : List ℕ} (n : h .kind ≡ 1 → ⊥) where
       -- what a step says of the first type

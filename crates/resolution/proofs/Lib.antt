@@ -3,3 +3,4 @@ pub mod Folding
 pub mod Listing
 pub mod Low
 pub mod Valuing
+pub mod Keeping

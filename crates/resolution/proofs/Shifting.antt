@@ -108,44 +108,47 @@ holds-moved w v n r o up (field name nullable shape parts rest) q l f g k a =
       ),
     )
 
+-- a candidate, wherever its records and labels stand
+module _ (space : Space) (w : List ℕ) (d : Spot) (c : DataType) (room : Room w space) (inside : Inside space d) (k : Candidate space w d c) where
+  front-typed : (v : List ℕ) → Holds v (space .n) 1 0 (single c) → Typed space v 1 c
+  front-typed v h =
+      record {
+        name = [];
+        nullable = false;
+        rest = end;
+        chain =
+            record {
+              floor = 0;
+              at = 1;
+              label = 0;
+              up = 0;
+              held =
+                  record {
+                    source =
+                        record {
+                          leads = record { holds = h; is = refl; above = omega arith; inside = omega (arith, k .wrote .records, inside .records) };
+                          right = k .right;
+                          short = omega (arith, k .wrote .letters, inside .letters, room .short);
+                        };
+                    low = omega (arith, k .wrote .letters, inside .letters);
+                    differ = k .differ;
+                  };
+            };
+      }
+
+  -- it is a type of the second half
+  pub candidate-stands : Typed space (region space w) 1 c
+  candidate-stands = front-typed (region space w) (k .wrote .holds)
+
 -- a candidate that was moved is a type in the first half
 pub candidate-typed : (space : Space) (w v : List ℕ) (d : Spot) (c : DataType) → Room w space → Inside space d → Shifted space w v d → Candidate space w d c → Typed space v 1 c
 candidate-typed space w v d c room inside a k =
     let records = k .wrote .records in
     let letters = k .wrote .letters in
     let long = length-drop (space .half) w in
-    record {
-      name = [];
-      nullable = false;
-      rest = end;
-      chain =
-          record {
-            floor = 0;
-            at = 1;
-            label = 0;
-            up = 0;
-            held =
-                record {
-                  source =
-                      record {
-                        leads =
-                            record {
-                              holds =
-                                  holds-moved (region space w) v (space .n) 1 0 0 (single c) (omega (arith, room .half, room .inside, inside .records, a .long))
-                                  (omega (arith, room .half, room .inside, inside .letters, a .long))
-                                  (λ j lo hi q. a .records j (omega arith) ∙ sym (getD-drop (space .half) w j 0)) moved (k .right) (k .wrote .holds);
-                              is = refl;
-                              above = omega arith;
-                              inside = omega (arith, inside .records);
-                            };
-                        right = k .right;
-                        short = omega (arith, inside .letters, room .short);
-                      };
-                  low = omega (arith, inside .letters);
-                  differ = k .differ;
-                };
-          };
-    }
+    front-typed space w d c room inside k v
+    (holds-moved (region space w) v (space .n) 1 0 0 (single c) (omega (arith, room .half, room .inside, inside .records, a .long))
+    (omega (arith, room .half, room .inside, inside .letters, a .long)) (λ j lo hi q. a .records j (omega arith) ∙ sym (getD-drop (space .half) w j 0)) moved (k .right) (k .wrote .holds))
   where
     moved : Matches (region space w) v (16 * space .n + 0) (16 * space .n + (0 + length (labels (single c))))
     moved j lo hi q =

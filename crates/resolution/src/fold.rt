@@ -10,6 +10,8 @@ ghost use Rattle.buffers.specs.Typed.{Typed};
 ghost use Rattle.sheet.specs.Bounds.{Bounded};
 ghost use Rattle.resolution.specs.Reached.{Reached, Candidate, Entry, Steps, Folds};
 ghost use Rattle.resolution.specs.Value.{Valued};
+use crate::keep::core_at;
+use crate::keep::keeps;
 use crate::list::all_equal;
 use crate::list::is_fitting;
 use crate::shift::mirror;
@@ -104,6 +106,8 @@ fn fold_from(
     let mut last = floor;
     let mut at = link;
     let mut end = d;
+    let half = space.half;
+    let mut core = core_at(&work[half..], space, 1);
     while last < at {
         if space.n <= at {
             return Out::No;
@@ -111,10 +115,13 @@ fn fold_from(
         let h = head_at(sheet, at);
         let next = h.next;
         if h.kind != 1 {
-            match step(sheet, work, space, Question::List, mask, at, end) {
-                Out::Done(e) => end = e,
-                Out::No => return Out::No,
-                Out::Full => return Out::No,
+            if !keeps(sheet, &work[half..], mask, at, core) {
+                match step(sheet, work, space, Question::List, mask, at, end) {
+                    Out::Done(e) => end = e,
+                    Out::No => return Out::No,
+                    Out::Full => return Out::No,
+                }
+                core = core_at(&work[half..], space, 1);
             }
         }
         last = at;

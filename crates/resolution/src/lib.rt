@@ -1,5 +1,6 @@
 // The answer for the listed types of a sheet, in work space: the fold of a list, and the one pair of a union or a comparison.
 mod fold;
+mod keep;
 mod list;
 mod shift;
 mod value;

@@ -20,7 +20,7 @@ use Rattle.coercion.specs.Same.{sameShape, sameFields, sameType, alike}
 use Rattle.coercion.specs.Wrappers.{valueIn}
 use Rattle.wrappers.specs.Ways.{isWrapper, wrappersOf, coreKind}
 
-missing : {A : Type 0} {t : DataType} → none ≡ some t → A
+pub missing : {A : Type 0} {t : DataType} → none ≡ some t → A
 missing {t} e = absurd (Option·some-ne-none t (sym e))
 
 abbrev pub typeOf : Shape → Fields → DataType
