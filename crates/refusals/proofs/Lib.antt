@@ -5,3 +5,4 @@ pub mod Verdicts
 pub mod Bare
 pub mod Rows
 pub mod Naming
+pub mod Sieving

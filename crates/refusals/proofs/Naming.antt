@@ -1,222 +1,192 @@
--- A chain repeats a name just where a name is one of those before it; and the marks of the names that were met. Assumes nothing.
-use mathlib.Core.Path.{_≡_, refl, ap, ap₂, sym, subst, _∙_}
-use mathlib.Core.Bool.{Bool, true, false, _||_, _&&_}
-use mathlib.Core.List.{List, [], _∷_, _++_}
-use Prim.Native.Nat.{ℕ, zero, suc, _+_, _*_, _-_, _%_, _<_, _≤_}
+-- Two equal names of a chain, by the places of its records. Assumes nothing.
+use mathlib.Core.Path.{_≡_, refl, ap, sym, _∙_}
+use mathlib.Core.Bool.{Bool, true, false, _||_}
+use mathlib.Core.List.{List}
+use Prim.Native.Nat.{ℕ, _+_, _<_, _≤_}
 use native.Mathlib.Omega.{arith}
 use native.Mathlib.Numerals.{add-one}
-use lib.ListN.{length, length-set, getD, set, drop, drop-of-length-le}
-use lib.Seq.{drop-cons, getD-set-same, getD-set-other}
 use lib.Dec.{eqb}
+use lib.ListN.{getD}
 use borrow.Author.Tests.{eqb-true, eqb-false}
-use Rattle.sheet.specs.Types.{Fields, end, field, count}
+use Rattle.sheet.specs.Types.{Fields, end, field, arity, count}
 use Rattle.sheet.specs.Head.{headAt}
-use Rattle.sheet.specs.Read.{labelAt}
 use Rattle.sheet.specs.Names.{sameBytes, hasName, repeats}
+use Rattle.sheet.specs.Read.{labelAt}
 use Rattle.sheet.specs.Holds.{Leads}
 use Rattle.sheet.specs.declared.Head.{Head}
-use Rattle.refusals.specs.Twins.{firstNames, among, mixed, keyOf}
-use Rattle.sheet.proofs.Tests.{and-snd}
+use Rattle.refusals.specs.declared.Pair.{Pair}
+use Rattle.refusals.specs.declared.Pair.the-variants.{At, Nothing, Unsure}
+use Rattle.refusals.specs.Twins.{nameOf, placed, Tells, Spells, Known, mixed, Numbered}
+use Rattle.sheet.proofs.Tests.{never}
 use Rattle.sheet.proofs.Bytewise.{same-self, same-equal}
-use Rattle.refusals.proofs.Joins.{or-assoc, or-end, or-swap}
-use Rattle.sheet.proofs.Repeating.{low-end, high-end, name-is, next-leads}
+use Rattle.sheet.proofs.Repeating.{name-is, next-leads}
 
--- whether a name of a chain is one of those that were met before it
-unfoldable pub again : List (List ℕ) → Fields → Bool
-again met end = false
-again met (field name nullable shape parts rest) = among name met || again (met ++ (name ∷ [])) rest
+same-of : (xs ys : List ℕ) → xs ≡ ys → sameBytes xs ys ≡ true
+same-of xs ys e = ap (sameBytes xs) (sym e) ∙ same-self xs
 
--- whether a name of a chain is one of several
-abbrev crosses : List (List ℕ) → Fields → Bool
-crosses met end = false
-crosses met (field name nullable shape parts rest) = among name met || crosses met rest
+pub not-same : (xs ys : List ℕ) → sameBytes xs ys ≡ false → xs ≡ ys → ⊥
+not-same xs ys h e = never (sym h ∙ same-of xs ys e)
 
-same-sym : (xs ys : List ℕ) → sameBytes xs ys ≡ sameBytes ys xs
-same-sym xs ys = go (sameBytes xs ys) (sameBytes ys xs) refl refl
-  where
-    go : (a b : Bool) → sameBytes xs ys ≡ a → sameBytes ys xs ≡ b → a ≡ b
-    go true b e f = sym (sym f ∙ ap (sameBytes ys) (same-equal xs ys e) ∙ same-self ys)
-    go false true e f = sym e ∙ ap (sameBytes xs) (same-equal ys xs f) ∙ same-self xs
-    go false false e f = refl
+or-true : (a : Bool) → (a || true) ≡ true
+or-true true = refl
+or-true false = refl
 
-among-last : (name last : List ℕ) (met : List (List ℕ)) → among name (met ++ (last ∷ [])) ≡ (among name met || sameBytes name last)
-unfolding among
-among-last name last [] = sym (or-end (sameBytes name last))
-among-last name last (x ∷ met) =
-    ap (λ (b : Bool). sameBytes name x || b) (among-last name last met) ∙ sym (or-assoc (sameBytes name x) (among name met) (sameBytes name last))
+-- a chain that has the names of f
+module _ (f : ℕ → List ℕ) (k : ℕ) where
+  spells-le : (i : ℕ) (t : Fields) → Spells f k i t → i ≤ k
+  spells-le i end p = omega arith
+  spells-le i (field name nullable shape parts rest) p = omega (arith, spells-le (i + 1) rest (p .1))
 
-crosses-last : (last : List ℕ) (met : List (List ℕ)) (t : Fields) → crosses (met ++ (last ∷ [])) t ≡ (crosses met t || hasName last t)
-unfolding hasName
-crosses-last last met end = refl
-crosses-last last met (field name nullable shape parts rest) =
-    ap₂ _||_ (among-last name last met ∙ ap (λ (b : Bool). among name met || b) (same-sym name last)) (crosses-last last met rest)
-    ∙ or-swap (among name met) (sameBytes last name) (crosses met rest) (hasName last rest)
-
-again-is : (met : List (List ℕ)) (t : Fields) → again met t ≡ (crosses met t || repeats t)
-unfolding again repeats
-again-is met end = refl
-again-is met (field name nullable shape parts rest) =
-    ap (λ (b : Bool). among name met || b)
-    (again-is (met ++ (name ∷ [])) rest ∙ ap (λ (b : Bool). b || repeats rest) (crosses-last name met rest)
-    ∙ or-assoc (crosses met rest) (hasName name rest) (repeats rest))
-    ∙ sym (or-assoc (among name met) (crosses met rest) (hasName name rest || repeats rest))
-
-crosses-none : (t : Fields) → crosses [] t ≡ false
-unfolding among
-crosses-none end = refl
-crosses-none (field name nullable shape parts rest) = crosses-none rest
-
-again-repeats : (t : Fields) → again [] t ≡ repeats t
-again-repeats t = again-is [] t ∙ ap (λ (b : Bool). b || repeats t) (crosses-none t)
-
--- the link that follows the first k records of a chain
-abbrev pub after : List ℕ → ℕ → ℕ → ℕ
-after s link zero = link
-after s link (suc k) = after s (headAt s link .next) k
-
-after-next : (s : List ℕ) (link k : ℕ) → after s link (suc k) ≡ headAt s (after s link k) .next
-after-next s link zero = refl
-after-next s link (suc k) = after-next s (headAt s link .next) k
-
-names-next : (s : List ℕ) (n link k : ℕ) (h : Head) → h ≡ headAt s (after s link k)
-    → firstNames s n link (suc k) ≡ firstNames s n link k ++ (labelAt s n (h .name) (h .nlen) ∷ [])
-unfolding firstNames
-names-next s n link zero h e = ap (λ (g : Head). labelAt s n (g .name) (g .nlen) ∷ []) (sym e)
-names-next s n link (suc k) h e =
-    ap (λ (l : List (List ℕ)). labelAt s n (headAt s link .name) (headAt s link .nlen) ∷ l) (names-next s n (headAt s link .next) k h e)
-
--- a turn of the comparison with the first of the names that are left, and the end of them
-module _ (s : List ℕ) (n : ℕ) (want : List ℕ) (w : Bool) (at left : ℕ) where
-  names-step : 0 < left → among want (firstNames s n at left)
-      ≡ (sameBytes want (labelAt s n (headAt s at .name) (headAt s at .nlen)) || among want (firstNames s n (headAt s at .next) (left - 1)))
-  unfolding among firstNames
-  names-step h = let e : left ≡ suc (left - 1) = omega arith in ap (λ (k : ℕ). among want (firstNames s n at k)) e
-
-  pub names-done : left ≤ 0 → among want (firstNames s n at left) ≡ w → false ≡ w
-  unfolding among firstNames
-  names-done h v = let e : left ≡ 0 = omega arith in sym (ap (λ (k : ℕ). among want (firstNames s n at k)) e) ∙ v
-
-  module _ (some : 0 < left) (g : Head) (e : g ≡ headAt s at) (v : among want (firstNames s n at left) ≡ w) where
-    step-is : (sameBytes want (labelAt s n (g .name) (g .nlen)) || among want (firstNames s n (g .next) (left - 1))) ≡ w
-    step-is = ap (λ (x : Head). sameBytes want (labelAt s n (x .name) (x .nlen)) || among want (firstNames s n (x .next) (left - 1))) e ∙ sym (names-step some) ∙ v
-
-    pub names-here : sameBytes want (labelAt s n (g .name) (g .nlen)) ≡ true → true ≡ w
-    names-here b = sym (ap (λ (x : Bool). x || among want (firstNames s n (g .next) (left - 1))) b) ∙ step-is
-
-    pub names-on : sameBytes want (labelAt s n (g .name) (g .nlen)) ≡ false → among want (firstNames s n (g .next) (left - 1)) ≡ w
-    names-on b = sym (ap (λ (x : Bool). x || among want (firstNames s n (g .next) (left - 1))) b) ∙ step-is
-
--- a turn of the making of a key, and its end
-pub mixed-next : (name : List ℕ) (k w i : ℕ) → i < length name → mixed k (drop i name) ≡ w → mixed (2654435769 * (k + getD name i 0) % 4294967296) (drop (i + 1) name) ≡ w
-unfolding mixed
-mixed-next name k w i h v = sym (ap (mixed k) (drop-cons name i 0 h) ∙ rw (add-one i)) ∙ v
-
-pub mixed-done : (name : List ℕ) (k w i : ℕ) → length name ≤ i → mixed k (drop i name) ≡ w → k ≡ w
-unfolding mixed
-mixed-done name k w i h v = sym (ap (mixed k) (drop-of-length-le name {i = i} h)) ∙ v
-
--- the keys of names are marked
-abbrev pub Marked : List ℕ → List (List ℕ) → Type 0
-Marked marks [] = Unit
-Marked marks (name ∷ met) = (getD marks (keyOf name) 0 ≡ 1) × Marked marks met
-
--- a name whose key is not marked is none of them
-unmarked : (marks name : List ℕ) (met : List (List ℕ)) → Marked marks met → (getD marks (keyOf name) 0 ≡ 1 → ⊥) → among name met ≡ false
-unfolding among
-unmarked marks name [] m n = refl
-unmarked marks name (x ∷ met) m n = rw (go (sameBytes name x) refl) (unmarked marks name met (m .1) n)
-  where
-    go : (b : Bool) → sameBytes name x ≡ b → b ≡ false
-    go true e = absurd (n (ap (λ (l : List ℕ). getD marks (keyOf l) 0) (same-equal name x e) ∙ m .0))
-    go false e = refl
-
--- a sieve: an array of marks, in which the keys of the names that were met are marked
-pub record Kept (marks : List ℕ) (met : List (List ℕ)) : Type 0 where
-  pub long : length marks ≡ 8192
-  pub marked : Marked marks met
-
--- what the mark of a key says of the name: in the sieve it is 1 where the name was met
-module _ (marks name : List ℕ) (met : List (List ℕ)) (m : Kept marks met) (q : ℕ) (e : q ≡ keyOf name) {b : Bool}
-    (h : b ≡ (eqb (getD marks q 0) 1 && among name met)) where
-  pub kept-met : b ≡ true → among name met ≡ true
-  kept-met t = and-snd (eqb (getD marks q 0) 1) (among name met) (sym h ∙ t)
-
-  pub kept-new : b ≡ false → among name met ≡ false
-  kept-new f = go (eqb (getD marks q 0) 1) refl (sym h ∙ f)
+  has-at : (i : ℕ) (t : Fields) (x : List ℕ) (j : ℕ) → Spells f k i t → i ≤ j → j < k → x ≡ f j → hasName x t ≡ true
+  unfolding hasName
+  has-at i end x j p h l e = absurd (omega arith)
+  has-at i (field name nullable shape parts rest) x j p h l e = go (eqb i j) refl (λ m. has-at (i + 1) rest x j (p .1) m l e)
     where
-      go : (c : Bool) → eqb (getD marks q 0) 1 ≡ c → (c && among name met) ≡ false → among name met ≡ false
-      go true g k = k
-      go false g k = unmarked marks name met (m .marked) (λ i. eqb-false (getD marks q 0) 1 g (ap (λ (j : ℕ). getD marks j 0) e ∙ i))
+      go : (c : Bool) → eqb i j ≡ c → (i + 1 ≤ j → hasName x rest ≡ true) → (sameBytes x name || hasName x rest) ≡ true
+      go true g v = rw (same-of x name (e ∙ sym (ap f (eqb-true i j g)) ∙ sym (p .0)))
+      go false g v = let n : i ≡ j → ⊥ = eqb-false i j g in rw (v (omega arith)) (or-true (sameBytes x name))
 
-marked-more : (marks name : List ℕ) (met : List (List ℕ)) → keyOf name < length marks → Marked marks met → Marked (set marks (keyOf name) 1) (met ++ (name ∷ []))
-marked-more marks name [] h m = (getD-set-same marks (keyOf name) 1 0 h, tt)
-marked-more marks name (x ∷ met) h m = (go (eqb (keyOf x) (keyOf name)) refl, marked-more marks name met h (m .1))
-  where
-    go : (b : Bool) → eqb (keyOf x) (keyOf name) ≡ b → getD (set marks (keyOf name) 1) (keyOf x) 0 ≡ 1
-    go true e = ap (λ (i : ℕ). getD (set marks (keyOf name) 1) i 0) (eqb-true (keyOf x) (keyOf name) e) ∙ getD-set-same marks (keyOf name) 1 0 h
-    go false e = getD-set-other marks (keyOf name) (keyOf x) 1 0 (eqb-false (keyOf x) (keyOf name) e) ∙ m .0
+  has-not : (i : ℕ) (t : Fields) (x : List ℕ) → Spells f k i t → ((j : ℕ) → i ≤ j → j < k → x ≡ f j → ⊥) → hasName x t ≡ false
+  unfolding hasName
+  has-not i end x p n = refl
+  has-not i (field name nullable shape parts rest) x p n =
+      rw (go (sameBytes x name) refl) (has-not (i + 1) rest x (p .1) (λ j h l e. n j (omega arith) l e))
+    where
+      go : (c : Bool) → sameBytes x name ≡ c → c ≡ false
+      go true g = absurd (n i (omega arith) (omega (arith, spells-le (i + 1) rest (p .1))) (same-equal x name g ∙ p .0))
+      go false g = refl
 
--- the first k records of the chain from link were passed, low the last of them, and at is the next: what is said of the rest can be said of the whole
+  repeats-at : (i : ℕ) (t : Fields) (a b : ℕ) → Spells f k i t → i ≤ a → a < b → b < k → f a ≡ f b → repeats t ≡ true
+  unfolding repeats
+  repeats-at i end a b p h l m e = absurd (omega arith)
+  repeats-at i (field name nullable shape parts rest) a b p h l m e = go (eqb i a) refl (λ w. repeats-at (i + 1) rest a b (p .1) w l m e)
+    where
+      go : (c : Bool) → eqb i a ≡ c → (i + 1 ≤ a → repeats rest ≡ true) → (hasName name rest || repeats rest) ≡ true
+      go true g v = let q : i ≡ a = eqb-true i a g in rw (has-at (i + 1) rest name b (p .1) (omega arith) m (p .0 ∙ ap f q ∙ e))
+      go false g v = let n : i ≡ a → ⊥ = eqb-false i a g in rw (v (omega arith)) (or-true (hasName name rest))
+
+  repeats-not : (i : ℕ) (t : Fields) → Spells f k i t → Tells f k Nothing → repeats t ≡ false
+  unfolding repeats
+  repeats-not i end p d = refl
+  repeats-not i (field name nullable shape parts rest) p d =
+      rw (has-not (i + 1) rest name (p .1) (λ j h l e. d i j (omega arith) l (sym (p .0) ∙ e))) (repeats-not (i + 1) rest (p .1) d)
+
+  pub told : (t : Fields) (p : Pair) → Spells f k 0 t → Tells f k p → Known p (repeats t)
+  told t (At a b) w v = sym (repeats-at 0 t a b w (omega arith) (v .0) (v .1 .0) (v .1 .1))
+  told t Nothing w v = sym (repeats-not 0 t w v)
+  told t Unsure w v = tt
+
+  spells-as : (g : ℕ → List ℕ) → ((i : ℕ) → i < k → f i ≡ g i) → (i : ℕ) (t : Fields) → Spells f k i t → Spells g k i t
+  spells-as g e i end p = p
+  spells-as g e i (field name nullable shape parts rest) p =
+      (p .0 ∙ e i (omega (arith, spells-le (i + 1) rest (p .1))), spells-as g e (i + 1) rest (p .1))
+
+-- the names of a chain by place
+abbrev pub names : List ℕ → ℕ → ℕ → ℕ → List ℕ
+names s n link i = nameOf s n (placed s link i)
+
+placed-next : (s : List ℕ) (link i : ℕ) → placed s link (i + 1) ≡ headAt s (placed s link i) .next
+unfolding placed
+placed-next s link i = ap (placed s link) (add-one i)
+
+-- the record at a place of a chain: its name, and the next
+module _ (s : List ℕ) (n link at k : ℕ) (e : at ≡ placed s link k) (h : Head) (q : h ≡ headAt s at) where
+  pub name-here : labelAt s n (h .name) (h .nlen) ≡ names s n link k
+  name-here = ap (λ (g : Head). labelAt s n (g .name) (g .nlen)) q ∙ ap (nameOf s n) e
+
+  pub next-here : h .next ≡ placed s link (k + 1)
+  next-here = ap (λ (g : Head). g .next) q ∙ ap (λ (i : ℕ). headAt s i .next) e ∙ sym (placed-next s link k)
+
+spells-on : (s : List ℕ) (n link k fl i r o : ℕ) (t : Fields) → Leads s n fl (placed s link i) r o t → i + arity t ≡ k → Spells (names s n link) k i t
+unfolding arity
+spells-on s n link k fl i r o end l e = omega arith
+spells-on s n link k fl i r o (field name nullable shape parts rest) l e =
+    let at = placed s link i in (
+      sym (name-is s n fl at r o name nullable shape parts rest l (headAt s at) refl),
+      spells-on s n link k at (i + 1) _ _ rest (rw (sym (placed-next s link i)) at (next-leads s n fl at r o name nullable shape parts rest l (headAt s at) refl)) (omega arith),
+    )
+
+pub spells : (s : List ℕ) (n floor link k r o : ℕ) (t : Fields) → Leads s n floor link r o t → arity t ≡ k → Spells (names s n link) k 0 t
+unfolding placed
+spells s n floor link k r o t l e = spells-on s n link k floor 0 r o t l (omega arith)
+
+-- what is left of a chain after its first k records
+pub record Rest (s : List ℕ) (n low at k : ℕ) (t : Fields) : Type 0 where
+  pub rest : Fields
+  pub r : ℕ
+  pub o : ℕ
+  pub leads : Leads s n low at r o rest
+  pub long : arity t ≡ k + arity rest
+
+-- the first k records of the chain from link were passed, low the last of them, and at is the next
 pub record Passed (s : List ℕ) (n floor link low at k : ℕ) : Type 0 where
-  pub reached : at ≡ after s link k
+  pub reached : at ≡ placed s link k
   pub counted : k ≤ low
-  pub onward : (b : Bool) → ((r o : ℕ) (t : Fields) → Leads s n low at r o t → b ≡ again (firstNames s n link k) t)
-      → (r o : ℕ) (t : Fields) → Leads s n floor link r o t → b ≡ repeats t
+  pub onward : (r o : ℕ) (t : Fields) → Leads s n floor link r o t → Rest s n low at k t
 
 module _ (s : List ℕ) (n floor link : ℕ) where
   pub passed-none : Passed s n floor link floor link 0
-  unfolding firstNames
-  passed-none = record { reached = refl; counted = omega arith; onward = λ b f r o t l. f r o t l ∙ again-repeats t }
+  unfolding placed
+  passed-none = record { reached = refl; counted = omega arith; onward = λ r o t l. record { rest = t; r = r; o = o; leads = l; long = omega arith } }
 
   module _ (low at k : ℕ) (p : Passed s n floor link low at k) where
-    pub passed-low : at ≤ low → (r o : ℕ) (t : Fields) → Leads s n floor link r o t → false ≡ repeats t
-    unfolding again
-    passed-low h = p .onward false (low-end (again (firstNames s n link k)) false refl s n low at h)
+    pub passed-low : at ≤ low → (r o : ℕ) (t : Fields) → Leads s n floor link r o t → arity t ≡ k
+    unfolding arity
+    passed-low h r o t l = go (p .onward r o t l .rest) (p .onward r o t l .leads) (p .onward r o t l .long)
+      where
+        go : (u : Fields) {q v : ℕ} → Leads s n low at q v u → arity t ≡ k + arity u → arity t ≡ k
+        go end m e = omega arith
+        go (field name nullable shape parts rest) m e = absurd (omega (arith, m .is, m .above))
 
-    pub passed-high : low < at → n ≤ at → (r o : ℕ) (t : Fields) → Leads s n floor link r o t → false ≡ repeats t
-    passed-high lo hi = p .onward false (high-end (again (firstNames s n link k)) false s n low at lo hi)
-
-    module _ (lo : low < at) (h : Head) (e : h ≡ headAt s at) where
-      at-is : h ≡ headAt s (after s link k)
-      at-is = e ∙ ap (headAt s) (p .reached)
-
-      names : firstNames s n link (k + 1) ≡ firstNames s n link k ++ (labelAt s n (h .name) (h .nlen) ∷ [])
-      names = ap (firstNames s n link) (add-one k) ∙ names-next s n link k h at-is
-
-      pub passed-again : among (labelAt s n (h .name) (h .nlen)) (firstNames s n link k) ≡ true
-          → (r o : ℕ) (t : Fields) → Leads s n floor link r o t → true ≡ repeats t
-      unfolding again
-      passed-again a = p .onward true go
+    module _ (lo : low < at) where
+      pub passed-high : n ≤ at → (r o : ℕ) (t : Fields) → Leads s n floor link r o t → ⊥
+      unfolding count
+      passed-high hi r o t l = go (p .onward r o t l .rest) (p .onward r o t l .leads)
         where
-          go : (r o : ℕ) (t : Fields) → Leads s n low at r o t → true ≡ again (firstNames s n link k) t
-          go r o end l = absurd (omega (arith, l .is))
-          go r o (field name nullable shape parts rest) l =
-              rw (ap (λ (x : List ℕ). among x (firstNames s n link k)) (sym (name-is s n low at r o name nullable shape parts rest l h e)) ∙ a)
+          go : (u : Fields) {q v : ℕ} → Leads s n low at q v u → ⊥
+          go end m = omega (arith, m .is)
+          go (field name nullable shape parts rest) m = omega (arith, m .is, m .inside)
 
-      pub passed-next : among (labelAt s n (h .name) (h .nlen)) (firstNames s n link k) ≡ false → Passed s n floor link at (h .next) (k + 1)
-      unfolding again
-      passed-next a =
-          record {
-            reached = ap (λ (g : Head). g .next) at-is ∙ sym (ap (after s link) (add-one k) ∙ after-next s link k);
-            counted = omega (arith, p .counted);
-            onward = λ b f. p .onward b (go b f);
-          }
+      pub passed-more : (r o : ℕ) (t : Fields) → Leads s n floor link r o t → k < arity t
+      unfolding arity
+      passed-more r o t l = go (p .onward r o t l .rest) (p .onward r o t l .leads) (p .onward r o t l .long)
         where
-          go : (b : Bool) → ((r o : ℕ) (t : Fields) → Leads s n at (h .next) r o t → b ≡ again (firstNames s n link (k + 1)) t)
-              → (r o : ℕ) (t : Fields) → Leads s n low at r o t → b ≡ again (firstNames s n link k) t
-          go b f r o end l = absurd (omega (arith, l .is))
-          go b f r o (field name nullable shape parts rest) l =
-              let q = name-is s n low at r o name nullable shape parts rest l h e in
-              rw (ap (λ (x : List ℕ). among x (firstNames s n link k)) (sym q) ∙ a)
-              (f _ _ rest (next-leads s n low at r o name nullable shape parts rest l h e)
-              ∙ ap (λ (m : List (List ℕ)). again m rest) (names ∙ ap (λ (x : List ℕ). firstNames s n link k ++ (x ∷ [])) q))
+          go : (u : Fields) {q v : ℕ} → Leads s n low at q v u → arity t ≡ k + arity u → k < arity t
+          go end m e = absurd (omega (arith, m .is))
+          go (field name nullable shape parts rest) m e = omega arith
 
-      -- the key of a name that was passed is marked
-      pub passed-kept : (marks : List ℕ) (q : ℕ) → q ≡ keyOf (labelAt s n (h .name) (h .nlen)) → Kept marks (firstNames s n link k)
-          → Kept (set marks q 1) (firstNames s n link (k + 1))
-      passed-kept marks q f m =
-          let name = labelAt s n (h .name) (h .nlen) in
-          record {
-            long = length-set marks q 1 ∙ m .long;
-            marked = rw (f, names) (marked-more marks name (firstNames s n link k) (omega (arith, m .long)) (m .marked));
-          }
+      module _ (h : Head) (e : h ≡ headAt s at) where
+        pub passed-next : Passed s n floor link at (h .next) (k + 1)
+        unfolding arity
+        passed-next =
+            record {
+              reached = next-here s n link at k (p .reached) h e;
+              counted = omega (arith, p .counted);
+              onward = λ r o t l. go t (p .onward r o t l .rest) (p .onward r o t l .leads) (p .onward r o t l .long);
+            }
+          where
+            go : (t u : Fields) {q v : ℕ} → Leads s n low at q v u → arity t ≡ k + arity u → Rest s n at (h .next) (k + 1) t
+            go t end m w = absurd (omega (arith, m .is))
+            go t (field name nullable shape parts rest) m w =
+                record { rest = rest; r = _; o = _; leads = next-leads s n low at _ _ name nullable shape parts rest m h e; long = omega arith }
+
+-- the records of a chain, listed by place
+module _ (s : List ℕ) (n floor link : ℕ) (recs : List ℕ) (k : ℕ) (f : (i : ℕ) → i < k → getD recs i 0 ≡ placed s link i) where
+  pub listed : (r o : ℕ) (t : Fields) → Leads s n floor link r o t → arity t ≡ k → Spells (λ i. nameOf s n (getD recs i 0)) k 0 t
+  listed r o t l e = spells-as (names s n link) k (λ i. nameOf s n (getD recs i 0)) (λ i h. ap (nameOf s n) (sym (f i h))) 0 t (spells s n floor link k r o t l e)
+
+-- the names of a chain were compared: one is the name of a record before it; or it has k names, and all differ
+module _ (s : List ℕ) (n floor link low at k : ℕ) (p : Passed s n floor link low at k) where
+  pub known-at : low < at → (h : Head) → h ≡ headAt s at → (j : ℕ) → j < k → names s n link j ≡ labelAt s n (h .name) (h .nlen)
+      → (r o : ℕ) (t : Fields) → Leads s n floor link r o t → true ≡ repeats t
+  known-at lo h e j i q r o t l =
+      told (names s n link) (arity t) t (At j k) (spells s n floor link (arity t) r o t l refl)
+      (i, (passed-more s n floor link low at k p lo r o t l, q ∙ name-here s n link at k (p .reached) h e))
+
+  pub known-none : at ≤ low → Tells (names s n link) k Nothing → (r o : ℕ) (t : Fields) → Leads s n floor link r o t → false ≡ repeats t
+  known-none h d r o t l = told (names s n link) k t Nothing (spells s n floor link k r o t l (passed-low s n floor link low at k p h r o t l)) d
+
+-- names whose numbers differ do so too
+pub numbers-differ : (s : List ℕ) (n : ℕ) (recs : List ℕ) (k : ℕ) (numbers : List ℕ) → Numbered s n recs k numbers
+    → Tells (λ i. getD numbers i 0) k Nothing → Tells (λ i. nameOf s n (getD recs i 0)) k Nothing
+numbers-differ s n recs k numbers e d a b l m q = d a b l m (e .each a (omega arith) ∙ ap (mixed 0) q ∙ sym (e .each b m))

@@ -1,32 +1,68 @@
 -- What the search for two equal names in one Struct goes by.
 use mathlib.Core.Path.{_≡_}
-use Prim.Native.Nat.{ℕ, zero, suc, _+_, _*_, _/_, _%_}
-use mathlib.Core.Bool.{Bool, false, _&&_, _||_}
+use Prim.Native.Nat.{ℕ, zero, suc, _+_, _*_, _/_, _%_, _<_, _≤_}
+use mathlib.Core.Bool.{Bool, true, false, _&&_}
 use mathlib.Core.List.{List, [], _∷_}
 use lib.Dec.{eqb}
-use Rattle.sheet.specs.Types.{Fields}
+use lib.ListN.{length, getD}
+use Rattle.sheet.specs.Types.{Fields, end, field}
 use Rattle.sheet.specs.Head.{headAt}
 use Rattle.sheet.specs.Read.{labelAt}
-use Rattle.sheet.specs.Names.{sameBytes, repeats}
+use Rattle.sheet.specs.Names.{repeats}
 use Rattle.sheet.specs.Holds.{Leads}
+use Rattle.refusals.specs.declared.Pair.{Pair}
+use Rattle.refusals.specs.declared.Pair.the-variants.{At, Nothing, Unsure}
 
--- the names of the first k records of the chain that a link leads to
-unfoldable pub firstNames : List ℕ → ℕ → ℕ → ℕ → List (List ℕ)
-firstNames s n link zero = []
-firstNames s n link (suc k) = labelAt s n (headAt s link .name) (headAt s link .nlen) ∷ firstNames s n (headAt s link .next) k
+-- the name of record r
+abbrev pub nameOf : List ℕ → ℕ → ℕ → List ℕ
+nameOf s n r = labelAt s n (headAt s r .name) (headAt s r .nlen)
 
--- whether a name is one of several
-unfoldable pub among : List ℕ → List (List ℕ) → Bool
-among name [] = false
-among name (other ∷ others) = sameBytes name other || among name others
+-- the record at place i of the chain that a link leads to
+unfoldable pub placed : List ℕ → ℕ → ℕ → ℕ
+placed s link zero = link
+placed s link (suc i) = headAt s (placed s link i) .next
 
--- a number of 32 bits made of the bytes of a name, and the key of the name, its highest 13 bits: equal names have one key
+-- r is the first of the places below k at which x stands, or k
+pub record First {A : Type 0} (f : ℕ → A) (x : A) (k r : ℕ) : Type 0 where
+  pub most : r ≤ k
+  pub before : (i : ℕ) → i < r → f i ≡ x → ⊥
+  pub here : r < k → f r ≡ x
+
+-- what is said of the first k of several holds
+abbrev pub Tells : {A : Type 0} → (ℕ → A) → ℕ → Pair → Type 0
+Tells f k (At a b) = (a < b) × ((b < k) × (f a ≡ f b))
+Tells f k Nothing = (a b : ℕ) → a < b → b < k → f a ≡ f b → ⊥
+Tells f k Unsure = Unit
+
+-- the names of a chain from place i on are those of f, k in all
+abbrev pub Spells : (ℕ → List ℕ) → ℕ → ℕ → Fields → Type 0
+Spells f k i end = i ≡ k
+Spells f k i (field name nullable shape parts rest) = (name ≡ f i) × Spells f k (i + 1) rest
+
+-- recs begins with the k records of the chain that a link leads to, where it has room for more
+pub record Listed (s : List ℕ) (n floor link : ℕ) (recs : List ℕ) (k : ℕ) : Type 0 where
+  pub room : k ≤ length recs
+  pub whole : k < length recs → (r o : ℕ) (t : Fields) → Leads s n floor link r o t → Spells (λ i. nameOf s n (getD recs i 0)) k 0 t
+
+-- whether a chain repeats a name, as far as it is known
+abbrev pub Known : Pair → Bool → Type 0
+Known (At a b) w = true ≡ w
+Known Nothing w = false ≡ w
+Known Unsure w = Unit
+
+-- it is known of the chain that a link leads to, unless it has more than most names
+pub record Compared (s : List ℕ) (n floor link most : ℕ) (p : Pair) : Type 0 where
+  pub known : (r o : ℕ) (t : Fields) → Leads s n floor link r o t → Known p (repeats t)
+  pub short : p ≡ Unsure → most < n
+
+-- a number of 32 bits made of the bytes of a name
 unfoldable pub mixed : ℕ → List ℕ → ℕ
 mixed k [] = k
 mixed k (b ∷ bs) = mixed (2654435769 * (k + b) % 4294967296) bs
 
-abbrev pub keyOf : List ℕ → ℕ
-keyOf name = mixed 0 name / 524288 % 8192
+-- the numbers of the names of the first k of several records
+pub record Numbered (s : List ℕ) (n : ℕ) (recs : List ℕ) (k : ℕ) (numbers : List ℕ) : Type 0 where
+  pub each : (i : ℕ) → i < k → getD numbers i 0 ≡ mixed 0 (nameOf s n (getD recs i 0))
 
 -- b says whether record r is a Struct with two parts of one name
 abbrev pub Finds : List ℕ → ℕ → ℕ → Bool → Type 0

@@ -1,5 +1,6 @@
 // The check of a sheet, which gives refusals 1 to 5.
 mod header;
+mod sieve;
 mod twins;
 mod walk;
 
@@ -35,6 +36,13 @@ struct Progress {
 enum Walked {
     Came(Progress, usize),
     Lost,
+}
+
+// Two equal ones among several, by their places; or that all differ; or neither is known.
+enum Pair {
+    At(usize, usize),
+    Nothing,
+    Unsure,
 }
 
 // Checks a sheet: the refusal of the lowest number that applies, or the header's n and m.

@@ -1,114 +1,178 @@
 // Whether two names in one Struct are equal. A link is followed only to a record past floor, so that each way along a chain ends.
 ghost use mathlib.Core.Path.{_≡_};
-ghost use mathlib.Core.Bool.{not, _&&_};
+ghost use mathlib.Core.Bool.{not};
 ghost use Prim.Native.Nat.{ℕ, _+_, _*_, _<_, _≤_};
-ghost use lib.Dec.{eqb};
-ghost use lib.ListN.{length};
+ghost use lib.ListN.{length, getD};
 ghost use Rattle.sheet.specs.Types.{Fields, count};
 ghost use Rattle.sheet.specs.Read.{labelAt};
-ghost use Rattle.sheet.specs.Names.{repeats, namesDiffer};
+ghost use Rattle.sheet.specs.Names.{sameBytes, repeats, namesDiffer};
 ghost use Rattle.sheet.specs.Holds.{Holds, Leads};
 ghost use Rattle.sheet.specs.Bounds.{Bounded};
-ghost use Rattle.refusals.specs.Twins.{firstNames, among, keyOf, Finds};
+ghost use Rattle.refusals.specs.Twins.{nameOf, placed, First, Tells, Compared, Listed, Numbered, Finds};
+use crate::Pair;
+use crate::sieve::equal_numbers;
+use crate::sieve::number;
 use sheet::Head;
 use sheet::label::label_at;
 use sheet::label::same_name;
 use sheet::record::head_at;
 
-// Whether one of the first k records of the chain that a link leads to has the name of h.
-fn named(s: &[u8], n: usize, h: Head, link: usize, k: usize) -> bool
+// The name of record r, as a part of the sheet.
+fn name_of(s: &[u8], n: usize, r: usize) -> &[u8]
+    requires { ⌜ n < 65536 ⌝ }
+    ensures { λ a. ⌜ now a ≡ nameOf (now (s .entry)) n r ⌝ }
+{
+    let h = head_at(s, r);
+    label_at(s, n, h.name, h.nlen)
+}
+
+// Whether records a and b have one name.
+fn same_names(s: &[u8], n: usize, a: u16, b: u16) -> bool
+    requires { ⌜ n < 65536 ⌝ }
+    ensures { λ r. ⌜ r ≡ sameBytes (nameOf (now (s .entry)) n a) (nameOf (now (s .entry)) n b) ⌝ }
+{
+    same_name(s, n, head_at(s, a as usize), s, n, head_at(s, b as usize))
+}
+
+// The first of the first k records of the chain that a link leads to which has the name of h, by its place, or k.
+fn named(s: &[u8], n: usize, h: Head, link: usize, k: usize) -> usize
     requires { ⌜ (n < 65536) × Bounded h ⌝ }
-    ensures { λ b. ⌜ b ≡ among (labelAt (now (s .entry)) n (h .name) (h .nlen)) (firstNames (now (s .entry)) n link k) ⌝ }
+    ensures { λ r. ⌜ First (λ (i : ℕ). nameOf (now (s .entry)) n (placed (now (s .entry)) link i)) (labelAt (now (s .entry)) n (h .name) (h .nlen)) k r ⌝ }
 {
     let mut at = link;
-    let mut left = k;
-    while 0 < left {
+    let mut i = 0;
+    while i < k {
         let g = head_at(s, at);
-        if same_name(s, n, h, s, n, g) {
-            return true;
+        if same_name(s, n, g, s, n, h) {
+            return i;
         }
         at = g.next;
-        left -= 1;
-    }
-    false
-}
-
-// The same, asked only where the key of the name is marked.
-fn named_again(s: &[u8], n: usize, h: Head, mark: u8, link: usize, k: usize) -> bool
-    requires { ⌜ (n < 65536) × Bounded h ⌝ }
-    ensures { λ b. ⌜ b ≡ (eqb mark 1 && among (labelAt (now (s .entry)) n (h .name) (h .nlen)) (firstNames (now (s .entry)) n link k)) ⌝ }
-{
-    if mark == 1 {
-        named(s, n, h, link, k)
-    } else {
-        false
-    }
-}
-
-// The key of a name, a number that goes by its bytes.
-fn key(name: &[u8]) -> usize
-    ensures { λ r. ⌜ (r ≡ keyOf (now (name .entry))) × (r < 8192) ⌝ }
-{
-    let mut k = 0;
-    let mut i = 0;
-    while i < name.len() {
-        k = 2654435769 * (k + name[i] as usize) % 4294967296;
         i += 1;
     }
-    k / 524288 % 8192
+    i
 }
 
-// Whether two records of the chain that a link leads to have one name. The keys of the names that were met are marked, so that few names are compared.
+// Compares each name of the chain that a link leads to with those before it, unless there are more than most.
+fn compared(s: &[u8], n: usize, floor: usize, link: usize, most: usize) -> Pair
+    requires { ⌜ n < 65536 ⌝ }
+    ensures { λ p. ⌜ Compared (now (s .entry)) n floor link most p ⌝ }
+{
+    let mut low = floor;
+    let mut at = link;
+    let mut k = 0;
+    while low < at {
+        if n <= at {
+            return Pair::Nothing;
+        }
+        if k == most {
+            return Pair::Unsure;
+        }
+        let h = head_at(s, at);
+        let j = named(s, n, h, link, k);
+        if j < k {
+            return Pair::At(j, k);
+        }
+        low = at;
+        at = h.next;
+        k += 1;
+    }
+    Pair::Nothing
+}
+
+// Lists the records of the chain that a link leads to, as many as there is room for, and says how many they are.
+fn list_chain(s: &[u8], n: usize, floor: usize, link: usize, recs: &mut [u16]) -> usize
+    requires { ⌜ n < 65536 ⌝ }
+    ensures { λ k. ⌜ Listed (now (s .entry)) n floor link (now (recs .exit)) k × (length (now (recs .exit)) ≡ length (now (recs .entry))) ⌝ }
+{
+    let mut low = floor;
+    let mut at = link;
+    let mut k = 0;
+    while low < at {
+        if n <= at {
+            return k;
+        }
+        if k == recs.len() {
+            return k;
+        }
+        recs[k] = at as u16;
+        low = at;
+        at = head_at(s, at).next;
+        k += 1;
+    }
+    k
+}
+
+// The numbers of the names of the first k of several records.
+fn number_names(s: &[u8], n: usize, recs: &[u16], k: usize, numbers: &mut [u32])
+    requires { ⌜ (n < 65536) × ((k ≤ length (now recs)) × (k ≤ length (now numbers))) ⌝ }
+    ensures { λ u. ⌜ Numbered (now (s .entry)) n (now (recs .entry)) k (now (numbers .exit)) × (length (now (numbers .exit)) ≡ length (now (numbers .entry))) ⌝ }
+{
+    let mut i = 0;
+    while i < k {
+        numbers[i] = number(name_of(s, n, recs[i] as usize));
+        i += 1;
+    }
+}
+
+// Two equal names among those of the first k of several records, looked for by their numbers. It is not known where names that differ have one number.
+fn by_number(s: &[u8], n: usize, recs: &[u16], k: usize) -> Pair
+    requires { ⌜ (n < 65536) × ((k ≤ length (now recs)) × (k ≤ 1024)) ⌝ }
+    ensures { λ p. ⌜ Tells (λ (i : ℕ). nameOf (now (s .entry)) n (getD (now (recs .entry)) i 0)) k p ⌝ }
+{
+    let mut numbers = [0u32; 1024];
+    number_names(s, n, recs, k, &mut numbers);
+    match equal_numbers(&numbers, k) {
+        Pair::At(a, b) => {
+            if same_names(s, n, recs[a], recs[b]) {
+                Pair::At(a, b)
+            } else {
+                Pair::Unsure
+            }
+        }
+        Pair::Nothing => Pair::Nothing,
+        Pair::Unsure => Pair::Unsure,
+    }
+}
+
+// Whether two records of the chain that a link leads to have one name, by comparing all.
+fn plain(s: &[u8], n: usize, floor: usize, link: usize) -> bool
+    requires { ⌜ n < 65536 ⌝ }
+    ensures { λ b. ⌜ ((r o : ℕ) (t : Fields) → Leads (now (s .entry)) n floor link r o t → b ≡ repeats t) ⌝ }
+{
+    match compared(s, n, floor, link, n) {
+        Pair::At(_, _) => true,
+        Pair::Nothing => false,
+        Pair::Unsure => false,
+    }
+}
+
+// The same, where the chain is long.
 fn sifted(s: &[u8], n: usize, floor: usize, link: usize) -> bool
     requires { ⌜ n < 65536 ⌝ }
     ensures { λ b. ⌜ ((r o : ℕ) (t : Fields) → Leads (now (s .entry)) n floor link r o t → b ≡ repeats t) ⌝ }
 {
-    let mut marks = [0u8; 8192];
-    let mut low = floor;
-    let mut at = link;
-    let mut k = 0;
-    while low < at {
-        if n <= at {
-            return false;
-        }
-        let h = head_at(s, at);
-        let q = key(label_at(s, n, h.name, h.nlen));
-        let mark = marks[q];
-        if named_again(s, n, h, mark, link, k) {
-            return true;
-        }
-        marks[q] = 1;
-        low = at;
-        at = h.next;
-        k += 1;
+    let mut recs = [0u16; 1024];
+    let k = list_chain(s, n, floor, link, &mut recs);
+    if k == 1024 {
+        return plain(s, n, floor, link);
     }
-    false
+    match by_number(s, n, &recs, k) {
+        Pair::At(_, _) => true,
+        Pair::Nothing => false,
+        Pair::Unsure => plain(s, n, floor, link),
+    }
 }
 
-// The same by comparing each name with those before it, where the chain is short.
+// The same. A short chain is compared at once.
 fn repeated(s: &[u8], n: usize, floor: usize, link: usize) -> bool
     requires { ⌜ n < 65536 ⌝ }
     ensures { λ b. ⌜ ((r o : ℕ) (t : Fields) → Leads (now (s .entry)) n floor link r o t → b ≡ repeats t) ⌝ }
 {
-    let mut low = floor;
-    let mut at = link;
-    let mut k = 0;
-    while low < at {
-        if n <= at {
-            return false;
-        }
-        if k == 8 {
-            return sifted(s, n, floor, link);
-        }
-        let h = head_at(s, at);
-        if named(s, n, h, link, k) {
-            return true;
-        }
-        low = at;
-        at = h.next;
-        k += 1;
+    match compared(s, n, floor, link, 8) {
+        Pair::At(_, _) => true,
+        Pair::Nothing => false,
+        Pair::Unsure => sifted(s, n, floor, link),
     }
-    false
 }
 
 // Whether record r is a Struct with two parts of one name.

@@ -1,10 +1,12 @@
-use borrow.Author.Needs.{needs}
-use Prim.Native.Nat.{ℕ, _-_, _≤_}
+use Prim.Native.Nat.{ℕ, _-_, _<_, _≤_}
 use mathlib.Core.Path.{_≡_, refl, sym, _∙_}
 use native.Mathlib.Omega.{arith}
+use borrow.Author.Count.{below-more}
+use borrow.Author.Needs.{needs}
 use Rattle.sheet.specs.Read.{labelAt}
-use Rattle.refusals.specs.Twins.{firstNames, among}
-use Rattle.refusals.proofs.Naming.{names-here, names-on, names-done}
+use Rattle.refusals.specs.Twins.{placed}
+use Rattle.sheet.proofs.Bytewise.{same-equal}
+use Rattle.refusals.proofs.Naming.{names, not-same, name-here, next-here}
 use Rattle.refusals.proofs.twins.named.Statement.{statement}
 use Rattle.refusals.proofs.twins.named.Tie as tie
 use Rattle.refusals.proofs.twins.named.Reads as reads
@@ -13,52 +15,55 @@ use Rattle.sheet.proofs.label.same_name.Reads as same-name-reads
 use Rattle.sheet.proofs.record.head_at.Reads as head-at-reads
 
 abbrev Inv-loop : tie.InvT-loop
-Inv-loop s n h link k at₀ left₀ at left =
-    among (labelAt s n (h .name) (h .nlen)) (firstNames s n at left) ≡ among (labelAt s n (h .name) (h .nlen)) (firstNames s n link k)
+Inv-loop s n h link k at₀ i₀ at i =
+    (at ≡ placed s link i) × ((i ≤ k) × ((j : ℕ) → j < i → names s n link j ≡ labelAt s n (h .name) (h .nlen) → ⊥))
 
 abbrev μ-loop : tie.MeasureT-loop
-μ-loop s n h link k at₀ left₀ at left =
-    left
+μ-loop s n h link k at₀ i₀ at i =
+    k - i
 
--- src/twins.rt:25:5
+-- src/twins.rt:44:5
 loop-holds : tie.Need-loop-holds Inv-loop μ-loop
+unfolding placed
 loop-holds c =
-    refl
+    (refl, (omega arith, λ j l. absurd (omega arith)))
 
--- src/twins.rt:26:13
+-- src/twins.rt:45:13
 head-at-requires : tie.Need-head-at-requires Inv-loop μ-loop
 head-at-requires c κs =
     search needs
 
--- src/twins.rt:27:12
+-- src/twins.rt:46:12
 same-name-requires : tie.Need-same-name-requires Inv-loop μ-loop
 same-name-requires c κs =
-    (((c .before .before .before .before .pre .0), (c .before .before .before .before .pre .0)), ((c .before .before .before .before .pre .1), (c .head-at .ensures .1)))
+    (((c .before .before .before .before .pre .0), (c .before .before .before .before .pre .0)), ((c .head-at .ensures .1), (c .before .before .before .before .pre .1)))
 
--- src/twins.rt:28:13
+-- src/twins.rt:47:13
 returns : tie.Need-returns Inv-loop μ-loop
 returns c =
-    names-here (c .before .before .before .before .before .before .args .s .now) (c .before .before .before .before .before .before .args .n) _ _ (c .before .before .before .before .loop .at) (c .before .before .before .before .loop .left) (c .before .before .before .loop-test .taken) _ (c .before .before .head-at .ensures .0) (c .before .before .before .before .loop .inv) (sym (c .before .same-name .ensures) ∙ (c .if1 .taken))
+    let here = name-here (c .before .before .before .before .before .before .args .s .now) (c .before .before .before .before .before .before .args .n) (c .before .before .before .before .before .before .args .link) (c .before .before .before .before .loop .at) (c .before .before .before .before .loop .i) (c .before .before .before .before .loop .inv .0) _ (c .before .before .head-at .ensures .0) in
+    record { most = omega (arith, (c .before .before .before .loop-test .taken)); before = (c .before .before .before .before .loop .inv .1 .1); here = λ l. sym here ∙ same-equal _ _ (sym (c .before .same-name .ensures) ∙ (c .if1 .taken)) }
 
--- src/twins.rt:31:9
-sub-left : tie.Need-sub-left Inv-loop μ-loop
-sub-left c =
+-- src/twins.rt:50:9
+add-i : tie.Need-add-i Inv-loop μ-loop
+add-i c =
     omega arith
 
--- src/twins.rt:25:5
+-- src/twins.rt:44:5
 loop-less : tie.Need-loop-less Inv-loop μ-loop
 loop-less c =
     omega arith
 
--- src/twins.rt:25:5
+-- src/twins.rt:44:5
 loop-again : tie.Need-loop-again Inv-loop μ-loop
 loop-again c =
-    names-on (c .before .before .before .before .before .before .args .s .now) (c .before .before .before .before .before .before .args .n) _ _ (c .before .before .before .before .loop .at) (c .before .before .before .before .loop .left) (c .before .before .before .loop-test .taken) _ (c .before .before .head-at .ensures .0) (c .before .before .before .before .loop .inv) (sym (c .before .same-name .ensures) ∙ (c .if1 .left))
+    let here = name-here (c .before .before .before .before .before .before .args .s .now) (c .before .before .before .before .before .before .args .n) (c .before .before .before .before .before .before .args .link) (c .before .before .before .before .loop .at) (c .before .before .before .before .loop .i) (c .before .before .before .before .loop .inv .0) _ (c .before .before .head-at .ensures .0) in
+    (next-here (c .before .before .before .before .before .before .args .s .now) (c .before .before .before .before .before .before .args .n) (c .before .before .before .before .before .before .args .link) (c .before .before .before .before .loop .at) (c .before .before .before .before .loop .i) (c .before .before .before .before .loop .inv .0) _ (c .before .before .head-at .ensures .0), (omega (arith, (c .before .before .before .loop-test .taken)), below-more _ _ (c .before .before .before .before .loop .inv .1 .1) (λ q. not-same _ _ (sym (c .before .same-name .ensures) ∙ (c .if1 .left)) (here ∙ q))))
 
--- src/twins.rt:19:1
+-- src/twins.rt:38:1
 returns-2 : tie.Need-returns-2 Inv-loop μ-loop
 returns-2 c =
-    names-done (c .before .before .before .args .s .now) (c .before .before .before .args .n) _ _ (c .before .loop .at) (c .before .loop .left) (omega arith) (c .before .loop .inv)
+    record { most = omega arith; before = (c .before .loop .inv .1 .1); here = λ l. absurd (omega arith) }
 
 pub named-spec : {M : Type 1} → statement M
 named-spec =
@@ -70,7 +75,7 @@ named-spec =
     head-at-requires
     same-name-requires
     returns
-    sub-left
+    add-i
     loop-less
     loop-again
     returns-2)

@@ -1,13 +1,13 @@
-use Prim.Native.Nat.{ℕ, _-_, _/_, _%_, _<_, _≤_}
-use mathlib.Core.Path.{_≡_, refl, ap}
+use Prim.Native.Nat.{ℕ, _-_, _<_, _≤_}
+use mathlib.Core.Path.{_≡_, refl}
 use native.Mathlib.Omega.{arith}
 use lib.ListN.{length, drop}
 use Rattle.refusals.specs.Twins.{mixed}
-use Rattle.refusals.proofs.Naming.{mixed-next, mixed-done}
-use Rattle.refusals.proofs.twins.key.Statement.{statement}
-use Rattle.refusals.proofs.twins.key.Tie as tie
-use Rattle.refusals.proofs.twins.key.Reads as reads
-use Rattle.refusals.proofs.twins.key.Lts as lts
+use Rattle.refusals.proofs.Sieving.{mixed-next, mixed-done}
+use Rattle.refusals.proofs.sieve.number.Statement.{statement}
+use Rattle.refusals.proofs.sieve.number.Tie as tie
+use Rattle.refusals.proofs.sieve.number.Reads as reads
+use Rattle.refusals.proofs.sieve.number.Lts as lts
 
 abbrev Inv-loop : tie.InvT-loop
 Inv-loop name k₀ i₀ k i =
@@ -17,53 +17,58 @@ abbrev μ-loop : tie.MeasureT-loop
 μ-loop name k₀ i₀ k i =
     length name - i
 
--- src/twins.rt:54:5
+-- src/sieve.rt:14:5
 loop-holds : tie.Need-loop-holds Inv-loop μ-loop
 loop-holds c =
     (omega arith, (omega arith, refl))
 
--- src/twins.rt:55:23
+-- src/sieve.rt:15:31
 shared-slice-read-k : tie.Need-shared-slice-read-k Inv-loop μ-loop
 shared-slice-read-k c =
     omega arith
 
--- src/twins.rt:55:23
+-- src/sieve.rt:15:31
 cast-k : tie.Need-cast-k Inv-loop μ-loop
 cast-k c =
     omega (arith, (c .shared-slice-known .given) (c .before .before .loop .i))
 
--- src/twins.rt:55:14
+-- src/sieve.rt:15:27
 add-k : tie.Need-add-k Inv-loop μ-loop
 add-k c =
     omega (arith, (c .shared-slice-known .given) (c .before .before .loop .i))
 
--- src/twins.rt:55:14
+-- src/sieve.rt:15:13
 mul-k : tie.Need-mul-k Inv-loop μ-loop
 mul-k c =
     omega (arith, (c .shared-slice-known .given) (c .before .before .loop .i))
 
--- src/twins.rt:56:9
+-- src/sieve.rt:16:9
 add-i : tie.Need-add-i Inv-loop μ-loop
 add-i c =
     omega arith
 
--- src/twins.rt:54:5
+-- src/sieve.rt:14:5
 loop-less : tie.Need-loop-less Inv-loop μ-loop
 loop-less c =
     omega arith
 
--- src/twins.rt:54:5
+-- src/sieve.rt:14:5
 loop-again : tie.Need-loop-again Inv-loop μ-loop
 loop-again c =
     (omega arith, (omega arith, mixed-next (c .before .before .before .args .name .now) (c .before .before .loop .k) _ (c .before .before .loop .i) (c .before .loop-test .taken) (c .before .before .loop .inv .1 .1)))
 
--- src/twins.rt:49:1
+-- src/sieve.rt:18:5
+cast-result : tie.Need-cast-result Inv-loop μ-loop
+cast-result c =
+    omega arith
+
+-- src/sieve.rt:9:1
 returns : tie.Need-returns Inv-loop μ-loop
 returns c =
-    (ap (λ (k : ℕ). k / 524288 % 8192) (mixed-done (c .before .before .args .name .now) (c .before .loop .k) _ (c .before .loop .i) (c .loop-test .left) (c .before .loop .inv .1 .1)), omega arith)
+    mixed-done (c .before .before .args .name .now) (c .before .loop .k) _ (c .before .loop .i) (c .loop-test .left) (c .before .loop .inv .1 .1)
 
-pub key-spec : {M : Type 1} → statement M
-key-spec =
+pub number-spec : {M : Type 1} → statement M
+number-spec =
     tie.close
     (tie.spec
     Inv-loop
@@ -76,4 +81,5 @@ key-spec =
     add-i
     loop-less
     loop-again
+    cast-result
     returns)

@@ -1,0 +1,69 @@
+// Names as numbers, and whether two of several numbers are equal.
+ghost use mathlib.Core.Path.{_≡_};
+ghost use Prim.Native.Nat.{ℕ, _/_, _<_, _≤_};
+ghost use lib.ListN.{length, getD};
+ghost use Rattle.refusals.specs.Twins.{First, Tells, mixed};
+use crate::Pair;
+
+// A number made of the bytes of a name.
+pub(crate) fn number(name: &[u8]) -> u32
+    ensures { λ r. ⌜ r ≡ mixed 0 (now (name .entry)) ⌝ }
+{
+    let mut k: usize = 0;
+    let mut i = 0;
+    while i < name.len() {
+        k = 2654435769 * (k + name[i] as usize) % 4294967296;
+        i += 1;
+    }
+    k as u32
+}
+
+// The first of the places below k at which x stands, or k.
+fn first_of(xs: &[u32], x: u32, k: usize) -> usize
+    requires { ⌜ k ≤ length (now xs) ⌝ }
+    ensures { λ r. ⌜ First (λ (i : ℕ). getD (now (xs .entry)) i 0) x k r ⌝ }
+{
+    let mut i = 0;
+    while i < k {
+        if xs[i] == x {
+            return i;
+        }
+        i += 1;
+    }
+    i
+}
+
+// The same, looked for only where there is a mark.
+fn first_marked(xs: &[u32], mark: u8, x: u32, k: usize) -> usize
+    requires { ⌜ k ≤ length (now xs) ⌝ }
+    ensures { λ r. ⌜ (r ≤ k) × ((mark ≡ 1 → First (λ (i : ℕ). getD (now (xs .entry)) i 0) x k r) × ((mark ≡ 1 → ⊥) → r ≡ k)) ⌝ }
+{
+    if mark == 1 { first_of(xs, x, k) } else { k }
+}
+
+// The highest 13 bits of a number.
+fn key(x: u32) -> usize
+    ensures { λ r. ⌜ (r ≡ x / 524288) × (r < 8192) ⌝ }
+{
+    (x / 524288) as usize
+}
+
+// Two equal ones of the first k numbers. The keys of the numbers that were met are marked, so that few numbers are looked for.
+pub(crate) fn equal_numbers(xs: &[u32], k: usize) -> Pair
+    requires { ⌜ k ≤ length (now xs) ⌝ }
+    ensures { λ r. ⌜ Tells (λ (i : ℕ). getD (now (xs .entry)) i 0) k r ⌝ }
+{
+    let mut marks = [0u8; 8192];
+    let mut i = 0;
+    while i < k {
+        let x = xs[i];
+        let q = key(x);
+        let j = first_marked(xs, marks[q], x, i);
+        if j < i {
+            return Pair::At(j, i);
+        }
+        marks[q] = 1;
+        i += 1;
+    }
+    Pair::Nothing
+}
