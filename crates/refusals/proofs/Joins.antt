@@ -10,8 +10,6 @@ pub or-end : (b : Bool) → b ≡ (b || false)
 or-end true = refl
 or-end false = refl
 
-pub or-swap : (a b c d : Bool) → (a || b) || (c || d) ≡ (a || c) || (b || d)
-or-swap true b c d = refl
-or-swap false true true d = refl
-or-swap false true false d = refl
-or-swap false false c d = refl
+pub or-true : (a : Bool) → (a || true) ≡ true
+or-true true = refl
+or-true false = refl

@@ -6,3 +6,4 @@ pub mod Bare
 pub mod Rows
 pub mod Naming
 pub mod Sieving
+pub mod Ordering

@@ -16,9 +16,10 @@ use Rattle.sheet.specs.Holds.{Leads}
 use Rattle.sheet.specs.declared.Head.{Head}
 use Rattle.refusals.specs.declared.Pair.{Pair}
 use Rattle.refusals.specs.declared.Pair.the-variants.{At, Nothing, Unsure}
-use Rattle.refusals.specs.Twins.{nameOf, placed, Tells, Spells, Known, mixed, Numbered}
+use Rattle.refusals.specs.Twins.{nameOf, nameAt, placed, Tells, Spells, Known, mixed, Numbered}
 use Rattle.sheet.proofs.Tests.{never}
 use Rattle.sheet.proofs.Bytewise.{same-self, same-equal}
+use Rattle.refusals.proofs.Joins.{or-true}
 use Rattle.sheet.proofs.Repeating.{name-is, next-leads}
 
 same-of : (xs ys : List ℕ) → xs ≡ ys → sameBytes xs ys ≡ true
@@ -26,10 +27,6 @@ same-of xs ys e = ap (sameBytes xs) (sym e) ∙ same-self xs
 
 pub not-same : (xs ys : List ℕ) → sameBytes xs ys ≡ false → xs ≡ ys → ⊥
 not-same xs ys h e = never (sym h ∙ same-of xs ys e)
-
-or-true : (a : Bool) → (a || true) ≡ true
-or-true true = refl
-or-true false = refl
 
 -- a chain that has the names of f
 module _ (f : ℕ → List ℕ) (k : ℕ) where
@@ -89,10 +86,14 @@ placed-next : (s : List ℕ) (link i : ℕ) → placed s link (i + 1) ≡ headAt
 unfolding placed
 placed-next s link i = ap (placed s link) (add-one i)
 
+-- the name of a record, by its head
+pub name-of : (s : List ℕ) (n at r : ℕ) → at ≡ r → (h : Head) → h ≡ headAt s at → labelAt s n (h .name) (h .nlen) ≡ nameOf s n r
+name-of s n at r e h q = ap (λ (g : Head). labelAt s n (g .name) (g .nlen)) q ∙ ap (nameOf s n) e
+
 -- the record at a place of a chain: its name, and the next
 module _ (s : List ℕ) (n link at k : ℕ) (e : at ≡ placed s link k) (h : Head) (q : h ≡ headAt s at) where
   pub name-here : labelAt s n (h .name) (h .nlen) ≡ names s n link k
-  name-here = ap (λ (g : Head). labelAt s n (g .name) (g .nlen)) q ∙ ap (nameOf s n) e
+  name-here = name-of s n at (placed s link k) e h q
 
   pub next-here : h .next ≡ placed s link (k + 1)
   next-here = ap (λ (g : Head). g .next) q ∙ ap (λ (i : ℕ). headAt s i .next) e ∙ sym (placed-next s link k)
@@ -172,8 +173,8 @@ module _ (s : List ℕ) (n floor link : ℕ) where
 
 -- the records of a chain, listed by place
 module _ (s : List ℕ) (n floor link : ℕ) (recs : List ℕ) (k : ℕ) (f : (i : ℕ) → i < k → getD recs i 0 ≡ placed s link i) where
-  pub listed : (r o : ℕ) (t : Fields) → Leads s n floor link r o t → arity t ≡ k → Spells (λ i. nameOf s n (getD recs i 0)) k 0 t
-  listed r o t l e = spells-as (names s n link) k (λ i. nameOf s n (getD recs i 0)) (λ i h. ap (nameOf s n) (sym (f i h))) 0 t (spells s n floor link k r o t l e)
+  pub listed : (r o : ℕ) (t : Fields) → Leads s n floor link r o t → arity t ≡ k → Spells (nameAt s n recs) k 0 t
+  listed r o t l e = spells-as (names s n link) k (nameAt s n recs) (λ i h. ap (nameOf s n) (sym (f i h))) 0 t (spells s n floor link k r o t l e)
 
 -- the names of a chain were compared: one is the name of a record before it; or it has k names, and all differ
 module _ (s : List ℕ) (n floor link low at k : ℕ) (p : Passed s n floor link low at k) where
@@ -188,5 +189,5 @@ module _ (s : List ℕ) (n floor link low at k : ℕ) (p : Passed s n floor link
 
 -- names whose numbers differ do so too
 pub numbers-differ : (s : List ℕ) (n : ℕ) (recs : List ℕ) (k : ℕ) (numbers : List ℕ) → Numbered s n recs k numbers
-    → Tells (λ i. getD numbers i 0) k Nothing → Tells (λ i. nameOf s n (getD recs i 0)) k Nothing
+    → Tells (λ i. getD numbers i 0) k Nothing → Tells (nameAt s n recs) k Nothing
 numbers-differ s n recs k numbers e d a b l m q = d a b l m (e .each a (omega arith) ∙ ap (mixed 0) q ∙ sym (e .each b m))

@@ -1,9 +1,9 @@
 -- What the search for two equal names in one Struct goes by.
 use mathlib.Core.Path.{_≡_}
 use Prim.Native.Nat.{ℕ, zero, suc, _+_, _*_, _/_, _%_, _<_, _≤_}
-use mathlib.Core.Bool.{Bool, true, false, _&&_}
+use mathlib.Core.Bool.{Bool, true, false, _&&_, _||_}
 use mathlib.Core.List.{List, [], _∷_}
-use lib.Dec.{eqb}
+use lib.Dec.{eqb, ltb}
 use lib.ListN.{length, getD}
 use Rattle.sheet.specs.Types.{Fields, end, field}
 use Rattle.sheet.specs.Head.{headAt}
@@ -16,6 +16,10 @@ use Rattle.refusals.specs.declared.Pair.the-variants.{At, Nothing, Unsur
 -- the name of record r
 abbrev pub nameOf : List ℕ → ℕ → ℕ → List ℕ
 nameOf s n r = labelAt s n (headAt s r .name) (headAt s r .nlen)
+
+-- the name of the record at place i of several
+abbrev pub nameAt : List ℕ → ℕ → List ℕ → ℕ → List ℕ
+nameAt s n recs i = nameOf s n (getD recs i 0)
 
 -- the record at place i of the chain that a link leads to
 unfoldable pub placed : List ℕ → ℕ → ℕ → ℕ
@@ -42,7 +46,7 @@ Spells f k i (field name nullable shape parts rest) = (name ≡ f i) × Spells f
 -- recs begins with the k records of the chain that a link leads to, where it has room for more
 pub record Listed (s : List ℕ) (n floor link : ℕ) (recs : List ℕ) (k : ℕ) : Type 0 where
   pub room : k ≤ length recs
-  pub whole : k < length recs → (r o : ℕ) (t : Fields) → Leads s n floor link r o t → Spells (λ i. nameOf s n (getD recs i 0)) k 0 t
+  pub whole : k < length recs → (r o : ℕ) (t : Fields) → Leads s n floor link r o t → Spells (nameAt s n recs) k 0 t
 
 -- whether a chain repeats a name, as far as it is known
 abbrev pub Known : Pair → Bool → Type 0
@@ -62,7 +66,24 @@ mixed k (b ∷ bs) = mixed (2654435769 * (k + b) % 4294967296) bs
 
 -- the numbers of the names of the first k of several records
 pub record Numbered (s : List ℕ) (n : ℕ) (recs : List ℕ) (k : ℕ) (numbers : List ℕ) : Type 0 where
-  pub each : (i : ℕ) → i < k → getD numbers i 0 ≡ mixed 0 (nameOf s n (getD recs i 0))
+  pub each : (i : ℕ) → i < k → getD numbers i 0 ≡ mixed 0 (nameAt s n recs i)
+
+-- whether a byte string comes before another
+unfoldable pub lessBytes : List ℕ → List ℕ → Bool
+lessBytes [] [] = false
+lessBytes [] (y ∷ ys) = true
+lessBytes (x ∷ xs) [] = false
+lessBytes (x ∷ xs) (y ∷ ys) = ltb x y || (eqb x y && lessBytes xs ys)
+
+-- rank says of each place below k where it stands in an order
+abbrev pub Inverts : List ℕ → List ℕ → ℕ → Type 0
+Inverts ord rank k = (c : ℕ) → c < k → (getD rank c 0 < k) × (getD ord (getD rank c 0) 0 ≡ c)
+
+-- each of the first k strings in an order comes before the next; or two are equal; or neither is known
+abbrev pub Climbs : (ℕ → List ℕ) → List ℕ → ℕ → Pair → Type 0
+Climbs f ord k (At a b) = Tells f k (At a b)
+Climbs f ord k Nothing = (i : ℕ) → i + 1 < k → lessBytes (f (getD ord i 0)) (f (getD ord (i + 1) 0)) ≡ true
+Climbs f ord k Unsure = Unit
 
 -- b says whether record r is a Struct with two parts of one name
 abbrev pub Finds : List ℕ → ℕ → ℕ → Bool → Type 0

@@ -1,5 +1,7 @@
 // The check of a sheet, which gives refusals 1 to 5.
 mod header;
+mod names;
+mod order;
 mod sieve;
 mod twins;
 mod walk;

@@ -1,12 +1,14 @@
-// Names as numbers, and whether two of several numbers are equal.
+// Two equal names among those of several records, found by numbers that are made of the names.
 ghost use mathlib.Core.Path.{_≡_};
 ghost use Prim.Native.Nat.{ℕ, _/_, _<_, _≤_};
 ghost use lib.ListN.{length, getD};
-ghost use Rattle.refusals.specs.Twins.{First, Tells, mixed};
+ghost use Rattle.refusals.specs.Twins.{nameAt, First, Tells, mixed, Numbered};
 use crate::Pair;
+use crate::names::name_at;
+use crate::names::same_at;
 
 // A number made of the bytes of a name.
-pub(crate) fn number(name: &[u8]) -> u32
+fn number(name: &[u8]) -> u32
     ensures { λ r. ⌜ r ≡ mixed 0 (now (name .entry)) ⌝ }
 {
     let mut k: usize = 0;
@@ -49,7 +51,7 @@ fn key(x: u32) -> usize
 }
 
 // Two equal ones of the first k numbers. The keys of the numbers that were met are marked, so that few numbers are looked for.
-pub(crate) fn equal_numbers(xs: &[u32], k: usize) -> Pair
+fn equal_numbers(xs: &[u32], k: usize) -> Pair
     requires { ⌜ k ≤ length (now xs) ⌝ }
     ensures { λ r. ⌜ Tells (λ (i : ℕ). getD (now (xs .entry)) i 0) k r ⌝ }
 {
@@ -66,4 +68,36 @@ pub(crate) fn equal_numbers(xs: &[u32], k: usize) -> Pair
         i += 1;
     }
     Pair::Nothing
+}
+
+// The numbers of the names of the first k of several records.
+fn number_names(s: &[u8], n: usize, recs: &[u16], k: usize, numbers: &mut [u32])
+    requires { ⌜ (n < 65536) × (k ≤ length (now numbers)) ⌝ }
+    ensures { λ u. ⌜ Numbered (now (s .entry)) n (now (recs .entry)) k (now (numbers .exit)) ⌝ }
+{
+    let mut i = 0;
+    while i < k {
+        numbers[i] = number(name_at(s, n, recs, i));
+        i += 1;
+    }
+}
+
+// Two equal names among those of the first k of several records. It is not known where names that differ have one number.
+pub(crate) fn by_number(s: &[u8], n: usize, recs: &[u16], k: usize) -> Pair
+    requires { ⌜ (n < 65536) × (k ≤ 1024) ⌝ }
+    ensures { λ p. ⌜ Tells (nameAt (now (s .entry)) n (now (recs .entry))) k p ⌝ }
+{
+    let mut numbers = [0u32; 1024];
+    number_names(s, n, recs, k, &mut numbers);
+    match equal_numbers(&numbers, k) {
+        Pair::At(a, b) => {
+            if same_at(s, n, recs, a, b) {
+                Pair::At(a, b)
+            } else {
+                Pair::Unsure
+            }
+        }
+        Pair::Nothing => Pair::Nothing,
+        Pair::Unsure => Pair::Unsure,
+    }
 }

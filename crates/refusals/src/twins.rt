@@ -2,37 +2,19 @@
 ghost use mathlib.Core.Path.{_≡_};
 ghost use mathlib.Core.Bool.{not};
 ghost use Prim.Native.Nat.{ℕ, _+_, _*_, _<_, _≤_};
-ghost use lib.ListN.{length, getD};
+ghost use lib.ListN.{length};
 ghost use Rattle.sheet.specs.Types.{Fields, count};
 ghost use Rattle.sheet.specs.Read.{labelAt};
-ghost use Rattle.sheet.specs.Names.{sameBytes, repeats, namesDiffer};
+ghost use Rattle.sheet.specs.Names.{repeats, namesDiffer};
 ghost use Rattle.sheet.specs.Holds.{Holds, Leads};
 ghost use Rattle.sheet.specs.Bounds.{Bounded};
-ghost use Rattle.refusals.specs.Twins.{nameOf, placed, First, Tells, Compared, Listed, Numbered, Finds};
+ghost use Rattle.refusals.specs.Twins.{nameOf, nameAt, placed, First, Tells, Compared, Listed, Finds};
 use crate::Pair;
-use crate::sieve::equal_numbers;
-use crate::sieve::number;
+use crate::order::by_order;
+use crate::sieve::by_number;
 use sheet::Head;
-use sheet::label::label_at;
 use sheet::label::same_name;
 use sheet::record::head_at;
-
-// The name of record r, as a part of the sheet.
-fn name_of(s: &[u8], n: usize, r: usize) -> &[u8]
-    requires { ⌜ n < 65536 ⌝ }
-    ensures { λ a. ⌜ now a ≡ nameOf (now (s .entry)) n r ⌝ }
-{
-    let h = head_at(s, r);
-    label_at(s, n, h.name, h.nlen)
-}
-
-// Whether records a and b have one name.
-fn same_names(s: &[u8], n: usize, a: u16, b: u16) -> bool
-    requires { ⌜ n < 65536 ⌝ }
-    ensures { λ r. ⌜ r ≡ sameBytes (nameOf (now (s .entry)) n a) (nameOf (now (s .entry)) n b) ⌝ }
-{
-    same_name(s, n, head_at(s, a as usize), s, n, head_at(s, b as usize))
-}
 
 // The first of the first k records of the chain that a link leads to which has the name of h, by its place, or k.
 fn named(s: &[u8], n: usize, h: Head, link: usize, k: usize) -> usize
@@ -102,38 +84,6 @@ fn list_chain(s: &[u8], n: usize, floor: usize, link: usize, recs: &mut [u16]) -
     k
 }
 
-// The numbers of the names of the first k of several records.
-fn number_names(s: &[u8], n: usize, recs: &[u16], k: usize, numbers: &mut [u32])
-    requires { ⌜ (n < 65536) × ((k ≤ length (now recs)) × (k ≤ length (now numbers))) ⌝ }
-    ensures { λ u. ⌜ Numbered (now (s .entry)) n (now (recs .entry)) k (now (numbers .exit)) × (length (now (numbers .exit)) ≡ length (now (numbers .entry))) ⌝ }
-{
-    let mut i = 0;
-    while i < k {
-        numbers[i] = number(name_of(s, n, recs[i] as usize));
-        i += 1;
-    }
-}
-
-// Two equal names among those of the first k of several records, looked for by their numbers. It is not known where names that differ have one number.
-fn by_number(s: &[u8], n: usize, recs: &[u16], k: usize) -> Pair
-    requires { ⌜ (n < 65536) × ((k ≤ length (now recs)) × (k ≤ 1024)) ⌝ }
-    ensures { λ p. ⌜ Tells (λ (i : ℕ). nameOf (now (s .entry)) n (getD (now (recs .entry)) i 0)) k p ⌝ }
-{
-    let mut numbers = [0u32; 1024];
-    number_names(s, n, recs, k, &mut numbers);
-    match equal_numbers(&numbers, k) {
-        Pair::At(a, b) => {
-            if same_names(s, n, recs[a], recs[b]) {
-                Pair::At(a, b)
-            } else {
-                Pair::Unsure
-            }
-        }
-        Pair::Nothing => Pair::Nothing,
-        Pair::Unsure => Pair::Unsure,
-    }
-}
-
 // Whether two records of the chain that a link leads to have one name, by comparing all.
 fn plain(s: &[u8], n: usize, floor: usize, link: usize) -> bool
     requires { ⌜ n < 65536 ⌝ }
@@ -143,6 +93,18 @@ fn plain(s: &[u8], n: usize, floor: usize, link: usize) -> bool
         Pair::At(_, _) => true,
         Pair::Nothing => false,
         Pair::Unsure => false,
+    }
+}
+
+// Two equal names among those of the first k of several records.
+fn equal_names(s: &[u8], n: usize, recs: &[u16], k: usize) -> Pair
+    requires { ⌜ (n < 65536) × (k ≤ 1024) ⌝ }
+    ensures { λ p. ⌜ Tells (nameAt (now (s .entry)) n (now (recs .entry))) k p ⌝ }
+{
+    match by_number(s, n, recs, k) {
+        Pair::At(a, b) => Pair::At(a, b),
+        Pair::Nothing => Pair::Nothing,
+        Pair::Unsure => by_order(s, n, recs, k),
     }
 }
 
@@ -156,7 +118,7 @@ fn sifted(s: &[u8], n: usize, floor: usize, link: usize) -> bool
     if k == 1024 {
         return plain(s, n, floor, link);
     }
-    match by_number(s, n, &recs, k) {
+    match equal_names(s, n, &recs, k) {
         Pair::At(_, _) => true,
         Pair::Nothing => false,
         Pair::Unsure => plain(s, n, floor, link),

@@ -70,25 +70,45 @@ fn differing(count: usize, length: usize, place: usize) -> Vec<Vec<u8>> {
     (0..count).map(name).collect()
 }
 
-/// The key by which the check sifts the names of one Struct.
-fn key(name: &[u8]) -> u32 {
-    name.iter().fold(0u32, |key, &byte| key.wrapping_add(byte.into()).wrapping_mul(2_654_435_769)) >> 19
+/// The number that the check makes of a name, and its key, by which the names of one Struct are sifted.
+fn number(name: &[u8]) -> u32 {
+    name.iter().fold(0, |sum: u32, &byte| sum.wrapping_add(byte.into()).wrapping_mul(2_654_435_769))
 }
 
-/// Names of one key, which differ in the three bytes at a place alone.
+fn key(name: &[u8]) -> u32 {
+    number(name) >> 19
+}
+
+/// What may be added to four bytes in a row of a name and leaves its number as it is.
+const APART: [i16; 4] = [-29, -52, 91, 150];
+
+/// Another name of the same number, which differs in the four bytes at a place.
+fn twin(name: &[u8], place: usize) -> Option<Vec<u8>> {
+    let mut other = name.to_vec();
+    for (byte, apart) in other[place..].iter_mut().zip(APART) {
+        *byte = u8::try_from(i16::from(*byte) + apart).ok()?;
+    }
+    assert_eq!(number(name), number(&other));
+    Some(other)
+}
+
+/// Names of one key, which differ in the four bytes at a place alone. The last two have one number.
 fn colliding(count: usize, length: usize, place: usize) -> Vec<Vec<u8>> {
     let mut name = vec![b'x'; length];
     let wanted = key(&name);
-    let mut names = Vec::new();
-    for number in 0..1 << 24 {
-        name[place..place + 3].copy_from_slice(&u32::to_be_bytes(number)[1..]);
-        if key(&name) == wanted {
-            names.push(name.clone());
-        }
-        if names.len() == count {
-            break;
-        }
-    }
+    let mut made = |at: u32| {
+        name[place..place + 4].copy_from_slice(&at.to_be_bytes());
+        (key(&name) == wanted).then(|| name.clone())
+    };
+    let mut spread = (0..u32::MAX).filter_map(|at| made(at.wrapping_mul(2_654_435_769)));
+    let (one, other) =
+        spread.find_map(|one| twin(&one, place).map(|other| (one, other))).expect("two names");
+    let mut names: Vec<_> = (0..u32::MAX)
+        .filter_map(made)
+        .filter(|name| *name != one && *name != other)
+        .take(count - 2)
+        .collect();
+    names.extend([one, other]);
     names
 }
 
@@ -331,18 +351,19 @@ fn squares() -> Vec<DataType> {
 }
 
 const PLACES: [(usize, usize, &str); 5] = [
-    (16, 0, "first three bytes"),
-    (16, 6, "middle three bytes"),
-    (16, 12, "three bytes before the last"),
-    (16, 13, "last three bytes"),
-    (4, 0, "first three bytes"),
+    (16, 0, "first four bytes"),
+    (16, 6, "middle four bytes"),
+    (16, 11, "four bytes before the last"),
+    (16, 12, "last four bytes"),
+    (4, 0, "four bytes"),
 ];
 
-/// Names that the check cannot sift, as they have one key.
+/// Names that the check cannot sift, as they have one key, and that it has to sort, as two have one number.
 fn collided() -> Vec<Hard> {
     let mut found = Vec::new();
     for (length, place, word) in PLACES {
-        let what = format!("{length}-byte names of one key that differ in the {word}");
+        let what =
+            format!("{length}-byte names of one key that differ in the {word}, two of one number");
         found.extend(name_orders(&what, &colliding(FIELDS, length, place)));
         let one = vec![row(&colliding(1022, length, place), &Int32)];
         let name = format!("a Struct of 1,022 fields, {what}");

@@ -5,61 +5,61 @@ use Rattle.refusals.proofs.twins.sifted.Statement.{statement}
 use Rattle.refusals.proofs.twins.sifted.Tie as tie
 use Rattle.refusals.proofs.twins.sifted.Reads as reads
 use Rattle.refusals.proofs.twins.sifted.Lts as lts
-use Rattle.refusals.proofs.twins.by_number.Reads as by-number-reads
+use Rattle.refusals.proofs.twins.equal_names.Reads as equal-names-reads
 use Rattle.refusals.proofs.twins.list_chain.Reads as list-chain-reads
 use Rattle.refusals.proofs.twins.plain.Reads as plain-reads
 
--- src/twins.rt:155:43
+-- src/twins.rt:117:43
 slice-aggregate-list-chain : tie.Need-slice-aggregate-list-chain
 slice-aggregate-list-chain c = search needs
 
--- src/twins.rt:155:9
+-- src/twins.rt:117:9
 list-chain-requires : tie.Need-list-chain-requires
 list-chain-requires c κs = search needs
 
--- src/twins.rt:157:9
+-- src/twins.rt:119:9
 plain-requires : tie.Need-plain-requires
 plain-requires c κs = search needs
 
--- src/twins.rt:157:9
+-- src/twins.rt:119:9
 returns : tie.Need-returns
 returns c = search needs
 
--- src/twins.rt:159:27
-slice-aggregate-by-number : tie.Need-slice-aggregate-by-number
-slice-aggregate-by-number c = search needs
+-- src/twins.rt:121:29
+slice-aggregate-equal-names : tie.Need-slice-aggregate-equal-names
+slice-aggregate-equal-names c = search needs
 
--- src/twins.rt:159:11
-by-number-requires : tie.Need-by-number-requires
-by-number-requires c κs = search needs
+-- src/twins.rt:121:11
+equal-names-requires : tie.Need-equal-names-requires
+equal-names-requires c κs = search needs
 
--- src/twins.rt:160:27
+-- src/twins.rt:122:27
 enum-told : tie.Need-enum-told
 enum-told c = search needs
 
--- src/twins.rt:161:26
+-- src/twins.rt:123:26
 enum-told-2 : tie.Need-enum-told-2
 enum-told-2 c = search needs
 
--- src/twins.rt:162:25
+-- src/twins.rt:124:25
 enum-told-3 : tie.Need-enum-told-3
 enum-told-3 c = search needs
 
--- src/twins.rt:162:25
+-- src/twins.rt:124:25
 plain-requires-2 : tie.Need-plain-requires-2
 plain-requires-2 c κs = search needs
 
--- src/twins.rt:150:1
+-- src/twins.rt:112:1
 returns-2 : tie.Need-returns-2
 returns-2 c =
-    λ r o t l. rw (c .enum-told .given .1) at (told _ (c .before .before .before .before .before .before .list-chain .result) t (c .before .before .by-number .result) ((c .before .before .before .before .before .before .list-chain .ensures .0 .whole) (omega (arith, (c .before .before .before .before .before .before .list-chain .ensures .0 .room), (c .before .before .before .before .before .before .list-chain .ensures .1), (c .before .before .before .before .if1 .left))) r o t l) (c .before .before .by-number .ensures))
+    λ r o t l. rw (c .enum-told .given .1) at (told _ (c .before .before .before .before .before .before .list-chain .result) t (c .before .before .equal-names .result) ((c .before .before .before .before .before .before .list-chain .ensures .0 .whole) (omega (arith, (c .before .before .before .before .before .before .list-chain .ensures .0 .room), (c .before .before .before .before .before .before .list-chain .ensures .1), (c .before .before .before .before .if1 .left))) r o t l) (c .before .before .equal-names .ensures))
 
--- src/twins.rt:150:1
+-- src/twins.rt:112:1
 returns-3 : tie.Need-returns-3
 returns-3 c =
-    λ r o t l. rw (c .enum-told2 .given .1) at (told _ (c .before .before .before .before .before .before .list-chain .result) t (c .before .before .by-number .result) ((c .before .before .before .before .before .before .list-chain .ensures .0 .whole) (omega (arith, (c .before .before .before .before .before .before .list-chain .ensures .0 .room), (c .before .before .before .before .before .before .list-chain .ensures .1), (c .before .before .before .before .if1 .left))) r o t l) (c .before .before .by-number .ensures))
+    λ r o t l. rw (c .enum-told2 .given .1) at (told _ (c .before .before .before .before .before .before .list-chain .result) t (c .before .before .equal-names .result) ((c .before .before .before .before .before .before .list-chain .ensures .0 .whole) (omega (arith, (c .before .before .before .before .before .before .list-chain .ensures .0 .room), (c .before .before .before .before .before .before .list-chain .ensures .1), (c .before .before .before .before .if1 .left))) r o t l) (c .before .before .equal-names .ensures))
 
--- src/twins.rt:150:1
+-- src/twins.rt:112:1
 returns-4 : tie.Need-returns-4
 returns-4 c = search needs
 
@@ -71,8 +71,8 @@ sifted-spec =
     list-chain-requires
     plain-requires
     returns
-    slice-aggregate-by-number
-    by-number-requires
+    slice-aggregate-equal-names
+    equal-names-requires
     enum-told
     enum-told-2
     enum-told-3
