@@ -432,7 +432,26 @@ fn candidates() -> Vec<Hard> {
         );
         found.push(candidate("a wide index", &what, first, fields + 3));
     }
+    for bytes in [0, 28] {
+        found.push(items("one item name", bytes, &[b"item"]));
+        found.push(items("two item names in turn", bytes, &[b"item", b"element"]));
+    }
     found
+}
+
+/// A List of 250 run ends, whose parts have names of this many bytes, and Lists of an integer as
+/// many as fit after it. No test on the core of a candidate knows that these leave it as it is.
+fn items(which: &str, bytes: usize, names: &[&[u8]]) -> Hard {
+    const LEVELS: usize = 250;
+    const LISTS: usize = (1023 - (2 * LEVELS + 2)) / 2;
+    let part = Part { name: vec![b'x'; bytes], nullable: true };
+    let tower = (0..LEVELS).fold(Int8, |t, _| RunEndEncoded(part.of(Int32), part.of(t)));
+    let list = |(at, t)| List(field_of(names[at % names.len()], t, true));
+    let types = [tower].into_iter().chain(integers(LISTS)).enumerate().map(list).collect();
+    let name = format!(
+        "a list of a List of {LEVELS} run ends around Int8, {bytes}-byte names, then {LISTS} Lists of an integer"
+    );
+    Hard::new(&format!("list: a List of run ends, then Lists, {which}"), &name, types)
 }
 
 /// A first type of this many records, and integers as many as fit after it.
