@@ -45,7 +45,7 @@ use Rattle.wrappers.proofs.Values.{Two, typed-two, value-of}
 use Rattle.merge.proofs.Orders.{ask-turns, plain-turns}
 use Rattle.merge.proofs.Rewrapping.{end-is}
 use Rattle.resolution.specs.Reached.{Candidate}
-use Rattle.resolution.specs.Keeps.{coreOf, CoreAt, bareType, figuresAt, Bare, isBare, hasFigures}
+use Rattle.resolution.specs.Keeps.{coreOf, CoreAt, CoreIf, bareType, figuresAt, Bare, isBare, hasFigures}
 use Rattle.resolution.proofs.Shifting.{candidate-stands}
 use Rattle.resolution.proofs.Folding.{plain-field}
 
@@ -109,8 +109,8 @@ module _ (space : Space) (w : List ℕ) where
   second-half : second ≡ region space w
   second-half = take-all (length w - space .half) (region space w) (omega (arith, length-drop (space .half) w))
 
-  pub core-second : {k : ℕ} → CoreAt space second 1 k → CoreAt space (region space w) 1 k
-  core-second {k} a = subst (λ (u : List ℕ). CoreAt space u 1 k) second-half a
+  pub core-second : {k l : ℕ} → (CoreIf space second k → CoreAt space second 1 l) → CoreIf space (region space w) k → CoreAt space (region space w) 1 l
+  core-second {k} {l} f a = subst (λ (u : List ℕ). CoreAt space u 1 l) second-half (f (subst (λ (u : List ℕ). CoreIf space u k) (sym second-half) a))
 
   pub keeps-candidate : {A : DataType → DataType → Option DataType} {s : List ℕ} {link k : ℕ} {d : Spot} → Room w space → Inside space d → CoreAt space (region space w) 1 k
       → ((space′ : Space) → CoreAt space′ second 1 k → (x c : DataType) → Typed space′ s link x → Typed space′ second 1 c → A x c ≡ some c)

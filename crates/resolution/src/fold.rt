@@ -10,7 +10,7 @@ ghost use Rattle.buffers.specs.Typed.{Typed};
 ghost use Rattle.sheet.specs.Bounds.{Bounded};
 ghost use Rattle.resolution.specs.Reached.{Reached, Candidate, Entry, Steps, Folds};
 ghost use Rattle.resolution.specs.Value.{Valued};
-use crate::keep::core_at;
+use crate::keep::core_of;
 use crate::keep::keeps;
 use crate::list::all_equal;
 use crate::list::is_fitting;
@@ -107,7 +107,7 @@ fn fold_from(
     let mut at = link;
     let mut end = d;
     let half = space.half;
-    let mut core = core_at(&work[half..], space, 1);
+    let mut core = 0;
     while last < at {
         if space.n <= at {
             return Out::No;
@@ -115,13 +115,14 @@ fn fold_from(
         let h = head_at(sheet, at);
         let next = h.next;
         if h.kind != 1 {
+            core = core_of(&work[half..], space, core);
             if !keeps(sheet, &work[half..], mask, at, core) {
                 match step(sheet, work, space, Question::List, mask, at, end) {
                     Out::Done(e) => end = e,
                     Out::No => return Out::No,
                     Out::Full => return Out::No,
                 }
-                core = core_at(&work[half..], space, 1);
+                core = 0;
             }
         }
         last = at;

@@ -7,7 +7,7 @@ ghost use Rattle.coercion.specs.Answers.{coercion};
 ghost use Rattle.buffers.specs.Plain.{rulesOf};
 ghost use Rattle.buffers.specs.Steps.{stepOf};
 ghost use Rattle.buffers.specs.Typed.{Typed};
-ghost use Rattle.resolution.specs.Keeps.{CoreAt, Bare, figuresAt, isBare, hasFigures};
+ghost use Rattle.resolution.specs.Keeps.{CoreAt, CoreIf, Bare, figuresAt, isBare, hasFigures};
 use buffers::Question;
 use buffers::Space;
 use buffers::Step;
@@ -19,7 +19,7 @@ use sheet::Head;
 use sheet::record::head_at;
 
 // The record of the core of the type of record r. A link is followed only upward.
-pub(crate) fn core_at(s: &[u8], space: Space, r: usize) -> usize
+fn core_at(s: &[u8], space: Space, r: usize) -> usize
     ensures { λ k. ⌜ CoreAt space (now (s .entry)) r k ⌝ }
 {
     let mut at = r;
@@ -35,6 +35,16 @@ pub(crate) fn core_at(s: &[u8], space: Space, r: usize) -> usize
         at = value;
     }
     at
+}
+
+// The record of the candidate's core, which may be known already. 0 is no record of a type.
+pub(crate) fn core_of(second: &[u8], space: Space, core: usize) -> usize
+    ensures { λ k. ⌜ (CoreIf space (now (second .entry)) core → CoreAt space (now (second .entry)) 1 k) ⌝ }
+{
+    if core == 0 {
+        return core_at(second, space, 1);
+    }
+    core
 }
 
 fn is_bare(h: Head) -> bool

@@ -8,7 +8,7 @@ use Rattle.coercion.specs.Answers.{foldFrom}
 use Rattle.buffers.specs.Region.{Room, region, Inside}
 use Rattle.buffers.specs.Plain.{rulesOf}
 use Rattle.buffers.specs.declared.Question.the-variants as Question
-use Rattle.resolution.specs.Keeps.{CoreAt}
+use Rattle.resolution.specs.Keeps.{CoreIf}
 use Rattle.resolution.proofs.Listing.{unnot}
 use Rattle.resolution.proofs.Keeping.{core-second, keeps-candidate}
 use Rattle.resolution.proofs.Folding.{FoldsOn, candidate-right, room-within, folds-end, folds-lost, folds-null, folds-kept, folds-on, folds-no, folds-full}
@@ -17,43 +17,23 @@ use Rattle.resolution.proofs.fold.fold_from.Tie as tie
 use Rattle.resolution.proofs.fold.fold_from.Reads as reads
 use Rattle.resolution.proofs.fold.fold_from.Lts as lts
 use Rattle.resolution.proofs.fold.step.Reads as step-reads
-use Rattle.resolution.proofs.keep.core_at.Reads as core-at-reads
+use Rattle.resolution.proofs.keep.core_of.Reads as core-of-reads
 use Rattle.resolution.proofs.keep.keeps.Reads as keeps-reads
 use Rattle.sheet.proofs.record.head_at.Reads as head-at-reads
 
 abbrev Inv-loop : tie.InvT-loop
 Inv-loop sheet work₀ space mask floor link last₀ at₀ end₀ half core₀ work last at end core =
     (Room work space × (Inside space end × (1 < space .n)))
-    × ((length work ≡ length work₀) × (FoldsOn (foldFrom (rulesOf Question.List mask)) space sheet work₀ last₀ at₀ end₀ work last at end × CoreAt space (region space work) 1 core))
+    × ((length work ≡ length work₀) × (FoldsOn (foldFrom (rulesOf Question.List mask)) space sheet work₀ last₀ at₀ end₀ work last at end × CoreIf space (region space work) core))
 
 abbrev μ-loop : tie.MeasureT-loop
 μ-loop sheet work₀ space mask floor link last₀ at₀ end₀ half core₀ work last at end core =
     space .n - last
 
--- src/fold.rt:102:28
-sub-core-at : tie.Need-sub-core-at Inv-loop μ-loop
-sub-core-at c =
-    omega (arith, (c .before .before .pre .0 .inside))
-
--- src/fold.rt:102:28
-part-core-at-start : tie.Need-part-core-at-start Inv-loop μ-loop
-part-core-at-start c =
-    search needs
-
--- src/fold.rt:102:28
-part-core-at-end : tie.Need-part-core-at-end Inv-loop μ-loop
-part-core-at-end c =
-    search needs
-
--- src/fold.rt:102:9
-core-at-requires : tie.Need-core-at-requires Inv-loop μ-loop
-core-at-requires c κs =
-    search needs
-
 -- src/fold.rt:103:5
 loop-holds : tie.Need-loop-holds Inv-loop μ-loop
 loop-holds c =
-    ((c .before .before .before .before .before .pre), (refl, ((λ v o g. g), core-second (c .before .before .before .before .before .args .space) (c .before .before .before .before .before .args .work .now) (c .core-at .ensures))))
+    ((c .before .before .pre), (refl, ((λ v o g. g), λ n. absurd (n refl))))
 
 -- src/fold.rt:105:13
 same-length : tie.Need-same-length Inv-loop μ-loop
@@ -70,85 +50,85 @@ head-at-requires : tie.Need-head-at-requires Inv-loop μ-loop
 head-at-requires c κs =
     search needs
 
--- src/fold.rt:110:30
-sub-keeps : tie.Need-sub-keeps Inv-loop μ-loop
-sub-keeps c =
+-- src/fold.rt:110:28
+sub-core-of : tie.Need-sub-core-of Inv-loop μ-loop
+sub-core-of c =
     omega (arith, (c .before .before .before .before .before .before .loop .inv .0 .0 .inside))
 
--- src/fold.rt:110:30
+-- src/fold.rt:110:28
+part-core-of-start : tie.Need-part-core-of-start Inv-loop μ-loop
+part-core-of-start c =
+    search needs
+
+-- src/fold.rt:110:28
+part-core-of-end : tie.Need-part-core-of-end Inv-loop μ-loop
+part-core-of-end c =
+    search needs
+
+-- src/fold.rt:110:13
+core-of-requires : tie.Need-core-of-requires Inv-loop μ-loop
+core-of-requires c κs =
+    search needs
+
+-- src/fold.rt:111:30
+sub-keeps : tie.Need-sub-keeps Inv-loop μ-loop
+sub-keeps c =
+    omega (arith, (c .before .before .before .before .before .before .before .before .before .loop .inv .0 .0 .inside))
+
+-- src/fold.rt:111:30
 part-keeps-start : tie.Need-part-keeps-start Inv-loop μ-loop
 part-keeps-start c =
     search needs
 
--- src/fold.rt:110:30
+-- src/fold.rt:111:30
 part-keeps-end : tie.Need-part-keeps-end Inv-loop μ-loop
 part-keeps-end c =
     search needs
 
--- src/fold.rt:110:17
+-- src/fold.rt:111:17
 keeps-requires : tie.Need-keeps-requires Inv-loop μ-loop
 keeps-requires c κs =
     search needs
 
--- src/fold.rt:111:23
+-- src/fold.rt:112:23
 step-requires : tie.Need-step-requires Inv-loop μ-loop
 step-requires c κs =
-    (c .before .before .before .before .before .before .before .before .before .before .before .loop .inv .0)
+    (c .before .before .before .before .before .before .before .before .before .before .before .before .before .before .loop .inv .0)
 
--- src/fold.rt:112:31
+-- src/fold.rt:113:31
 enum-known-e : tie.Need-enum-known-e Inv-loop μ-loop
 enum-known-e c =
     search needs
 
--- src/fold.rt:113:32
+-- src/fold.rt:114:32
 enum-told : tie.Need-enum-told Inv-loop μ-loop
 enum-told c =
     search needs
 
--- src/fold.rt:113:32
+-- src/fold.rt:114:32
 same-length-2 : tie.Need-same-length-2 Inv-loop μ-loop
 same-length-2 c =
-    (c .before .before .before .before .step .ensures .within .long) ∙ (c .before .before .before .before .before .before .before .before .before .before .before .before .before .before .before .before .loop .inv .1 .0)
+    (c .before .before .before .before .step .ensures .within .long) ∙ (c .before .before .before .before .before .before .before .before .before .before .before .before .before .before .before .before .before .before .before .loop .inv .1 .0)
 
--- src/fold.rt:113:32
+-- src/fold.rt:114:32
 returns-2 : tie.Need-returns-2 Inv-loop μ-loop
 returns-2 c =
-    (c .before .before .before .before .before .before .before .before .before .before .before .before .before .before .before .before .loop .inv .1 .1 .0) _ _ (folds-no (rulesOf Question.List _) _ _ (c .before .before .before .before .before .before .before .before .before .before .before .before .before .before .before .loop-test .taken) _ (c .before .before .before .before .before .before .before .before .before .before .before .before .head-at .ensures .0) (c .before .before .before .before .before .before .before .before .before .before .if2 .taken) (rw (c .enum-told .given .1) at (c .before .before .before .before .step .ensures)))
+    (c .before .before .before .before .before .before .before .before .before .before .before .before .before .before .before .before .before .before .before .loop .inv .1 .1 .0) _ _ (folds-no (rulesOf Question.List _) _ _ (c .before .before .before .before .before .before .before .before .before .before .before .before .before .before .before .before .before .before .loop-test .taken) _ (c .before .before .before .before .before .before .before .before .before .before .before .before .before .before .before .head-at .ensures .0) (c .before .before .before .before .before .before .before .before .before .before .before .before .before .if2 .taken) (rw (c .enum-told .given .1) at (c .before .before .before .before .step .ensures)))
 
--- src/fold.rt:114:34
+-- src/fold.rt:115:34
 enum-told-2 : tie.Need-enum-told-2 Inv-loop μ-loop
 enum-told-2 c =
     search needs
 
--- src/fold.rt:114:34
+-- src/fold.rt:115:34
 same-length-3 : tie.Need-same-length-3 Inv-loop μ-loop
 same-length-3 c =
-    (c .before .before .before .before .step .ensures .within .long) ∙ (c .before .before .before .before .before .before .before .before .before .before .before .before .before .before .before .before .loop .inv .1 .0)
+    (c .before .before .before .before .step .ensures .within .long) ∙ (c .before .before .before .before .before .before .before .before .before .before .before .before .before .before .before .before .before .before .before .loop .inv .1 .0)
 
--- src/fold.rt:114:34
+-- src/fold.rt:115:34
 returns-3 : tie.Need-returns-3 Inv-loop μ-loop
 returns-3 c =
-    (c .before .before .before .before .before .before .before .before .before .before .before .before .before .before .before .before .loop .inv .1 .1 .0) _ _ (folds-full (rulesOf Question.List _) _ _ (c .before .before .before .before .before .before .before .before .before .before .before .before .before .before .before .loop-test .taken) _ (c .before .before .before .before .before .before .before .before .before .before .before .before .head-at .ensures .0) (c .before .before .before .before .before .before .before .before .before .before .if2 .taken) (rw (c .enum-told2 .given .1) at (c .before .before .before .before .step .ensures)))
-
--- src/fold.rt:116:32
-sub-core-at-2 : tie.Need-sub-core-at-2 Inv-loop μ-loop
-sub-core-at-2 c =
-    omega (arith, (c .before .before .before .before .before .before .before .before .before .before .before .before .before .before .before .before .before .loop .inv .0 .0 .inside), (c .before .before .before .before .before .step .ensures .within .long))
-
--- src/fold.rt:116:32
-part-core-at-start-2 : tie.Need-part-core-at-start-2 Inv-loop μ-loop
-part-core-at-start-2 c =
-    omega (arith, (c .before .before .before .before .before .before .before .before .before .before .before .before .before .before .before .before .before .before .loop .inv .0 .0 .inside), (c .before .before .before .before .before .before .step .ensures .within .long))
-
--- src/fold.rt:116:32
-part-core-at-end-2 : tie.Need-part-core-at-end-2 Inv-loop μ-loop
-part-core-at-end-2 c =
-    search needs
-
--- src/fold.rt:116:17
-core-at-requires-2 : tie.Need-core-at-requires-2 Inv-loop μ-loop
-core-at-requires-2 c κs =
-    search needs
+    (c .before .before .before .before .before .before .before .before .before .before .before .before .before .before .before .before .before .before .before .loop .inv .1 .1 .0) _ _ (folds-full (rulesOf Question.List _) _ _ (c .before .before .before .before .before .before .before .before .before .before .before .before .before .before .before .before .before .before .loop-test .taken) _ (c .before .before .before .before .before .before .before .before .before .before .before .before .before .before .before .head-at .ensures .0) (c .before .before .before .before .before .before .before .before .before .before .before .before .before .if2 .taken) (rw (c .enum-told2 .given .1) at (c .before .before .before .before .step .ensures)))
 
 -- src/fold.rt:103:5
 loop-less : tie.Need-loop-less Inv-loop μ-loop
@@ -158,13 +138,13 @@ loop-less c =
 -- src/fold.rt:103:5
 loop-again : tie.Need-loop-again Inv-loop μ-loop
 loop-again c =
-    let m = rw (c .before .before .before .before .e .given .1) at (c .before .before .before .before .before .before .before .before .step .ensures) in (
+    let m = rw (c .before .e .given .1) at (c .before .before .before .before .before .step .ensures) in (
       (room-within (m .within) (c .before .before .before .before .before .before .before .before .before .before .before .before .before .before .before .before .before .before .before .before .loop .inv .0 .0), (m .inside, (c .before .before .before .before .before .before .before .before .before .before .before .before .before .before .before .before .before .before .before .before .loop .inv .0 .1 .1))),
       (
         m .within .long ∙ (c .before .before .before .before .before .before .before .before .before .before .before .before .before .before .before .before .before .before .before .before .loop .inv .1 .0),
         (
           (λ v o g. (c .before .before .before .before .before .before .before .before .before .before .before .before .before .before .before .before .before .before .before .before .loop .inv .1 .1 .0) v o (folds-on (rulesOf Question.List _) _ _ (c .before .before .before .before .before .before .before .before .before .before .before .before .before .before .before .before .before .before .before .loop-test .taken) _ (c .before .before .before .before .before .before .before .before .before .before .before .before .before .before .before .before .head-at .ensures .0) (c .before .before .before .before .before .before .before .before .before .before .before .before .before .before .if2 .taken) candidate-right o m g)),
-          core-second (c .before .before .before .before .before .before .before .before .before .before .before .before .before .before .before .before .before .before .before .before .before .before .before .before .before .before .args .space) _ (c .core-at2 .ensures),
+          λ n. absurd (n refl),
         ),
       ),
     )
@@ -177,12 +157,12 @@ loop-less-2 c =
 -- src/fold.rt:103:5
 loop-again-2 : tie.Need-loop-again-2 Inv-loop μ-loop
 loop-again-2 c = (
-  (c .before .before .before .before .before .before .before .before .before .before .loop .inv .0),
+  (c .before .before .before .before .before .before .before .before .before .before .before .before .before .loop .inv .0),
   (
-    (c .before .before .before .before .before .before .before .before .before .before .loop .inv .1 .0),
+    (c .before .before .before .before .before .before .before .before .before .before .before .before .before .loop .inv .1 .0),
     (
-      (λ v o g. (c .before .before .before .before .before .before .before .before .before .before .loop .inv .1 .1 .0) v o (folds-kept (rulesOf Question.List _) _ _ (c .before .before .before .before .before .before .before .before .before .loop-test .taken) _ (c .before .before .before .before .before .before .head-at .ensures .0) o (c .before .before .before .before .if2 .taken) (keeps-candidate (c .before .before .before .before .before .before .before .before .before .before .before .before .before .before .before .before .args .space) (c .before .before .before .before .before .before .before .before .before .before .loop .work) (c .before .before .before .before .before .before .before .before .before .before .loop .inv .0 .0) (c .before .before .before .before .before .before .before .before .before .before .loop .inv .0 .1 .0) (c .before .before .before .before .before .before .before .before .before .before .loop .inv .1 .1 .1) ((c .before .keeps .ensures) (unnot _ (c .if3 .left)))) g)),
-      (c .before .before .before .before .before .before .before .before .before .before .loop .inv .1 .1 .1),
+      (λ v o g. (c .before .before .before .before .before .before .before .before .before .before .before .before .before .loop .inv .1 .1 .0) v o (folds-kept (rulesOf Question.List _) _ _ (c .before .before .before .before .before .before .before .before .before .before .before .before .loop-test .taken) _ (c .before .before .before .before .before .before .before .before .before .head-at .ensures .0) o (c .before .before .before .before .before .before .before .if2 .taken) (keeps-candidate (c .before .before .before .before .before .before .before .before .before .before .before .before .before .before .before .before .args .space) (c .before .before .before .before .before .before .before .before .before .before .before .before .before .loop .work) (c .before .before .before .before .before .before .before .before .before .before .before .before .before .loop .inv .0 .0) (c .before .before .before .before .before .before .before .before .before .before .before .before .before .loop .inv .0 .1 .0) (core-second (c .before .before .before .before .before .before .before .before .before .before .before .before .before .before .before .before .args .space) (c .before .before .before .before .before .before .before .before .before .before .before .before .before .loop .work) (c .before .before .before .before .core-of .ensures) (c .before .before .before .before .before .before .before .before .before .before .before .before .before .loop .inv .1 .1 .1)) ((c .before .keeps .ensures) (unnot _ (c .if3 .left)))) g)),
+      (λ n. core-second (c .before .before .before .before .before .before .before .before .before .before .before .before .before .before .before .before .args .space) (c .before .before .before .before .before .before .before .before .before .before .before .before .before .loop .work) (c .before .before .before .before .core-of .ensures) (c .before .before .before .before .before .before .before .before .before .before .before .before .before .loop .inv .1 .1 .1)),
     ),
   ),
 )
@@ -218,14 +198,14 @@ fold-from-spec =
     (tie.spec
     Inv-loop
     μ-loop
-    sub-core-at
-    part-core-at-start
-    part-core-at-end
-    core-at-requires
     loop-holds
     same-length
     returns
     head-at-requires
+    sub-core-of
+    part-core-of-start
+    part-core-of-end
+    core-of-requires
     sub-keeps
     part-keeps-start
     part-keeps-end
@@ -238,10 +218,6 @@ fold-from-spec =
     enum-told-2
     same-length-3
     returns-3
-    sub-core-at-2
-    part-core-at-start-2
-    part-core-at-end-2
-    core-at-requires-2
     loop-less
     loop-again
     loop-less-2
