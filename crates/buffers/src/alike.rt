@@ -14,7 +14,8 @@ ghost use Rattle.buffers.specs.Writes.{side};
 ghost use Rattle.buffers.specs.Source.{SameChains, SameTypes, Apart};
 ghost use Rattle.buffers.specs.Records.{sameFigures, sameContent};
 use sheet::Head;
-use sheet::label::same_label;
+use sheet::label::label_at;
+use sheet::label::same;
 use sheet::label::same_name;
 use sheet::record::head_at;
 
@@ -29,13 +30,9 @@ fn same_zone(a: &[u8], n: usize, p: usize, b: &[u8], m: usize, q: usize) -> bool
     requires { ⌜ (n < 65536) × (m < 65536) ⌝ }
     ensures { λ r. ⌜ r ≡ sameBytes (labelAt (now (a .entry)) n (p % 65536) (p / 65536 % 256)) (labelAt (now (b .entry)) m (q % 65536) (q / 65536 % 256)) ⌝ }
 {
-    same_label(
-        a,
-        16 * n + p % 65536,
-        p / 65536 % 256,
-        b,
-        16 * m + q % 65536,
-        q / 65536 % 256,
+    same(
+        label_at(a, n, p % 65536, p / 65536 % 256),
+        label_at(b, m, q % 65536, q / 65536 % 256),
     )
 }
 
@@ -173,6 +170,27 @@ fn are_apart(a: &[u8], floor: usize, i: usize, b: &[u8], j: usize) -> bool
     y != 0
 }
 
+// Whether the chain that a link of a leads to is the one that a link of b leads to, by a look ahead first.
+fn same_parts(
+    a: &[u8],
+    n: usize,
+    floor: usize,
+    i: usize,
+    b: &[u8],
+    m: usize,
+    j: usize,
+    named: bool,
+) -> bool
+    requires { ⌜ ((n < 65536) × (m < 65536)) × (i < 65536) ⌝ }
+    ensures { λ e. ⌜ SameChains (now (a .entry)) n floor i (now (b .entry)) m j named e ⌝ }
+{
+    if are_apart(a, floor, i, b, j) {
+        false
+    } else {
+        same_fields(a, n, floor, i, b, m, j, named)
+    }
+}
+
 // Whether the type of record i of a is that of record j of b.
 pub fn same_type(a: &[u8], n: usize, i: usize, b: &[u8], m: usize, j: usize, named: bool) -> bool
     requires { ⌜ (n < 65536) × (m < 65536) ⌝ }
@@ -184,10 +202,7 @@ pub fn same_type(a: &[u8], n: usize, i: usize, b: &[u8], m: usize, j: usize, nam
         if g.first + h.first == 0 {
             return true;
         }
-        if are_apart(a, i, g.first, b, h.first) {
-            return false;
-        }
-        return same_fields(a, n, i, g.first, b, m, h.first, named);
+        return same_parts(a, n, i, g.first, b, m, h.first, named);
     }
     false
 }

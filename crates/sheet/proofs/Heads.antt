@@ -23,16 +23,16 @@ module _ (s : List ℕ) (i : ℕ) (plain : Plain s) where
   high : (j : ℕ) → word s j / 256 ≡ getD s (j + 1) 0
   high j = omega (arith, plain j)
 
-  quad0 : (j : ℕ) → quadAt s j % 256 ≡ getD s j 0
+  pub quad0 : (j : ℕ) → quadAt s j % 256 ≡ getD s j 0
   quad0 j = omega (arith, plain j)
 
-  quad1 : (j : ℕ) → quadAt s j / 256 % 256 ≡ getD s (j + 1) 0
+  pub quad1 : (j : ℕ) → quadAt s j / 256 % 256 ≡ getD s (j + 1) 0
   quad1 j = omega (arith, plain j, plain (j + 1))
 
-  quad2 : (j : ℕ) → quadAt s j / 65536 % 256 ≡ getD s (j + 2) 0
+  pub quad2 : (j : ℕ) → quadAt s j / 65536 % 256 ≡ getD s (j + 2) 0
   quad2 j = omega (arith, plain j, plain (j + 1), plain (j + 2))
 
-  quad3 : (j : ℕ) → quadAt s j / 16777216 ≡ getD s (j + 2 + 1) 0
+  pub quad3 : (j : ℕ) → quadAt s j / 16777216 ≡ getD s (j + 2 + 1) 0
   quad3 j = omega (arith, plain j, plain (j + 1), plain (j + 2))
 
   byte : (j : ℕ) → j < 16 → getD s (i + j) 0 ≡ getD (bytesOf (headFrom s i)) j 0

@@ -6,7 +6,9 @@ pub mod Reading
 pub mod Carrying
 pub mod Accepting
 pub mod Accepted
+pub mod Agreeing
 pub mod Bytewise
+pub mod Mixing
 pub mod Figures
 pub mod Repeating
 pub mod Lowest

@@ -14,6 +14,10 @@ word s i = getD s i 0 + 256 * getD s (i + 1) 0
 abbrev pub quadAt : List ℕ → ℕ → ℕ
 quadAt s i = word s i + 65536 * word s (i + 2)
 
+-- eight bytes, the lowest first
+abbrev pub eightAt : List ℕ → ℕ → ℕ
+eightAt s i = quadAt s i + 4294967296 * quadAt s (i + 4)
+
 -- the head that the sixteen bytes from i on hold
 abbrev pub headFrom : List ℕ → ℕ → Head
 headFrom s i =

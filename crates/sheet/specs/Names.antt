@@ -1,5 +1,5 @@
 -- Names: byte strings that are equal or not, and "Names in one Struct differ".
-use Prim.Native.Nat.{ℕ}
+use Prim.Native.Nat.{ℕ, _+_, _*_, _/_, _%_}
 use mathlib.Core.Bool.{Bool, true, false, cond, not, _&&_, _||_}
 use mathlib.Core.List.{List, [], _∷_}
 use lib.Dec.{eqb}
@@ -28,3 +28,15 @@ unfoldable pub namesDiffer : Fields → Bool
 namesDiffer end = true
 namesDiffer (field name nullable shape parts rest) =
     allOf (not (eqb (shape .kind) Kind.struct && repeats parts) ∷ namesDiffer parts ∷ namesDiffer rest ∷ [])
+
+-- a number of 32 bits that goes by the bytes of a name: its halves change places and bytes are added, four at once while there are four, before it is
+-- multiplied by an odd number, so that each byte moves the upper bits
+abbrev pub stir : ℕ → ℕ → ℕ
+stir k x = 1640531527 * (k / 65536 + k % 65536 * 65536 + x) % 4294967296
+
+unfoldable pub mixed : ℕ → List ℕ → ℕ
+mixed k [] = k
+mixed k (a ∷ []) = stir k a
+mixed k (a ∷ b ∷ []) = stir (stir k a) b
+mixed k (a ∷ b ∷ c ∷ []) = stir (stir (stir k a) b) c
+mixed k (a ∷ b ∷ c ∷ d ∷ bs) = mixed (stir k (a + 256 * b + 65536 * (c + 256 * d))) bs

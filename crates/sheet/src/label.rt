@@ -1,11 +1,15 @@
 // Labels: parts of a sheet, and whether two are the same bytes.
 ghost use mathlib.Core.Path.{_≡_};
+ghost use mathlib.Core.Bool.{false};
 ghost use Prim.Native.Nat.{_+_, _*_, _-_, _<_, _≤_};
 ghost use lib.ListN.{length, take, drop};
 ghost use Rattle.sheet.specs.Read.{labelAt};
-ghost use Rattle.sheet.specs.Names.{sameBytes};
+ghost use Rattle.sheet.specs.Names.{sameBytes, stir, mixed};
 ghost use Rattle.sheet.specs.Bounds.{Bounded, Filled};
 use crate::Head;
+use crate::record::eight_at;
+use crate::record::quad_at;
+use crate::record::wide;
 
 // The label of len bytes at an offset, as a part of the sheet: what lies inside, where the sheet ends before it does.
 pub fn label_at(s: &[u8], n: usize, at: usize, len: usize) -> &[u8]
@@ -23,13 +27,11 @@ fn least(a: usize, b: usize) -> usize
     if a < b { a } else { b }
 }
 
-// Whether two slices are the same bytes.
-fn same(a: &[u8], b: &[u8]) -> bool
+// Whether two slices of one length are the same bytes, one by one.
+fn same_few(a: &[u8], b: &[u8]) -> bool
+    requires { ⌜ length (now a) ≡ length (now b) ⌝ }
     ensures { λ r. ⌜ r ≡ sameBytes (now (a .entry)) (now (b .entry)) ⌝ }
 {
-    if a.len() != b.len() {
-        return false;
-    }
     let mut i = 0;
     while i < a.len() {
         if a[i] != b[i] {
@@ -38,6 +40,43 @@ fn same(a: &[u8], b: &[u8]) -> bool
         i += 1;
     }
     true
+}
+
+// The same of less than eight bytes. The last four may be compared with some of the first.
+fn same_short(a: &[u8], b: &[u8]) -> bool
+    requires { ⌜ (length (now a) ≡ length (now b)) × (length (now a) < 8) ⌝ }
+    ensures { λ r. ⌜ r ≡ sameBytes (now (a .entry)) (now (b .entry)) ⌝ }
+{
+    let n = a.len();
+    if n < 4 {
+        return same_few(a, b);
+    }
+    if quad_at(a, 0) != quad_at(b, 0) {
+        return false;
+    }
+    quad_at(a, n - 4) == quad_at(b, n - 4)
+}
+
+// Whether two slices are the same bytes. Eight are compared at a time, the last eight at the end.
+pub fn same(a: &[u8], b: &[u8]) -> bool
+    ensures { λ r. ⌜ r ≡ sameBytes (now (a .entry)) (now (b .entry)) ⌝ }
+{
+    let n = a.len();
+    if n != b.len() {
+        return false;
+    }
+    if n < 8 {
+        return same_short(a, b);
+    }
+    let last = n - 8;
+    let mut i = 0;
+    while i < last {
+        if eight_at(a, i) != eight_at(b, i) {
+            return false;
+        }
+        i += 8;
+    }
+    eight_at(a, last) == eight_at(b, last)
 }
 
 // Fills a buffer from the front with the m bytes of s from a on, as far as s has them, and says how many they were.
@@ -75,7 +114,30 @@ fn same_held(s: &[u8], a: usize, m: usize, t: &[u8], b: usize, n: usize) -> bool
     same(&x[..i], &y[..j])
 }
 
-// Whether the m bytes of s from a on are the n bytes of t from b on. Most labels differ in length or in the last two bytes, and are told apart by these.
+// Whether two labels of i bytes have the same bytes at the end and at the front. Most labels that differ are told apart by these.
+fn look_alike(s: &[u8], a: usize, t: &[u8], b: usize, i: usize) -> bool
+    requires { ⌜ (0 < i) × ((a + i ≤ length (now s)) × (b + i ≤ length (now t))) ⌝ }
+    ensures { λ r. ⌜ (r ≡ false → false ≡ sameBytes (take i (drop a (now (s .entry)))) (take i (drop b (now (t .entry))))) ⌝ }
+{
+    if 8 <= i {
+        if eight_at(s, a + i - 8) != eight_at(t, b + i - 8) {
+            return false;
+        }
+        return eight_at(s, a) == eight_at(t, b);
+    }
+    if 4 <= i {
+        if quad_at(s, a + i - 4) != quad_at(t, b + i - 4) {
+            return false;
+        }
+        return quad_at(s, a) == quad_at(t, b);
+    }
+    if s[a + i - 1] != t[b + i - 1] {
+        return false;
+    }
+    s[a] == t[b]
+}
+
+// Whether the m bytes of s from a on are the n bytes of t from b on.
 pub fn same_label(s: &[u8], a: usize, m: usize, t: &[u8], b: usize, n: usize) -> bool
     requires { ⌜ (m ≤ 255) × (n ≤ 255) ⌝ }
     ensures { λ r. ⌜ r ≡ sameBytes (take m (drop a (now (s .entry)))) (take n (drop b (now (t .entry)))) ⌝ }
@@ -87,16 +149,38 @@ pub fn same_label(s: &[u8], a: usize, m: usize, t: &[u8], b: usize, n: usize) ->
     if i == 0 {
         return true;
     }
-    let k = i - 1;
-    if s[a + k] != t[b + k] {
-        return false;
+    if look_alike(s, a, t, b, i) {
+        same_held(s, a, m, t, b, n)
+    } else {
+        false
     }
-    if 0 < k {
-        if s[a + k - 1] != t[b + k - 1] {
-            return false;
+}
+
+// Four bytes, or one, stirred into a number of 32 bits.
+fn stirred(k: usize, x: usize) -> usize
+    requires { ⌜ (k < 4294967296) × (x < 4294967296) ⌝ }
+    ensures { λ r. ⌜ (r ≡ stir k x) × (r < 4294967296) ⌝ }
+{
+    1640531527 * (k / 65536 + k % 65536 * 65536 + x) % 4294967296
+}
+
+// A number of 32 bits that goes by the bytes of a name, four at a time.
+pub fn mix(name: &[u8]) -> usize
+    ensures { λ r. ⌜ (r ≡ mixed 0 (now (name .entry))) × (r < 4294967296) ⌝ }
+{
+    let n = name.len();
+    let mut k = 0;
+    let mut i = 0;
+    while i < n {
+        if 4 <= n - i {
+            k = stirred(k, quad_at(name, i));
+            i += 4;
+            continue;
         }
+        k = stirred(k, wide(name[i]));
+        i += 1;
     }
-    same_held(s, a, m, t, b, n)
+    k
 }
 
 // Whether the name of record head h of a sheet of n records is that of head g of one of m.

@@ -2,11 +2,11 @@
 ghost use mathlib.Core.Path.{_≡_};
 ghost use Prim.Native.Nat.{_+_, _<_, _≤_};
 ghost use lib.ListN.{length};
-ghost use Rattle.sheet.specs.Head.{word, quadAt, headFrom, headAt};
+ghost use Rattle.sheet.specs.Head.{word, quadAt, eightAt, headFrom, headAt};
 ghost use Rattle.sheet.specs.Bounds.{Bounded};
 use crate::Head;
 
-fn wide(x: u8) -> usize
+pub(crate) fn wide(x: u8) -> usize
     ensures { λ r. ⌜ (r ≡ x) × (r < 256) ⌝ }
 {
     x as usize
@@ -21,11 +21,19 @@ pub fn word_at(s: &[u8], i: usize) -> usize
 }
 
 // Four bytes, the lowest first.
-fn quad_at(s: &[u8], i: usize) -> usize
+pub(crate) fn quad_at(s: &[u8], i: usize) -> usize
     requires { ⌜ i + 3 < length (now s) ⌝ }
     ensures { λ r. ⌜ (r ≡ quadAt (now (s .entry)) i) × (r < 4294967296) ⌝ }
 {
     word_at(s, i) + 65536 * word_at(s, i + 2)
+}
+
+// Eight bytes, the lowest first.
+pub(crate) fn eight_at(s: &[u8], i: usize) -> usize
+    requires { ⌜ i + 7 < length (now s) ⌝ }
+    ensures { λ r. ⌜ r ≡ eightAt (now (s .entry)) i ⌝ }
+{
+    quad_at(s, i) + 4294967296 * quad_at(s, i + 4)
 }
 
 // The head that the sixteen bytes from i on hold.
