@@ -2,11 +2,11 @@
 use mathlib.Core.Path.{_≡_, refl, ap, ap₂, sym, subst, _∙_}
 use mathlib.Core.Bool.{Bool, true, false, _||_}
 use mathlib.Core.Logic.{inl, inr}
-use mathlib.Core.List.{List}
+use mathlib.Core.List.{List, [], _∷_}
 use mathlib.Core.Option.{Option, none, some, Option·none-ne-some}
-use Prim.Native.Nat.{ℕ, suc, _+_, _*_, _<_, _≤_}
+use Prim.Native.Nat.{ℕ, zero, suc, _+_, _*_, _<_, _≤_}
 use native.Mathlib.Omega.{arith}
-use lib.ListN.{length, getD, drop, length-take}
+use lib.ListN.{length, getD, drop, set, replicate, length-take}
 use lib.Seq.{ext-getD}
 use lib.Dec.{eqb, eqb·suc-suc}
 use borrow.Author.Tests.{eq-eqb, ne-eqb}
@@ -26,7 +26,7 @@ use Rattle.buffers.specs.Region.{Held}
 use Rattle.buffers.specs.Typed.{Chain}
 use Rattle.buffers.specs.Feeds.{EndOf}
 use Rattle.buffers.specs.Source.{Source}
-use Rattle.buffers.specs.Naming.{Picks, Finds, Tried, Guess}
+use Rattle.buffers.specs.Naming.{Picks, Finds, Tried, Guess, Guides}
 use Rattle.buffers.specs.declared.Space.{Space}
 use Rattle.buffers.proofs.Sources.{source-none, source-lower, link-inside, read-name}
 use Rattle.buffers.proofs.Chained.{held-next}
@@ -280,20 +280,45 @@ guess-next space s link h e p t f q = go (f p .fields) (f p .chain) (f p .ends)
           ends = end-next label nullable shape parts rest t k;
         }
 
+-- a record that is tried, and has the name
+pub tried-here : (n : ℕ) (t want : List ℕ) (j : ℕ) (h : Head) → h ≡ headAt t j → 0 < j → true ≡ sameBytes want (labelAt t n (h .name) (h .nlen))
+    → (space : Space) (rf : Fields) → n ≡ space .n → Guess space t j rf → Picks space t want rf j
+tried-here n t want j h e p b space rf en f = go (f p .fields) (f p .chain) (f p .ends)
+  where
+    go : (u : Fields) → Chain space t j u → EndOf u rf → Picks space t want rf j
+    go end c k = absurd (omega (arith, c .held .source .leads .is))
+    go (field label nullable shape parts rest) c k = picks-here n t want j h e p b space en rf c k
+
 -- the returns of the search that tries a record first
 module _ (n : ℕ) (t want : List ℕ) (r j : ℕ) (h : Head) where
   abbrev pub Guesses : ℕ → Type 0
   Guesses found = (space : Space) (rf : Fields) → n ≡ space .n → h ≡ headAt t j → Chain space t r rf → Guess space t j rf → Picks space t want rf found
 
   pub guess-here : 0 < j → true ≡ sameBytes want (labelAt t n (h .name) (h .nlen)) → Guesses j
-  guess-here p b space rf en e y f = go (f p .fields) (f p .chain) (f p .ends)
-    where
-      go : (u : Fields) → Chain space t j u → EndOf u rf → Picks space t want rf j
-      go end c k = absurd (omega (arith, c .held .source .leads .is))
-      go (field label nullable shape parts rest) c k = picks-here n t want j h e p b space en rf c k
+  guess-here p b space rf en e y f = tried-here n t want j h e p b space rf en f
 
   pub guess-found : (found : ℕ) → ((space : Space) → n ≡ space .n → Finds space t want 0 r found) → Guesses found
   guess-found found f space rf en e y k = f space en _ _ _ rf (chain-held y)
+
+-- no record, and the lists of an index that has none
+pub guess-none : (space : Space) (s : List ℕ) (t : Fields) → Guess space s 0 t
+guess-none space s t p = absurd (omega arith)
+
+zeros : (m k : ℕ) → _≡_ {A = ℕ} (getD (replicate m 0) k 0) 0
+zeros zero k = refl
+zeros (suc m) zero = refl
+zeros (suc m) (suc k) = zeros m k
+
+pub guides-none : (space : Space) (s : List ℕ) (t : Fields) (m : ℕ) → Guides space s t (replicate m 0)
+guides-none space s t m k = subst (λ (j : ℕ). Guess space s j t) (sym (zeros m k)) (guess-none space s t)
+
+-- a record is put into a list
+pub guides-set : (space : Space) (s : List ℕ) (t : Fields) (ks : List ℕ) (i j : ℕ) → Guides space s t ks → Guess space s j t → Guides space s t (set ks i j)
+guides-set space s t [] i j f g k = f k
+guides-set space s t (x ∷ ks) zero j f g zero = g
+guides-set space s t (x ∷ ks) zero j f g (suc k) = f (suc k)
+guides-set space s t (x ∷ ks) (suc i) j f g zero = f zero
+guides-set space s t (x ∷ ks) (suc i) j f g (suc k) = guides-set space s t ks i j (λ m. f (suc m)) g k
 
 -- the test for all names, where record j of the right is tried first
 abbrev pub AsksNames : Space → List ℕ → List ℕ → ℕ → ℕ → ℕ → ℕ → Bool → Type 0
@@ -313,6 +338,11 @@ module _ (n : ℕ) (s t : List ℕ) (floor l r low i j : ℕ) (q : Named n s t f
       go : AsksNames space s t low i r j true
       go a o up end rf x y k = refl
       go a o up (field name nullable shape parts rest) rf x y k = absurd (omega (arith, x .source .leads .is, x .source .leads .above))
+
+  -- another test decides the rest
+  pub names-rest : {b : Bool} → ((space : Space) → n ≡ space .n → Asks fieldsHaveSameNames space s t low i r b)
+      → (space : Space) → n ≡ space .n → Asks fieldsHaveSameNames space s t floor l r b
+  names-rest {b} f space en = q space en b (λ a o up lf rf x y k. f space en a o up lf rf x y)
 
   module _ (past : low < i) where
     pub names-past : n ≤ i → (space : Space) → n ≡ space .n → Asks fieldsHaveSameNames space s t floor l r false

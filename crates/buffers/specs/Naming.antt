@@ -1,11 +1,12 @@
 -- The search for a name in a chain, and the rows that it feeds.
 use mathlib.Core.Path.{_≡_}
-use Prim.Native.Nat.{ℕ, _<_}
+use Prim.Native.Nat.{ℕ, _/_, _<_}
 use mathlib.Core.Bool.{Bool, false, _||_}
 use mathlib.Core.List.{List}
+use lib.ListN.{getD}
 use Rattle.sheet.specs.Types.{Shape, Fields, field}
 use Rattle.sheet.specs.Head.{nullableIn}
-use Rattle.sheet.specs.Names.{hasName}
+use Rattle.sheet.specs.Names.{hasName, mixed}
 use Rattle.sheet.specs.declared.Head.{Head}
 use Rattle.buffers.specs.Region.{Held}
 use Rattle.buffers.specs.Typed.{Chain}
@@ -40,6 +41,19 @@ pub record Tried (space : Space) (s : List ℕ) (link : ℕ) (t : Fields) : Type
 -- a link that is 0, or leads to a record of a chain
 abbrev pub Guess : Space → List ℕ → ℕ → Fields → Type 0
 Guess space s link t = 0 < link → Tried space s link t
+
+-- an index of a chain by its names has a row for each of 1,024 values of the upper bits of a number that goes by their bytes
+abbrev pub rowFor : List ℕ → ℕ
+rowFor name = mixed 0 name / 4194304
+
+-- each number of a list is 0 or leads to a record of a chain
+abbrev pub Guides : Space → List ℕ → Fields → List ℕ → Type 0
+Guides space s t ks = (k : ℕ) → Guess space s (getD ks k 0) t
+
+-- the rows of an index lead to records of whatever chain stands at a link
+abbrev pub Indexed : ℕ → List ℕ → ℕ → List ℕ → List ℕ → Type 0
+Indexed n s link heads olds =
+    (space : Space) (t : Fields) → n ≡ space .n → Chain space s link t → Guides space s t heads × Guides space s t olds
 
 -- the row of a field whose nullability is that of two heads
 abbrev pub rowOf : ℕ → Head → Head → ℕ → Row

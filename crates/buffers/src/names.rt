@@ -1,9 +1,9 @@
 // Which fields of the right feed those of the left.
 ghost use mathlib.Core.Path.{_≡_};
-ghost use mathlib.Core.Bool.{not};
+ghost use mathlib.Core.Bool.{not, _&&_};
 ghost use Prim.Native.Nat.{ℕ, _<_, _≤_};
 ghost use lib.ListN.{length};
-ghost use lib.Dec.{eqb};
+ghost use lib.Dec.{eqb, ltb};
 ghost use Rattle.sheet.specs.Types.{Fields, arity};
 ghost use Rattle.sheet.specs.Head.{headAt};
 ghost use Rattle.sheet.specs.Read.{labelAt};
@@ -15,7 +15,7 @@ ghost use Rattle.buffers.specs.Region.{Held};
 ghost use Rattle.buffers.specs.Feeds.{RowIs};
 ghost use Rattle.buffers.specs.Typed.{Chain};
 ghost use Rattle.buffers.specs.declared.Space.{Space};
-ghost use Rattle.buffers.specs.Naming.{Finds, Picks, Guess, rowOf};
+ghost use Rattle.buffers.specs.Naming.{Finds, Picks, Guess, Guides, Indexed, rowFor, rowOf};
 use crate::Feed;
 use crate::Row;
 use crate::Space;
@@ -24,6 +24,7 @@ use crate::write::look;
 use kinds::tests::either;
 use sheet::Head;
 use sheet::label::label_at;
+use sheet::label::mix;
 use sheet::label::same_label;
 use sheet::record::head_at;
 
@@ -56,6 +57,18 @@ fn find(t: &[u8], n: usize, want: &[u8], link: usize) -> usize
     0
 }
 
+// Whether j is a record, whose head is h, and has a name.
+fn is_field_named(t: &[u8], n: usize, j: usize, h: Head, want: &[u8]) -> bool
+    requires { ⌜ ((n < 65536) × Bounded h) × (length (now want) ≤ 255) ⌝ }
+    ensures { λ b. ⌜ b ≡ (ltb 0 j && sameBytes (now (want .entry)) (labelAt (now (t .entry)) n (h .name) (h .nlen))) ⌝ }
+{
+    if 0 < j {
+        is_named(t, n, h, want)
+    } else {
+        false
+    }
+}
+
 // A field of the chain at r that has a name; 0 where there is none. Record j of that chain, whose head is h, is tried first; 0 stands for no record.
 fn find_from(t: &[u8], n: usize, want: &[u8], r: usize, j: usize, h: Head) -> usize
     requires { ⌜ ((n ≤ 1024) × Bounded h) × (length (now want) ≤ 255) ⌝ }
@@ -69,7 +82,148 @@ fn find_from(t: &[u8], n: usize, want: &[u8], r: usize, j: usize, h: Head) -> us
     find(t, n, want, r)
 }
 
-// Whether each name of the chain at a link of s is one of the chain at a link of t. Names mostly stand in one order, so the field at the same place is tried first.
+// The row of an index that a name belongs to.
+fn row_at(name: &[u8]) -> usize
+    ensures { λ k. ⌜ (k ≡ rowFor (now (name .entry))) × (k < 1024) ⌝ }
+{
+    mix(name) / 4194304
+}
+
+fn wide(x: u16) -> usize
+    ensures { λ r. ⌜ r ≡ x ⌝ }
+{
+    x as usize
+}
+
+// Puts the fields of the chain at a link into an index: the last record of each row, and for each record the one before it in its row.
+fn index(t: &[u8], n: usize, link: usize, heads: &mut [u16; 1024], olds: &mut [u16; 1024])
+    requires { ⌜ (n ≤ 1024) × Indexed n (now t) link (now heads) (now olds) ⌝ }
+    ensures { λ u. ⌜ Indexed n (now (t .entry)) link (now (heads .exit)) (now (olds .exit)) ⌝ }
+{
+    let mut floor = 0;
+    let mut j = link;
+    while floor < j {
+        if n <= j {
+            return;
+        }
+        let h = head_at(t, j);
+        let k = row_at(label_at(t, n, h.name, h.nlen));
+        let old = heads[k];
+        olds[j] = old;
+        heads[k] = j as u16;
+        floor = j;
+        j = h.next;
+    }
+}
+
+// A record that has a name, of a row of an index that begins at `from`; 0 where none is found.
+fn find_in_row(t: &[u8], n: usize, want: &[u8], from: usize, olds: &[u16; 1024]) -> usize
+    requires { ⌜ (n ≤ 1024) × (length (now want) ≤ 255) ⌝ }
+    ensures { λ j. ⌜ ((space : Space) (rf : Fields) → n ≡ space .n → Guess space (now (t .entry)) from rf → Guides space (now (t .entry)) rf (now (olds .entry)) → 0 < j → Picks space (now (t .entry)) (now (want .entry)) rf j) ⌝ }
+{
+    let mut low = n;
+    let mut j = from;
+    while 0 < j {
+        if low <= j {
+            return 0;
+        }
+        let h = head_at(t, j);
+        if is_named(t, n, h, want) {
+            return j;
+        }
+        low = j;
+        j = wide(olds[j]);
+    }
+    0
+}
+
+// A field of the chain at r that has a name; 0 where there is none. An index says which are tried first.
+fn look_up(
+    t: &[u8],
+    n: usize,
+    want: &[u8],
+    r: usize,
+    heads: &[u16; 1024],
+    olds: &[u16; 1024],
+) -> usize
+    requires { ⌜ ((n ≤ 1024) × (length (now want) ≤ 255)) × Indexed n (now t) r (now heads) (now olds) ⌝ }
+    ensures { λ f. ⌜ ((space : Space) (rf : Fields) → n ≡ space .n → Chain space (now (t .entry)) r rf → Picks space (now (t .entry)) (now (want .entry)) rf f) ⌝ }
+{
+    let j = find_in_row(t, n, want, wide(heads[row_at(want)]), olds);
+    if 0 < j {
+        return j;
+    }
+    find(t, n, want, r)
+}
+
+// Whether each name of the chain at a link of s is one of the chain at a link of t, of which there is an index.
+fn are_listed(
+    s: &[u8],
+    t: &[u8],
+    n: usize,
+    floor: usize,
+    l: usize,
+    r: usize,
+    heads: &[u16; 1024],
+    olds: &[u16; 1024],
+) -> bool
+    requires { ⌜ (n ≤ 1024) × Indexed n (now t) r (now heads) (now olds) ⌝ }
+    ensures { λ b. ⌜ ((space : Space) → n ≡ space .n → (a o up : ℕ) (lf rf : Fields) → Held space (now (s .entry)) floor l a o up lf → Chain space (now (t .entry)) r rf → b ≡ fieldsHaveSameNames lf rf) ⌝ }
+{
+    let mut low = floor;
+    let mut i = l;
+    while low < i {
+        if n <= i {
+            return false;
+        }
+        let g = head_at(s, i);
+        if look_up(t, n, label_at(s, n, g.name, g.nlen), r, heads, olds) == 0 {
+            return false;
+        }
+        low = i;
+        i = g.next;
+    }
+    true
+}
+
+// The same without an index at hand.
+fn are_indexed(s: &[u8], t: &[u8], n: usize, floor: usize, l: usize, r: usize) -> bool
+    requires { ⌜ n ≤ 1024 ⌝ }
+    ensures { λ b. ⌜ ((space : Space) → n ≡ space .n → (a o up : ℕ) (lf rf : Fields) → Held space (now (s .entry)) floor l a o up lf → Chain space (now (t .entry)) r rf → b ≡ fieldsHaveSameNames lf rf) ⌝ }
+{
+    let mut heads = [0u16; 1024];
+    let mut olds = [0u16; 1024];
+    index(t, n, r, &mut heads, &mut olds);
+    are_listed(s, t, n, floor, l, r, &heads, &olds)
+}
+
+// The same by a search for each name. An index is made where there are many.
+fn are_searched(s: &[u8], t: &[u8], n: usize, floor: usize, l: usize, r: usize) -> bool
+    requires { ⌜ n ≤ 1024 ⌝ }
+    ensures { λ b. ⌜ ((space : Space) → n ≡ space .n → (a o up : ℕ) (lf rf : Fields) → Held space (now (s .entry)) floor l a o up lf → Chain space (now (t .entry)) r rf → b ≡ fieldsHaveSameNames lf rf) ⌝ }
+{
+    let mut low = floor;
+    let mut i = l;
+    let mut k = 0usize;
+    while low < i {
+        if n <= i {
+            return false;
+        }
+        if k == 4 {
+            return are_indexed(s, t, n, low, i, r);
+        }
+        let g = head_at(s, i);
+        if find(t, n, label_at(s, n, g.name, g.nlen), r) == 0 {
+            return false;
+        }
+        low = i;
+        i = g.next;
+        k += 1;
+    }
+    true
+}
+
+// The same. Names mostly stand in one order, so the field at the same place is tried first, until one has another name.
 fn are_among(s: &[u8], t: &[u8], n: usize, floor: usize, l: usize, r: usize) -> bool
     requires { ⌜ n ≤ 1024 ⌝ }
     ensures { λ b. ⌜ ((space : Space) → n ≡ space .n → (a o up : ℕ) (lf rf : Fields) → Held space (now (s .entry)) floor l a o up lf → Chain space (now (t .entry)) r rf → b ≡ fieldsHaveSameNames lf rf) ⌝ }
@@ -83,14 +237,12 @@ fn are_among(s: &[u8], t: &[u8], n: usize, floor: usize, l: usize, r: usize) -> 
         }
         let g = head_at(s, i);
         let h = head_at(t, j);
-        if find_from(t, n, label_at(s, n, g.name, g.nlen), r, j, h) == 0 {
-            return false;
+        if !is_field_named(t, n, j, h, label_at(s, n, g.name, g.nlen)) {
+            return are_searched(s, t, n, low, i, r);
         }
         low = i;
         i = g.next;
-        if 0 < j {
-            j = h.next;
-        }
+        j = h.next;
     }
     true
 }
