@@ -29,6 +29,7 @@ use Rattle.coercion.proofs.Sameness.{equal-same, equal-self}
 use Rattle.buffers.specs.Goal.{typeOf}
 use Rattle.buffers.specs.Region.{Room, region, Held, Inside}
 use Rattle.buffers.specs.Plain.{rulesOf, plainRules}
+use Rattle.buffers.specs.Source.{SameTypes}
 use Rattle.buffers.specs.Steps.{Reads, stepOf}
 use Rattle.buffers.specs.Typed.{Typed}
 use Rattle.buffers.specs.declared.Question.the-variants as Question
@@ -42,6 +43,7 @@ use Rattle.buffers.proofs.Fielding.{typed-reads}
 use Rattle.wrappers.specs.Ways.{isWrapper}
 use Rattle.wrappers.proofs.Cores.{missing, wrapper-is, two-parts}
 use Rattle.wrappers.proofs.Values.{Two, typed-two, value-of}
+use Rattle.merge.proofs.Merging.{typed-same}
 use Rattle.merge.proofs.Orders.{ask-turns, plain-turns}
 use Rattle.merge.proofs.Rewrapping.{end-is}
 use Rattle.resolution.specs.Reached.{Candidate}
@@ -113,10 +115,10 @@ module _ (space : Space) (w : List ℕ) where
   core-second {k} {l} f a = subst (λ (u : List ℕ). CoreAt space u 1 l) second-half (f (subst (λ (u : List ℕ). CoreIf space u k) (sym second-half) a))
 
   pub keeps-candidate : {A : DataType → DataType → Option DataType} {s : List ℕ} {link k : ℕ} {d : Spot} → Room w space → Inside space d → CoreAt space (region space w) 1 k
-      → ((space′ : Space) → CoreAt space′ second 1 k → (x c : DataType) → Typed space′ s link x → Typed space′ second 1 c → A x c ≡ some c)
+      → (CoreAt space second 1 k → (x c : DataType) → Typed space s link x → Typed space second 1 c → A x c ≡ some c)
       → (x c : DataType) → Typed space s link x → Candidate space w d c → A x c ≡ some c
   keeps-candidate {k = k} {d} room inside at f x c a b =
-      f space (subst (λ (u : List ℕ). CoreAt space u 1 k) (sym second-half) at) x c a
+      f (subst (λ (u : List ℕ). CoreAt space u 1 k) (sym second-half) at) x c a
       (subst (λ (u : List ℕ). Typed space u 1 c) (sym second-half) (candidate-stands space w d c room inside b))
 
 -- a head that tells its type whole
@@ -187,6 +189,12 @@ module _ (mask : ℕ) where
 
   same-is : (l r : DataType) → l ≡ r → coercion rules l r ≡ some l
   same-is l r e = coercion-asks rules l r ∙ rw (ap (λ (t : DataType). equal l t) (sym e) ∙ equal-self l) refl
+
+  -- a type that is the candidate itself
+  pub keeps-same : {space : Space} {s u : List ℕ} {link : ℕ} {e : Bool} → SameTypes s (space .n) link u (space .n) 1 true e → e ≡ true → (t c : DataType) → Typed space s link t
+      → Typed space u 1 c → coercion rules t c ≡ some c
+  keeps-same f z t c a d =
+      let q = equal-same t c (sym (typed-same true f a d) ∙ z) in same-is t c q ∙ ap (λ (y : DataType). some y) q
 
   module _ (x y : Head) where
     bares-same : {b : Bool} → b ≡ hasFigures x (figuresAt y) (y .quad) → b ≡ true → (l r : DataType) → Bare x l → Bare y r → l ≡ r

@@ -116,7 +116,7 @@ fn fold_from(
         let next = h.next;
         if h.kind != 1 {
             core = core_of(&work[half..], space, core);
-            if !keeps(sheet, &work[half..], mask, at, core) {
+            if !keeps(sheet, &work[half..], space, mask, at, core) {
                 match step(sheet, work, space, Question::List, mask, at, end) {
                     Out::Done(e) => end = e,
                     Out::No => return Out::No,

@@ -2,6 +2,7 @@
 ghost use mathlib.Core.Path.{_≡_};
 ghost use mathlib.Core.Bool.{true, cond};
 ghost use mathlib.Core.Option.{some};
+ghost use Prim.Native.Nat.{_≤_};
 ghost use Rattle.coercion.specs.Data.{DataType};
 ghost use Rattle.coercion.specs.Answers.{coercion};
 ghost use Rattle.buffers.specs.Plain.{rulesOf};
@@ -11,6 +12,7 @@ ghost use Rattle.resolution.specs.Keeps.{CoreAt, CoreIf, Bare, figuresAt
 use buffers::Question;
 use buffers::Space;
 use buffers::Step;
+use buffers::alike::same_type;
 use buffers::plain::plain;
 use coercion::Figures;
 use kinds::tests::both;
@@ -109,10 +111,21 @@ fn stays_right(mask: u64, x: Head, y: Head) -> bool
 
 // Whether the candidate at record 1 of the second half, whose core is at a record, stays as it is under the type at a link of the sheet. Below a wrapper
 // the core goes left, and a Dictionary of Utf8View gives way to Utf8View.
-pub(crate) fn keeps(sheet: &[u8], second: &[u8], mask: u64, link: usize, core: usize) -> bool
-    ensures { λ b. ⌜ (b ≡ true → (space : Space) → CoreAt space (now (second .entry)) 1 core → (x c : DataType) → Typed space (now (sheet .entry)) link x → Typed space (now (second .entry)) 1 c → coercion (rulesOf Question.List mask) x c ≡ some c) ⌝ }
+pub(crate) fn keeps(
+    sheet: &[u8],
+    second: &[u8],
+    space: Space,
+    mask: u64,
+    link: usize,
+    core: usize,
+) -> bool
+    requires { ⌜ space .n ≤ 1024 ⌝ }
+    ensures { λ b. ⌜ (b ≡ true → CoreAt space (now (second .entry)) 1 core → (x c : DataType) → Typed space (now (sheet .entry)) link x → Typed space (now (second .entry)) 1 c → coercion (rulesOf Question.List mask) x c ≡ some c) ⌝ }
 {
     let x = head_at(sheet, link);
+    if 32 <= x.kind {
+        return same_type(sheet, space.n, link, second, space.n, 1, true);
+    }
     let v = head_at(second, core);
     if !both(is_bare(x), is_bare(v)) {
         return false;

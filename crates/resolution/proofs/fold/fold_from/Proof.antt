@@ -88,7 +88,7 @@ part-keeps-end c =
 -- src/fold.rt:111:17
 keeps-requires : tie.Need-keeps-requires Inv-loop μ-loop
 keeps-requires c κs =
-    search needs
+    (c .before .before .before .before .before .before .before .before .before .before .before .loop .inv .0 .0 .few)
 
 -- src/fold.rt:112:23
 step-requires : tie.Need-step-requires Inv-loop μ-loop
