@@ -6,7 +6,7 @@ use Prim.Native.Nat.{ℕ, zero, suc, _+_, _*_, _/_, _%_, _<_, _≤_}
 use native.Mathlib.Omega.{arith}
 use lib.ListN.{length, getD}
 use borrow.Author.Tests.{lt-ltb}
-use Rattle.sheet.specs.Head.{word, quadAt, headFrom, headAt, blank, bytesOf}
+use Rattle.sheet.specs.Head.{word, quadAt, headFrom, byQuads, headAt, blank, bytesOf}
 use Rattle.sheet.specs.Holds.{Span, Plain}
 use Rattle.sheet.specs.declared.Head.{Head}
 use Rattle.sheet.proofs.Spans.{at-eq, at-span, span-at, span-inside}
@@ -34,6 +34,33 @@ module _ (s : List ℕ) (i : ℕ) (plain : Plain s) where
 
   pub quad3 : (j : ℕ) → quadAt s j / 16777216 ≡ getD s (j + 2 + 1) 0
   quad3 j = omega (arith, plain j, plain (j + 1), plain (j + 2))
+
+  low16 : (j : ℕ) → quadAt s j % 65536 ≡ word s j
+  low16 j = omega (arith, plain j, plain (j + 1))
+
+  high16 : (j : ℕ) → quadAt s j / 65536 ≡ word s (j + 2)
+  high16 j = omega (arith, plain j, plain (j + 1))
+
+  -- the head of sixteen bytes that were read as four numbers
+  pub by-quads : (a b c d : ℕ) → a ≡ quadAt s i → b ≡ quadAt s (i + 4) → c ≡ quadAt s (i + 8) → d ≡ quadAt s (i + 12) → byQuads a b c d ≡ headFrom s i
+  by-quads a b c d ea eb ec ed =
+      let e3 : i + 2 + 1 ≡ i + 3 = omega arith in
+      let e10 : i + 8 + 2 ≡ i + 10 = omega arith in
+      let e14 : i + 12 + 2 ≡ i + 14 = omega arith in
+      let e15 : i + 12 + 2 + 1 ≡ i + 15 = omega arith in
+      λ t.
+      record {
+        kind = (ap (λ (x : ℕ). x % 256) ea ∙ quad0 i) t;
+        flags = (ap (λ (x : ℕ). x / 256 % 256) ea ∙ quad1 i) t;
+        figure = (ap (λ (x : ℕ). x / 65536 % 256) ea ∙ quad2 i) t;
+        scale = (ap (λ (x : ℕ). x / 16777216) ea ∙ quad3 i ∙ at-eq s e3) t;
+        quad = eb t;
+        first = (ap (λ (x : ℕ). x % 65536) ec ∙ low16 (i + 8)) t;
+        next = (ap (λ (x : ℕ). x / 65536) ec ∙ high16 (i + 8) ∙ ap (word s) e10) t;
+        name = (ap (λ (x : ℕ). x % 65536) ed ∙ low16 (i + 12)) t;
+        nlen = (ap (λ (x : ℕ). x / 65536 % 256) ed ∙ quad2 (i + 12) ∙ at-eq s e14) t;
+        last = (ap (λ (x : ℕ). x / 16777216) ed ∙ quad3 (i + 12) ∙ at-eq s e15) t;
+      }
 
   byte : (j : ℕ) → j < 16 → getD s (i + j) 0 ≡ getD (bytesOf (headFrom s i)) j 0
   byte zero q = at-eq s (omega arith)

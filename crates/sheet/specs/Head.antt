@@ -34,6 +34,22 @@ headFrom s i =
       last = getD s (i + 15) 0;
     }
 
+-- the head that four numbers of 32 bits hold
+abbrev pub byQuads : ℕ → ℕ → ℕ → ℕ → Head
+byQuads a b c d =
+    record {
+      kind = a % 256;
+      flags = a / 256 % 256;
+      figure = a / 65536 % 256;
+      scale = a / 16777216;
+      quad = b;
+      first = c % 65536;
+      next = c / 65536;
+      name = d % 65536;
+      nlen = d / 65536 % 256;
+      last = d / 16777216;
+    }
+
 -- a record past the end reads as zeros
 abbrev pub blank : Head
 blank = record { kind = 0; flags = 0; figure = 0; scale = 0; quad = 0; first = 0; next = 0; name = 0; nlen = 0; last = 0 }

@@ -51,7 +51,8 @@ pub fn is_decimal(k: u8) -> bool
     within(14, 17, k)
 }
 
-fn names_parts(k: u8) -> bool
+// Whether the parts of a record of kind k may have names and be nullable.
+pub fn names_parts(k: u8) -> bool
     ensures { λ r. ⌜ r ≡ namesParts k ⌝ }
 {
     if within(32, 36, k) { true } else { k == 38 }
@@ -103,7 +104,8 @@ fn decimal_right(most: usize, p: u8, s: u8) -> bool
     all(1 <= q, q <= most, b <= q + 128, q + 1 <= b, true)
 }
 
-fn figure_right(k: u8, figure: u8, scale: u8) -> bool
+// Whether bytes 2 and 3 of a record of kind k are right.
+pub fn figure_right(k: u8, figure: u8, scale: u8) -> bool
     ensures { λ r. ⌜ r ≡ figureRight k figure scale ⌝ }
 {
     if is_decimal(k) {

@@ -20,12 +20,12 @@ pub fn word_at(s: &[u8], i: usize) -> usize
     wide(s[i]) + 256 * wide(s[i + 1])
 }
 
-// Four bytes, the lowest first.
-pub(crate) fn quad_at(s: &[u8], i: usize) -> usize
+// Four bytes as one number, the lowest first. Written out, so that it is one load.
+pub fn quad_at(s: &[u8], i: usize) -> usize
     requires { ⌜ i + 3 < length (now s) ⌝ }
     ensures { λ r. ⌜ (r ≡ quadAt (now (s .entry)) i) × (r < 4294967296) ⌝ }
 {
-    word_at(s, i) + 65536 * word_at(s, i + 2)
+    wide(s[i]) + 256 * wide(s[i + 1]) + 65536 * wide(s[i + 2]) + 16777216 * wide(s[i + 3])
 }
 
 // Eight bytes, the lowest first.
@@ -41,22 +41,21 @@ pub fn head_from(s: &[u8], i: usize) -> Head
     requires { ⌜ i + 16 ≤ length (now s) ⌝ }
     ensures { λ r. ⌜ (r ≡ headFrom (now (s .entry)) i) × Bounded r ⌝ }
 {
+    let a = quad_at(s, i);
     let quad = quad_at(s, i + 4);
-    let first = word_at(s, i + 8);
-    let next = word_at(s, i + 10);
-    let name = word_at(s, i + 12);
-    let nlen = wide(s[i + 14]);
+    let c = quad_at(s, i + 8);
+    let d = quad_at(s, i + 12);
     Head {
-        kind: s[i],
-        flags: s[i + 1],
-        figure: s[i + 2],
-        scale: s[i + 3],
+        kind: (a % 256) as u8,
+        flags: (a / 256 % 256) as u8,
+        figure: (a / 65536 % 256) as u8,
+        scale: (a / 16777216) as u8,
         quad,
-        first,
-        next,
-        name,
-        nlen,
-        last: s[i + 15],
+        first: c % 65536,
+        next: c / 65536,
+        name: d % 65536,
+        nlen: d / 65536 % 256,
+        last: (d / 16777216) as u8,
     }
 }
 
