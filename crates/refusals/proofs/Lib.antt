@@ -3,6 +3,8 @@ pub mod Walking
 pub mod Scans
 pub mod Verdicts
 pub mod Bare
+pub mod Light
+pub mod Sounding
 pub mod Rows
 pub mod Naming
 pub mod Sieving

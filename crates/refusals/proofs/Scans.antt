@@ -12,7 +12,7 @@ use native.Mathlib.Decide.{ℕ-discrete}
 use borrow.Author.Tests.{eq-eqb, ne-eqb, lt-ltb, le-ltb}
 use Rattle.sheet.specs.Tests.{oneOf}
 use Rattle.sheet.specs.Kind.{isKind}
-use Rattle.sheet.specs.Head.{word, quadAt, headFrom, headAt}
+use Rattle.sheet.specs.Head.{word, quadAt, headAt}
 use Rattle.sheet.specs.Read.{recordsOf, labelsOf}
 use Rattle.sheet.specs.Refusals.{allZero, anyFrom, torn}
 use Rattle.refusals.specs.Limits.{Fits}
@@ -48,12 +48,18 @@ zero-total s (suc k) i h =
     ∙ ap (λ (b : Bool). eqb (getD s i 0) 0 && b) (zero-total s k (i + 1) (omega arith))
     ∙ zero-sum (getD s i 0) (total s (i + 1) k)
 
--- the rest of a header, read as a record is
-pub rest-zero : (s : List ℕ) (h : Head) → 16 ≤ length s → h ≡ headFrom s 0
-    → eqb (h .quad + (h .first + h .next) + (h .name + h .nlen + h .last)) 0 ≡ allZero (take 12 (drop 4 s))
-rest-zero s h l e =
-    ap (λ (x : Head). eqb (x .quad + (x .first + x .next) + (x .name + x .nlen + x .last)) 0) e
-    ∙ zero-both (quadAt s 4 + (word s 8 + word s 10) + (word s 12 + getD s 14 0 + getD s 15 0)) (total s 4 12) (λ z. omega arith) (λ z. omega arith)
+quads-zero : (s : List ℕ) → quadAt s 4 + quadAt s 8 + quadAt s 12 ≡ 0 → total s 4 12 ≡ 0
+quads-zero s z = omega arith
+
+bytes-zero : (s : List ℕ) → total s 4 12 ≡ 0 → quadAt s 4 + quadAt s 8 + quadAt s 12 ≡ 0
+bytes-zero s z = omega arith
+
+-- the rest of a header, read as three numbers of 32 bits
+pub rest-zero : (s : List ℕ) (b c d : ℕ) → 16 ≤ length s → b ≡ quadAt s 4 → c ≡ quadAt s 8 → d ≡ quadAt s 12
+    → eqb (b + c + d) 0 ≡ allZero (take 12 (drop 4 s))
+rest-zero s b c d l eb ec ed =
+    (λ i. eqb (eb i + ec i + ed i) 0)
+    ∙ zero-both (quadAt s 4 + quadAt s 8 + quadAt s 12) (total s 4 12) (quads-zero s) (bytes-zero s)
     ∙ sym (zero-total s 12 4 l)
 
 any-step : (test : ℕ → Bool) (n r : ℕ) → r < n → anyFrom test r (n - r) ≡ (test r || anyFrom test (r + 1) (n - (r + 1)))

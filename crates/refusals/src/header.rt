@@ -9,18 +9,15 @@ ghost use Rattle.sheet.specs.Refusals.{allZero, anyFrom};
 ghost use Rattle.refusals.specs.Limits.{Measured};
 use crate::Limits;
 use sheet::figure::is_kind;
-use sheet::record::head_from;
+use sheet::record::quad_at;
 use sheet::record::word_at;
 
-// Whether the bytes of a header behind n and m are zero. They stand where a record has its size, links and name.
+// Whether the bytes of a header behind n and m are zero.
 fn is_rest_zero(s: &[u8]) -> bool
     requires { ⌜ 16 ≤ length (now s) ⌝ }
     ensures { λ r. ⌜ r ≡ allZero (take 12 (drop 4 (now (s .entry)))) ⌝ }
 {
-    let h = head_from(s, 0);
-    let links = h.first + h.next;
-    let name = h.name + h.nlen + h.last as usize;
-    h.quad + links + name == 0
+    quad_at(s, 4) + quad_at(s, 8) + quad_at(s, 12) == 0
 }
 
 // The header's n and m, where nothing of refusal 1 is met.

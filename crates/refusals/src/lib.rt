@@ -3,6 +3,7 @@ mod header;
 mod names;
 mod order;
 mod sieve;
+mod sound;
 mod twins;
 mod walk;
 
@@ -17,8 +18,8 @@ use header::limits;
 use header::odd_kind;
 use sheet::Checked;
 use sheet::Refusal;
+use sound::walk_all;
 use twins::twins;
-use walk::walk;
 
 // What a header says: n and m, or that the sheet is torn.
 enum Limits {
@@ -72,13 +73,7 @@ fn check_records(s: &[u8], n: usize, m: usize) -> Checked
         return Checked::Refused(Refusal::Kind);
     }
     let link = start_link(n);
-    let outset = Progress {
-        due: 1,
-        at: 0,
-        figure: false,
-        label: false,
-    };
-    match walk(s, n, 0, link, outset) {
+    match walk_all(s, n, link) {
         Walked::Came(p, _) => check_found(s, n, m, link, p),
         Walked::Lost => Checked::Refused(Refusal::Chain),
     }
