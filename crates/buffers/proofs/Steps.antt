@@ -1,5 +1,5 @@
 -- The returns of the rules for types without parts. Assumes nothing.
-use mathlib.Core.Path.{_≡_, refl, ap, ap₂, sym, _∙_}
+use mathlib.Core.Path.{_≡_, refl, ap, ap₂, sym, subst, _∙_}
 use mathlib.Core.Bool.{Bool, true, false, cond, _&&_, _||_}
 use mathlib.Core.Option.{Option, none}
 use Prim.Native.Nat.{ℕ, _<_}
@@ -24,15 +24,20 @@ use Rattle.coercion.proofs.Ranked.{kind-from}
 use Rattle.rules.proofs.Moments.{left-string, right-string, no-string}
 use Rattle.buffers.specs.Goal.{shapeFor}
 use Rattle.buffers.specs.Plain.{isListQuestion, stringTime}
-use Rattle.buffers.specs.Steps.{Reads, KeepsZone, listKind, listSize}
+use Rattle.buffers.specs.Steps.{Reads, Figured, KeepsZone, listKind, listSize}
 
 -- a kind is below 64
-pub kind-low : {h : Head} {t : DataType} → Reads h t → h .kind < 64
+pub kind-low : {h : Figures} {t : DataType} → Figured h t → h .kind < 64
 unfolding isKind
 kind-low {h} {t} a = omega (arith, a .kind, kind-from 1 38 (t .shape .kind) (a .known) .1)
 
-pub figures-read : {h : Head} {t : DataType} {f : Figures} → Reads h t → f ≡ record { kind = h .kind; figure = h .figure; scale = h .scale } → figuresOf t ≡ f
-figures-read a e = (λ i. record { kind = a .kind i; figure = a .figure i; scale = a .scale i }) ∙ sym e
+pub figures-read : {f : Figures} {t : DataType} → Figured f t → figuresOf t ≡ f
+figures-read a = λ i. record { kind = a .kind i; figure = a .figure i; scale = a .scale i }
+
+-- the figures of a head
+pub reads-figured : {h : Head} {t : DataType} {f : Figures} → f ≡ record { kind = h .kind; figure = h .figure; scale = h .scale } → Reads h t → Figured f t
+reads-figured {t = t} e a =
+    subst (λ (f : Figures). Figured f t) (sym e) (record { kind = a .kind; figure = a .figure; scale = a .scale; known = a .known; bare = a .bare })
 
 -- a rule that looks at kinds
 pub kinds-read : (rule : ℕ → ℕ → Option ℕ) {o : Option DataType} {f : Option ℕ} {k j a b : ℕ} → o ≡ ofKindType f → f ≡ rule k j → a ≡ k → b ≡ j
@@ -46,7 +51,7 @@ unfolding temporalCoercionNonstrictTimezone
 times-read l r p q h = rw (p, q, h)
 
 -- only a Timestamp has a zone
-no-zone : {h : Head} {t : DataType} (lo hi : ℕ) → Reads h t → 22 < lo → between lo hi (t .shape .kind) ≡ true → t .shape .zone ≡ absent
+no-zone : {h : Figures} {t : DataType} (lo hi : ℕ) → Figured h t → 22 < lo → between lo hi (t .shape .kind) ≡ true → t .shape .zone ≡ absent
 no-zone {h} {t} lo hi a b e = let p = kind-from lo hi (t .shape .kind) e in a .bare (ne-eqb (t .shape .kind) 22 (λ e. omega arith))
 
 zone-left : (z : Zone) → zoneCoercion z absent ≡ z
@@ -62,7 +67,7 @@ time-zone l r t h =
     (cond-is P (eqb (t .shape .kind) Kind.timestamp) _ _ h tt))
 
 -- and the string has none
-pub string-zone : {x y : Head} (l r : DataType) → Reads x l → Reads y r → KeepsZone l r (stringTemporalCoercion l r)
+pub string-zone : {x y : Figures} (l r : DataType) → Figured x l → Figured y r → KeepsZone l r (stringTemporalCoercion l r)
 string-zone l r p q = go (isString (l .shape .kind)) refl (isString (r .shape .kind)) refl
   where
     go : (a : Bool) → isString (l .shape .kind) ≡ a → (b : Bool) → isString (r .shape .kind) ≡ b → KeepsZone l r (stringTemporalCoercion l r)

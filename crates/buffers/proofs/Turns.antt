@@ -10,7 +10,6 @@ use lib.ListN.{getD}
 use borrow.Author.Tests.{not-true}
 use Rattle.sheet.specs.Tests.{between}
 use Rattle.sheet.specs.Kind.{isKind}
-use Rattle.sheet.specs.declared.Head.{Head}
 use Rattle.sheet.proofs.Tests.{never, and-fst, and-snd, or-fst, or-snd}
 use Rattle.kinds.proofs.Chain.{first}
 use Rattle.coercion.specs.declared.Figures.{Figures}
@@ -25,7 +24,7 @@ use Rattle.coercion.proofs.Ranked.{kind-from}
 use Rattle.coercion.proofs.Tables.{below2, at2}
 use Rattle.coercion.proofs.Words.{or-none}
 use Rattle.buffers.specs.Plain.{stringTime, plainRules}
-use Rattle.buffers.specs.Steps.{Reads}
+use Rattle.buffers.specs.Steps.{Figured}
 
 abbrev isSome : {A : Type 0} → Option A → Bool
 isSome none = false
@@ -163,12 +162,12 @@ module _ (rules : Rules) (l r : DataType) where
       also done
 
 -- a kind is below 39
-kind-below : {h : Head} {t : DataType} → Reads h t → t .shape .kind < 39
+kind-below : {h : Figures} {t : DataType} → Figured h t → t .shape .kind < 39
 unfolding isKind
 kind-below {h} {t} a = omega (arith, kind-from 1 38 (t .shape .kind) (a .known) .1)
 
 -- what the rule says whose turn it is
-pub spoken : (rules : Rules) {x y : Head} (l r : DataType) → Reads x l → Reads y r → (t : ℕ) → first 6 (turns (x .kind) (y .kind)) ≡ t
+pub spoken : (rules : Rules) {x y : Figures} (l r : DataType) → Figured x l → Figured y r → (t : ℕ) → first 6 (turns (x .kind) (y .kind)) ≡ t
     → {o : Option DataType} → o ≡ getD (voices rules l r) t none → o ≡ plainRules rules l r
 unfolding plainRules
 spoken rules {x} {y} l r p q t e h =

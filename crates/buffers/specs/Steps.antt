@@ -27,6 +27,14 @@ pub record Reads (h : Head) (t : DataType) : Type 0 where
   pub bare : eqb (t .shape .kind) Kind.timestamp ≡ false → t .shape .zone ≡ absent
   pub size : t .shape .zone ≡ absent → t .shape .size ≡ h .quad
 
+-- what figures tell of their type
+pub record Figured (f : Figures) (t : DataType) : Type 0 where
+  pub kind : t .shape .kind ≡ f .kind
+  pub figure : t .shape .figure ≡ f .figure
+  pub scale : t .shape .scale ≡ f .scale
+  pub known : isKind (t .shape .kind) ≡ true
+  pub bare : eqb (t .shape .kind) Kind.timestamp ≡ false → t .shape .zone ≡ absent
+
 -- the type that a step says
 abbrev pub stepOf : Step → DataType → DataType → Option DataType
 stepOf (Step.Lay f) l r = some (plain f)

@@ -1,4 +1,4 @@
-// The rules for types without parts, and the shape of two lists' common list, from the heads of two records.
+// The rules for types without parts, from their figures, and the shape of two lists' common list, from the heads of two records.
 ghost use mathlib.Core.Path.{_≡_};
 ghost use Prim.Native.Nat.{_<_};
 ghost use Rattle.sheet.specs.Bounds.{Bounded};
@@ -9,7 +9,7 @@ ghost use Rattle.coercion.specs.Rules.{nullCoercion};
 ghost use Rattle.coercion.specs.Answers.{ofKindType, stringNumber};
 ghost use Rattle.coercion.specs.Meaning.{figuresIn, kindOf, sideOf, momentOf};
 ghost use Rattle.buffers.specs.Plain.{asked, rulesOf, isListQuestion, stringTime, plainRules};
-ghost use Rattle.buffers.specs.Steps.{Reads, stepOf, KeepsZone, listKind, listSize};
+ghost use Rattle.buffers.specs.Steps.{Reads, Figured, stepOf, KeepsZone, listKind, listSize};
 use crate::Question;
 use crate::Step;
 use coercion::Common;
@@ -118,24 +118,14 @@ fn of_moment(m: Moment) -> Step
     }
 }
 
-fn figures(h: Head) -> Figures
-    ensures { λ f. ⌜ f ≡ record { kind = h .kind; figure = h .figure; scale = h .scale } ⌝ }
+fn numeric(x: Figures, y: Figures) -> Step
+    ensures { λ o. ⌜ ((l r : DataType) → Figured x l → Figured y r → stepOf o l r ≡ asType (binaryNumericCoercion (figuresOf l) (figuresOf r))) ⌝ }
 {
-    Figures {
-        kind: h.kind,
-        figure: h.figure,
-        scale: h.scale,
-    }
+    of_common(binary_numeric_coercion(x, y))
 }
 
-fn numeric(x: Head, y: Head) -> Step
-    ensures { λ o. ⌜ ((l r : DataType) → Reads x l → Reads y r → stepOf o l r ≡ asType (binaryNumericCoercion (figuresOf l) (figuresOf r))) ⌝ }
-{
-    of_common(binary_numeric_coercion(figures(x), figures(y)))
-}
-
-fn temporal(x: Head, y: Head) -> Step
-    ensures { λ o. ⌜ ((l r : DataType) → Reads x l → Reads y r → stepOf o l r ≡ temporalCoercionNonstrictTimezone l r) ⌝ }
+fn temporal(x: Figures, y: Figures) -> Step
+    ensures { λ o. ⌜ ((l r : DataType) → Figured x l → Figured y r → stepOf o l r ≡ temporalCoercionNonstrictTimezone l r) ⌝ }
 {
     if both(x.kind == 22, y.kind == 22) {
         return Step::Stamp(timeunit_coercion(x.figure, y.figure));
@@ -143,8 +133,8 @@ fn temporal(x: Head, y: Head) -> Step
     of_common(temporal_coercion(x.kind, y.kind))
 }
 
-fn null(mask: u64, x: Head, y: Head) -> Step
-    ensures { λ o. ⌜ ((l r : DataType) → Reads x l → Reads y r → stepOf o l r ≡ nullCoercion mask l r) ⌝ }
+fn null(mask: u64, x: Figures, y: Figures) -> Step
+    ensures { λ o. ⌜ ((l r : DataType) → Figured x l → Figured y r → stepOf o l r ≡ nullCoercion mask l r) ⌝ }
 {
     if x.kind >= 64 {
         return Step::Nothing;
@@ -155,8 +145,8 @@ fn null(mask: u64, x: Head, y: Head) -> Step
     of_side(null_coercion(mask, x.kind, y.kind))
 }
 
-fn string_number(question: Question, x: Head, y: Head) -> Step
-    ensures { λ o. ⌜ ((l r : DataType) → Reads x l → Reads y r → stepOf o l r ≡ stringNumber (asked question) l r) ⌝ }
+fn string_number(question: Question, x: Figures, y: Figures) -> Step
+    ensures { λ o. ⌜ ((l r : DataType) → Figured x l → Figured y r → stepOf o l r ≡ stringNumber (asked question) l r) ⌝ }
 {
     match question {
         Question::List => of_side(string_numeric_coercion(x.kind, y.kind)),
@@ -165,8 +155,8 @@ fn string_number(question: Question, x: Head, y: Head) -> Step
     }
 }
 
-fn string_time(question: Question, x: Head, y: Head) -> Step
-    ensures { λ o. ⌜ ((l r : DataType) → Reads x l → Reads y r → stepOf o l r ≡ stringTime (asked question) l r) ⌝ }
+fn string_time(question: Question, x: Figures, y: Figures) -> Step
+    ensures { λ o. ⌜ ((l r : DataType) → Figured x l → Figured y r → stepOf o l r ≡ stringTime (asked question) l r) ⌝ }
 {
     if is_list_question(question) {
         return Step::Nothing;
@@ -175,8 +165,8 @@ fn string_time(question: Question, x: Head, y: Head) -> Step
 }
 
 // The rules for types without parts. Of two kinds one rule at most says a type, so the tests find that rule and the others are not asked.
-pub fn plain(question: Question, mask: u64, x: Head, y: Head) -> Step
-    ensures { λ o. ⌜ ((l r : DataType) → Reads x l → Reads y r → stepOf o l r ≡ plainRules (rulesOf question mask) l r) ⌝ }
+pub fn plain_step(question: Question, mask: u64, x: Figures, y: Figures) -> Step
+    ensures { λ o. ⌜ ((l r : DataType) → Figured x l → Figured y r → stepOf o l r ≡ plainRules (rulesOf question mask) l r) ⌝ }
 {
     let k = x.kind;
     let j = y.kind;
@@ -205,4 +195,21 @@ pub fn plain(question: Question, mask: u64, x: Head, y: Head) -> Step
         return temporal(x, y);
     }
     of_found(binary_coercion(k, j))
+}
+
+fn figures(h: Head) -> Figures
+    ensures { λ f. ⌜ f ≡ record { kind = h .kind; figure = h .figure; scale = h .scale } ⌝ }
+{
+    Figures {
+        kind: h.kind,
+        figure: h.figure,
+        scale: h.scale,
+    }
+}
+
+// The same, from the heads of two records.
+pub fn plain(question: Question, mask: u64, x: Head, y: Head) -> Step
+    ensures { λ o. ⌜ ((l r : DataType) → Reads x l → Reads y r → stepOf o l r ≡ plainRules (rulesOf question mask) l r) ⌝ }
+{
+    plain_step(question, mask, figures(x), figures(y))
 }

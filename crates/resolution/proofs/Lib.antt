@@ -4,3 +4,4 @@ pub mod Listing
 pub mod Low
 pub mod Valuing
 pub mod Keeping
+pub mod Taking

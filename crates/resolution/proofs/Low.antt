@@ -1,7 +1,5 @@
 -- The rules for types without parts say types of kinds without parts. Assumes nothing.
-use mathlib.Core.Path.{_≡_}
 use mathlib.Core.Bool.{Bool, true, false, cond, _&&_, _||_}
-use mathlib.Core.List.{[], _∷_}
 use mathlib.Core.Option.{Option, none, some}
 use Prim.Native.Nat.{ℕ, _+_, _<_, max}
 use native.Mathlib.Omega.{arith}
@@ -17,7 +15,7 @@ use Rattle.coercion.specs.Strings.{isLongString, isBinaryOrString, stringCoerci
 use Rattle.coercion.specs.Rules.{isNull, nullCoercion, stringNumericCoercion, stringNumericUnionCoercion, timeOfString, matchRule, stringTemporalCoercion}
 use Rattle.coercion.specs.Answers.{ofKindType, stringNumber}
 use Rattle.coercion.specs.declared.Figures.{Figures}
-use Rattle.coercion.proofs.Maybe.{If, IfAll, _also_, done, if-first, if-else, cond-is}
+use Rattle.coercion.proofs.Maybe.{If, _also_, done, if-first, if-else, cond-is}
 use Rattle.buffers.specs.Plain.{plainRules, stringTime}
 
 abbrev pub Low : DataType → Type 0

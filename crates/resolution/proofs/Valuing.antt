@@ -1,6 +1,6 @@
--- Types that stand wholly in the heads of their records, and candidates that are such heads. Assumes nothing.
+-- Types without parts, zone or order, by value. Assumes nothing.
 use mathlib.Core.Path.{_≡_, refl, ap, sym, subst, _∙_}
-use mathlib.Core.Bool.{Bool, true, false, cond, _&&_, and-true}
+use mathlib.Core.Bool.{Bool, true, false, cond, and-true}
 use mathlib.Core.List.{List, [], _∷_}
 use mathlib.Core.Option.{Option, none, some}
 use Prim.Native.Nat.{ℕ, _+_, _<_, _≤_}
@@ -14,7 +14,6 @@ use Rattle.sheet.specs.Kind.{partsRight}
 use Rattle.sheet.specs.Tests.{allOf, between}
 use Rattle.sheet.specs.Head.{headAt}
 use Rattle.sheet.specs.Read.{shapeOf}
-use Rattle.sheet.specs.Bounds.{Bounded}
 use Rattle.sheet.specs.Carried.{FieldsRight}
 use Rattle.sheet.specs.declared.Head.{Head}
 use Rattle.sheet.proofs.Spans.{span-nil}
@@ -27,27 +26,28 @@ use Rattle.coercion.proofs.Fuel.{coercion-asks}
 use Rattle.coercion.proofs.Maybe.{if-some}
 use Rattle.coercion.proofs.AnswersRight.{TypeRight, coercion-right}
 use Rattle.buffers.specs.Region.{Room, Wrote}
-use Rattle.buffers.specs.Goal.{letters, typeOf, shapeFor, Laid}
+use Rattle.buffers.specs.Goal.{letters, typeOf, Laid}
 use Rattle.buffers.specs.Plain.{plainRules, isListQuestion}
-use Rattle.buffers.specs.Steps.{Reads, stepOf}
+use Rattle.buffers.specs.Steps.{Figured, stepOf}
 use Rattle.buffers.specs.Typed.{Typed}
 use Rattle.buffers.specs.declared.Space.{Space}
 use Rattle.buffers.specs.declared.Spot.{Spot}
 use Rattle.buffers.specs.declared.Step.{Step}
 use Rattle.buffers.specs.declared.Step.the-variants as Step
 use Rattle.buffers.specs.declared.Out.{Out}
-use Rattle.buffers.specs.declared.Out.the-variants.{Done, No, Full}
+use Rattle.buffers.specs.declared.Out.the-variants.{Done, No}
 use Rattle.buffers.proofs.Sources.{read-shape}
 use Rattle.merge.proofs.Orders.{ask-turns, plain-turns}
 use Rattle.merge.proofs.Merging.{typed-kind}
 use Rattle.merge.proofs.Rewrapping.{end-is}
+use Rattle.resolution.specs.declared.value.Leaf.{Leaf}
 use Rattle.resolution.specs.declared.value.Joint.{Joint}
 use Rattle.resolution.specs.declared.value.Joint.the-variants as Joint
-use Rattle.resolution.specs.Reached.{front, Listed, Fits, AnswerIs, Within, Candidate, Entry, Steps, Folds}
-use Rattle.resolution.specs.Value.{isPlain, plainType, headFor, Valued, JointIs, Holdable, Says, Joins, Fronted, JointLaid}
+use Rattle.resolution.specs.Reached.{front, Listed, Fits, AnswerIs, Candidate, Steps, Folds}
+use Rattle.resolution.specs.Value.{isPlain, leafOf, leafType, figuresIn, Valued, JointIs, Says, Joins, Fronted, JointLaid}
 use Rattle.resolution.proofs.Listing.{listed-typed, listed-next}
 use Rattle.resolution.proofs.Low.{Low, plain-low}
-use Rattle.resolution.proofs.Folding.{foremost, typed-right, entry-typed, within-self, within-trans, within-kept, some-listed, fits-few, fits-short, next-fits}
+use Rattle.resolution.proofs.Folding.{foremost, typed-right, within-self, within-trans, within-kept, some-listed, fits-few, fits-short, next-fits}
 
 -- a kind below 32 has no parts
 no-parts : (k : ℕ) (p : Fields) → k < 32 → partsRight k (arity p) ≡ true → p ≡ end
@@ -62,69 +62,71 @@ module _ (h : Head) (p : isPlain h ≡ true) where
   plain-kind : h .kind < 32
   plain-kind = ltb-true (h .kind) 32 (and-fst (ltb (h .kind) 32) (eqb (h .flags) 0) p)
 
-  plain-shape : (s : List ℕ) (n : ℕ) → shapeOf s n h ≡ plainType h .shape
+  pub leaf-low : {x : Leaf} → x ≡ leafOf h → x .kind < 32
+  leaf-low e = omega (arith, plain-kind, ap (λ (k : Leaf). k .kind) e)
+
+  plain-shape : (s : List ℕ) (n : ℕ) → shapeOf s n h ≡ leafType (leafOf h) .shape
   plain-shape s n = rw (eqb-true (h .flags) 0 (and-snd (ltb (h .kind) 32) (eqb (h .flags) 0) p))
 
-  pub plain-valued : {space : Space} {s : List ℕ} {link : ℕ} {t : DataType} → h ≡ headAt s link → Typed space s link t → Valued h t
-  plain-valued {space} {s} {t = t} e a =
+  pub plain-valued : {space : Space} {s : List ℕ} {link : ℕ} {x : Leaf} {t : DataType} → x ≡ leafOf h → h ≡ headAt s link → Typed space s link t → Valued x t
+  plain-valued {space} {s} {t = t} ex e a =
       let right = typed-right t a .0 in
-      let es : t .shape ≡ plainType h .shape = sym (read-shape (a .chain .held .source) h e) ∙ plain-shape s (space .n) in
+      let es : t .shape ≡ leafType (leafOf h) .shape = sym (read-shape (a .chain .held .source) h e) ∙ plain-shape s (space .n) in
       let low : t .shape .kind < 32 = omega (arith, plain-kind, typed-kind h e a) in
       let ep : t .parts ≡ end = no-parts (t .shape .kind) (t .parts) low (right .0 .filled) in
-      record { is = λ i. record { shape = es i; parts = ep i }; low = plain-kind; right = right }
+      subst (λ (k : Leaf). Valued k t) (sym ex) (record { is = λ i. record { shape = es i; parts = ep i }; low = plain-kind; right = right })
 
-pub valued-reads : {h : Head} {t : DataType} → Valued h t → Reads h t
-valued-reads v =
+valued-figured : {x : Leaf} {t : DataType} → Valued x t → Figured (figuresIn x) t
+valued-figured v =
     record {
       kind = ap (λ (x : DataType). x .shape .kind) (v .is);
       figure = ap (λ (x : DataType). x .shape .figure) (v .is);
       scale = ap (λ (x : DataType). x .shape .scale) (v .is);
       known = v .right .0 .known;
       bare = λ q. ap (λ (x : DataType). x .shape .zone) (v .is);
-      size = λ q. ap (λ (x : DataType). x .shape .size) (v .is);
     }
 
-plain-differ : (h : Head) → h .kind < 32 → namesDiffer (single (plainType h)) ≡ true
+leaf-differ : (x : Leaf) → x .kind < 32 → namesDiffer (single (leafType x)) ≡ true
 unfolding namesDiffer allOf
-plain-differ h low = rw (ne-eqb (h .kind) 35 (λ e. omega arith))
+leaf-differ x low = rw (ne-eqb (x .kind) 35 (λ e. omega arith))
 
-valued-right : {h : Head} {t : DataType} → Valued h t → TypeRight t
-valued-right {h} v = (v .right, subst (λ (x : DataType). namesDiffer (single x) ≡ true) (sym (v .is)) (plain-differ h (v .low)))
+valued-right : {x : Leaf} {t : DataType} → Valued x t → TypeRight t
+valued-right {x} v = (v .right, subst (λ (t : DataType). namesDiffer (single t) ≡ true) (sym (v .is)) (leaf-differ x (v .low)))
 
-valued-low : {h : Head} {t : DataType} → Valued h t → Low t
+valued-low : {x : Leaf} {t : DataType} → Valued x t → Low t
 valued-low v = omega (arith, v .low, ap (λ (x : DataType). x .shape .kind) (v .is))
 
--- whether the types of two heads are the same
-module _ (x y : Head) where
+-- whether two values are the same type
+module _ (x y : Leaf) where
   abbrev pub tests : List Bool
-  tests = eqb (x .kind) (y .kind) ∷ eqb (x .figure) (y .figure) ∷ eqb (x .scale) (y .scale) ∷ eqb (x .quad) (y .quad) ∷ []
+  tests = eqb (x .kind) (y .kind) ∷ eqb (x .figure) (y .figure) ∷ eqb (x .scale) (y .scale) ∷ eqb (x .size) (y .size) ∷ []
 
-  same-tests : (named : Bool) → sameType named (plainType x) (plainType y) ≡ allOf tests
+  pub same-tests : (named : Bool) → sameType named (leafType x) (leafType y) ≡ allOf tests
   unfolding sameType sameShape sameFields sameZone allOf
   same-tests named = and-true (allOf tests)
 
-  pub same-differ : (i : ℕ) → getD tests i true ≡ false → (named : Bool) → false ≡ sameType named (plainType x) (plainType y)
+  pub same-differ : (i : ℕ) → getD tests i true ≡ false → (named : Bool) → false ≡ sameType named (leafType x) (leafType y)
   same-differ i e named = sym (same-tests named ∙ all-not tests i e)
 
-  pub same-last : x .kind ≡ y .kind → x .figure ≡ y .figure → x .scale ≡ y .scale → (named : Bool) → eqb (x .quad) (y .quad) ≡ sameType named (plainType x) (plainType y)
+  pub same-last : x .kind ≡ y .kind → x .figure ≡ y .figure → x .scale ≡ y .scale → (named : Bool) → eqb (x .size) (y .size) ≡ sameType named (leafType x) (leafType y)
   unfolding allOf
-  same-last a b c named = sym (same-tests named ∙ rw (eq-eqb (x .kind) (y .kind) a, eq-eqb (x .figure) (y .figure) b, eq-eqb (x .scale) (y .scale) c) (and-true (eqb (x .quad) (y .quad))))
+  same-last a b c named = sym (same-tests named ∙ rw (eq-eqb (x .kind) (y .kind) a, eq-eqb (x .figure) (y .figure) b, eq-eqb (x .scale) (y .scale) c) (and-true (eqb (x .size) (y .size))))
 
-head-bounded : {h : Head} {kind figure scale : ℕ} → h ≡ headFor kind figure scale → Bounded h
-head-bounded e = subst Bounded (sym e) (record { quad = omega arith; first = omega arith; next = omega arith; name = omega arith; nlen = omega arith })
+-- what a step says of two values
+module _ {step : Step} {x y : Leaf} where
+  pub says-lay : {f : Figures} → step ≡ Step.Lay f → Says step x y (Joint.Of (record { kind = f .kind; figure = f .figure; scale = f .scale; size = 0 }))
+  says-lay {f} e =
+      subst (λ (k : Step). Says k x y (Joint.Of (record { kind = f .kind; figure = f .figure; scale = f .scale; size = 0 }))) (sym e)
+      (record { holdable = omega arith; means = refl })
 
--- what a step says of two heads
-module _ {step : Step} {x y : Head} where
-  pub says-lay : {f : Figures} {h : Head} → step ≡ Step.Lay f → h ≡ headFor (f .kind) (f .figure) (f .scale) → Says step x y (Joint.Of h)
-  says-lay {h = h} e eh = subst (λ (k : Step). Says k x y (Joint.Of h)) (sym e) (record { holdable = head-bounded eh; means = ap plainType (sym eh) })
+  pub says-stamp : {unit : ℕ} → step ≡ Step.Stamp unit → Says step x y (Joint.Of (record { kind = 22; figure = unit; scale = 0; size = 0 }))
+  says-stamp {unit} e =
+      subst (λ (k : Step). Says k x y (Joint.Of (record { kind = 22; figure = unit; scale = 0; size = 0 }))) (sym e) (record { holdable = omega arith; means = refl })
 
-  pub says-stamp : {unit : ℕ} {h : Head} → step ≡ Step.Stamp unit → h ≡ headFor 22 unit 0 → Says step x y (Joint.Of h)
-  says-stamp {h = h} e eh = subst (λ (k : Step). Says k x y (Joint.Of h)) (sym e) (record { holdable = head-bounded eh; means = ap plainType (sym eh) })
-
-  pub says-left : step ≡ Step.Left → Bounded x → Says step x y (Joint.Of x)
+  pub says-left : step ≡ Step.Left → x .size < 4294967296 → Says step x y (Joint.Of x)
   says-left e b = subst (λ (k : Step). Says k x y (Joint.Of x)) (sym e) (record { holdable = b; means = refl })
 
-  pub says-right : step ≡ Step.Right → Bounded y → Says step x y (Joint.Of y)
+  pub says-right : step ≡ Step.Right → y .size < 4294967296 → Says step x y (Joint.Of y)
   says-right e b = subst (λ (k : Step). Says k x y (Joint.Of y)) (sym e) (record { holdable = b; means = refl })
 
   pub says-nothing : step ≡ Step.Nothing → Says step x y Joint.Nothing
@@ -137,67 +139,68 @@ plain-coercion rules l r h g =
     coercion-asks rules l r ∙ ask-turns rules (coercion rules) l r
     ∙ ap (cond (sameType (isListQuestion (rules .question)) l r) (some l)) (sym (plain-turns rules (coercion rules) l r h g))
 
--- a type that may stand in a sheet, and whose head is known
-settled : (o : Joint) (m : Option DataType) → ((t : DataType) → m ≡ some t → Low t × FieldsRight 0 (single t)) → JointIs (λ h t. t ≡ plainType h) o m → JointIs Valued o m
-settled (Joint.Of h) none f a = a
-settled (Joint.Of h) (some t) f a = record { is = a; low = omega (arith, f t refl .0, ap (λ (x : DataType). x .shape .kind) a); right = f t refl .1 }
+-- a type that may stand in a sheet, and whose value is known
+settled : (o : Joint) (m : Option DataType) → ((t : DataType) → m ≡ some t → Low t × FieldsRight 0 (single t)) → JointIs (λ x t. t ≡ leafType x) o m → JointIs Valued o m
+settled (Joint.Of x) none f a = a
+settled (Joint.Of x) (some t) f a = record { is = a; low = omega (arith, f t refl .0, ap (λ (u : DataType). u .shape .kind) a); right = f t refl .1 }
 settled Joint.Nothing none f a = tt
 settled Joint.Nothing (some t) f a = a
 
-module _ (rules : Rules) (x y : Head) {b : Bool} (same : (named : Bool) → b ≡ sameType named (plainType x) (plainType y)) where
+module _ (rules : Rules) (x y : Leaf) {b : Bool} (same : (named : Bool) → b ≡ sameType named (leafType x) (leafType y)) where
   by-test : (l r : DataType) → Valued x l → Valued y r → coercion rules l r ≡ cond b (some l) (plainRules rules l r)
   by-test l r v u =
       plain-coercion rules l r (valued-low v) (valued-low u)
-      ∙ ap (λ (k : Bool). cond k (some l) (plainRules rules l r)) (ap (λ (k : DataType). sameType named k r) (v .is) ∙ ap (sameType named (plainType x)) (u .is) ∙ sym (same named))
+      ∙ ap (λ (k : Bool). cond k (some l) (plainRules rules l r)) (ap (λ (k : DataType). sameType named k r) (v .is) ∙ ap (sameType named (leafType x)) (u .is) ∙ sym (same named))
     where
       named : Bool
       named = isListQuestion (rules .question)
 
-  pub joins-same : b ≡ true → Bounded x → Joins (coercion rules) x y (Joint.Of x)
+  pub joins-same : b ≡ true → x .size < 4294967296 → Joins (coercion rules) x y (Joint.Of x)
   joins-same e h =
       record {
         holdable = h;
         means = λ l r v u. subst (JointIs Valued (Joint.Of x)) (sym (by-test l r v u ∙ ap (λ (k : Bool). cond k (some l) (plainRules rules l r)) e)) v;
       }
 
-  pub joins-rule : {step : Step} (o : Joint) → b ≡ false → ((l r : DataType) → Reads x l → Reads y r → stepOf step l r ≡ plainRules rules l r) → Says step x y o → Joins (coercion rules) x y o
-  joins-rule {step} o e f s = record { holdable = s .holdable; means = go }
+  pub joins-rule : {step : Step} {f g : Figures} (o : Joint) → b ≡ false → f ≡ figuresIn x → g ≡ figuresIn y
+      → ((l r : DataType) → Figured f l → Figured g r → stepOf step l r ≡ plainRules rules l r) → Says step x y o → Joins (coercion rules) x y o
+  joins-rule {step} {f} {g} o e ef eg rule s = record { holdable = s .holdable; means = go }
     where
       go : (l r : DataType) → Valued x l → Valued y r → JointIs Valued o (coercion rules l r)
       go l r v u =
           let plain : coercion rules l r ≡ plainRules rules l r = by-test l r v u ∙ ap (λ (k : Bool). cond k (some l) (plainRules rules l r)) e in
-          let told : stepOf step (plainType x) (plainType y) ≡ coercion rules l r =
-          ap (λ (k : DataType). stepOf step k (plainType y)) (sym (v .is)) ∙ ap (stepOf step l) (sym (u .is)) ∙ f l r (valued-reads v) (valued-reads u) ∙ sym plain in
+          let told : stepOf step (leafType x) (leafType y) ≡ coercion rules l r =
+          ap (λ (k : DataType). stepOf step k (leafType y)) (sym (v .is)) ∙ ap (stepOf step l) (sym (u .is)) ∙ rule l r (subst (λ (k : Figures). Figured k l) (sym ef) (valued-figured v)) (subst (λ (k : Figures). Figured k r) (sym eg) (valued-figured u)) ∙ sym plain in
           settled o (coercion rules l r)
           (λ t q. (
             if-some Low (plainRules rules l r) t (plain-low rules l r (valued-low v) (valued-low u)) (sym plain ∙ q),
             coercion-right rules l r t (valued-right v) (valued-right u) q .0,
-          )) (subst (JointIs (λ h t. t ≡ plainType h) o) told (s .means))
+          )) (subst (JointIs (λ x t. t ≡ leafType x) o) told (s .means))
 
--- the type of a head that was written as a candidate
-pub fronted : (space : Space) (w v : List ℕ) (h : Head) → Room w space → 1 < space .n → Laid space w v foremost (plainType h .shape) 0 → Fronted space w v h (record { at = 2; label = 0 })
+-- a value that was written as a candidate
+pub fronted : (space : Space) (w v : List ℕ) (x : Leaf) → Room w space → 1 < space .n → Laid space w v foremost (leafType x .shape) 0 → Fronted space w v x (record { at = 2; label = 0 })
 unfolding count labels
-fronted space w v h room few l =
+fronted space w v x room few l =
     record {
       within = within-kept room (l .kept);
       inside = record { some = omega arith; records = omega arith; letters = omega arith };
       candidate =
           λ t k.
           record {
-            wrote = subst (λ (x : DataType). Wrote space v front (record { at = 2; label = 0 }) (single x)) (sym (k .is)) wrote;
+            wrote = subst (λ (u : DataType). Wrote space v front (record { at = 2; label = 0 }) (single u)) (sym (k .is)) wrote;
             right = k .right;
             differ = valued-right k .1;
           };
     }
   where
-    wrote : Wrote space v front (record { at = 2; label = 0 }) (single (plainType h))
+    wrote : Wrote space v front (record { at = 2; label = 0 }) (single (leafType x))
     wrote = record { records = refl; letters = refl; holds = (l .stands [] (record { long = refl; span = span-nil }), (tt, tt)) }
 
 module _ {space : Space} {w : List ℕ} {joint : Joint} where
-  pub joint-laid : {v : List ℕ} {h : Head} {d : Spot} → joint ≡ Joint.Of h → Fronted space w v h d → JointLaid space w v joint (Done d)
-  joint-laid {v} {h} {d} e f = record { within = f .within; inside = f .inside; means = λ m a. go m (subst (λ (j : Joint). JointIs Valued j m) e a) }
+  pub joint-laid : {v : List ℕ} {x : Leaf} {d : Spot} → joint ≡ Joint.Of x → Fronted space w v x d → JointLaid space w v joint (Done d)
+  joint-laid {v} {x} {d} e f = record { within = f .within; inside = f .inside; means = λ m a. go m (subst (λ (j : Joint). JointIs Valued j m) e a) }
     where
-      go : (m : Option DataType) → JointIs Valued (Joint.Of h) m → AnswerIs space v (Done d) m
+      go : (m : Option DataType) → JointIs Valued (Joint.Of x) m → AnswerIs space v (Done d) m
       go none a = a
       go (some t) a = f .candidate t a .wrote
 
@@ -209,28 +212,29 @@ module _ {space : Space} {w : List ℕ} {joint : Joint} where
       go (some t) a = a
 
 -- two plain types that were joined, and their common type written
-pub steps-joined : {A : DataType → DataType → Option DataType} (space : Space) {s w v : List ℕ} {link other : ℕ} (x y : Head) (o : Out) {joint : Joint} → x ≡ headAt s link → y ≡ headAt s other
-    → isPlain x ≡ true → isPlain y ≡ true → Joins A x y joint → JointLaid space w v joint o → Steps A space (Typed space s other) s w v link o
-steps-joined {A} space x y o ex ey px py j l =
+pub steps-joined : {A : DataType → DataType → Option DataType} (space : Space) {s w v : List ℕ} {link other : ℕ} (x y : Head) {lx ly : Leaf} (o : Out) {joint : Joint} → x ≡ headAt s link → y ≡ headAt s other
+    → lx ≡ leafOf x → ly ≡ leafOf y
+    → isPlain x ≡ true → isPlain y ≡ true → Joins A lx ly joint → JointLaid space w v joint o → Steps A space (Typed space s other) s w v link o
+steps-joined {A} space x y o ex ey el er px py j l =
     record {
       within = l .within;
       inside = l .inside;
-      means = λ t u a b few short. l .means (A t u) (j .means t u (plain-valued x px ex a) (plain-valued y py ey b));
+      means = λ t u a b few short. l .means (A t u) (j .means t u (plain-valued x px el ex a) (plain-valued y py er ey b));
     }
 
 module _ (rules : Rules) {space : Space} {s : List ℕ} {floor link : ℕ} where
-  -- a candidate is what its head says, or what was written for it
+  -- a candidate stands as a value, or as what was written for it
   pub folds-as : {Is Was : DataType → Type 0} {w v : List ℕ} {o : Out} → ((c : DataType) → Is c → Was c) → Folds (foldFrom rules) space Was s w v floor link o
       → Folds (foldFrom rules) space Is s w v floor link o
   folds-as f m = record { within = m .within; means = λ c types k a b. m .means c types (f c k) a b }
 
-  pub folds-written : {w v u : List ℕ} {h : Head} {d : Spot} {o : Out} → Fronted space w v h d → Folds (foldFrom rules) space (Candidate space v d) s v u floor link o
-      → Folds (foldFrom rules) space (Valued h) s w u floor link o
+  pub folds-written : {w v u : List ℕ} {x : Leaf} {d : Spot} {o : Out} → Fronted space w v x d → Folds (foldFrom rules) space (Candidate space v d) s v u floor link o
+      → Folds (foldFrom rules) space (Valued x) s w u floor link o
   folds-written f m = record { within = within-trans (f .within) (m .within); means = λ c types k a b. m .means c types (f .candidate c k) a b }
 
   -- the next type is plain too
-  module _ (past : floor < link) (h : Head) (e : h ≡ headAt s link) (n : h .kind ≡ 1 → ⊥) (p : isPlain h ≡ true) {y : Head} where
-    next : (v : List ℕ) (o : Out) (joint : Joint) → Joins (coercion rules) h y joint
+  module _ (past : floor < link) (h : Head) (e : h ≡ headAt s link) (n : h .kind ≡ 1 → ⊥) (p : isPlain h ≡ true) {new y : Leaf} (ex : new ≡ leafOf h) where
+    next : (v : List ℕ) (o : Out) (joint : Joint) → Joins (coercion rules) new y joint
         → ((c x : DataType) (rest : Fields) → TypeRight c → Typed space s link x → Listed space s link (h .next) rest → size c + (size x + count rest) < space .n
         → letters c + (letters x + length (labels rest)) ≤ space .m → (r : Option DataType) → coercion rules x c ≡ r → JointIs Valued joint r
         → AnswerIs space v o (andThen r (λ t. foldFrom rules t (typesOf rest))))
@@ -240,9 +244,9 @@ module _ (rules : Rules) {space : Space} {s : List ℕ} {floor link : ℕ} where
     next v o joint j more c (field name nullable shape parts rest) k a f =
         rw (ne-eqb (shape .kind) 1 (λ q. n (typed-kind h e (listed-typed a) ∙ q)))
         (more c (typeOf shape parts) rest (valued-right k) (listed-typed a) (listed-next a h e) (fits-few name nullable shape parts rest f) (fits-short name nullable shape parts rest f)
-        (coercion rules (typeOf shape parts) c) refl (j .means (typeOf shape parts) c (plain-valued h p e (listed-typed a)) k))
+        (coercion rules (typeOf shape parts) c) refl (j .means (typeOf shape parts) c (plain-valued h p ex e (listed-typed a)) k))
 
-    pub folds-joined : {w v : List ℕ} {c′ : Head} (o : Out) → Joins (coercion rules) h y (Joint.Of c′) → Folds (foldFrom rules) space (Valued c′) s w v link (h .next) o
+    pub folds-joined : {w v : List ℕ} {c′ : Leaf} (o : Out) → Joins (coercion rules) new y (Joint.Of c′) → Folds (foldFrom rules) space (Valued c′) s w v link (h .next) o
         → Folds (foldFrom rules) space (Valued y) s w v floor link o
     folds-joined {v = v} {c′} o j g = record { within = g .within; means = next v o (Joint.Of c′) j more }
       where
@@ -252,7 +256,7 @@ module _ (rules : Rules) {space : Space} {s : List ℕ} {floor link : ℕ} where
         more c x rest k a b few short none i z = absurd z
         more c x rest k a b few short (some t) i z = g .means t rest z b (next-fits rules t a k i rest few short)
 
-    pub folds-apart : {w : List ℕ} → Joins (coercion rules) h y Joint.Nothing → Folds (foldFrom rules) space (Valued y) s w w floor link No
+    pub folds-apart : {w : List ℕ} → Joins (coercion rules) new y Joint.Nothing → Folds (foldFrom rules) space (Valued y) s w w floor link No
     folds-apart {w} j = record { within = within-self w; means = next w No Joint.Nothing j more }
       where
         more : (c x : DataType) (rest : Fields) → TypeRight c → Typed space s link x → Listed space s link (h .next) rest → size c + (size x + count rest) < space .n

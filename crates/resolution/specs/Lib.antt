@@ -1,3 +1,4 @@
 pub mod Reached
 pub mod Value
 pub mod Keeps
+pub mod Taken

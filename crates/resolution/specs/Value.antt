@@ -1,12 +1,11 @@
--- Types that stand wholly in the heads of their records.
+-- Types without parts, zone or order, by value.
 use mathlib.Core.Path.{_≡_}
 use Prim.Native.Nat.{ℕ, _<_}
-use mathlib.Core.Bool.{Bool, true, false, _&&_}
+use mathlib.Core.Bool.{Bool, false, _&&_}
 use mathlib.Core.List.{List}
 use mathlib.Core.Option.{Option, none, some}
 use lib.Dec.{ltb, eqb}
 use Rattle.sheet.specs.Types.{end}
-use Rattle.sheet.specs.Bounds.{Bounded}
 use Rattle.sheet.specs.Carried.{FieldsRight}
 use Rattle.sheet.specs.declared.Head.{Head}
 use Rattle.coercion.specs.Data.{DataType, single}
@@ -16,6 +15,8 @@ use Rattle.buffers.specs.Steps.{stepOf}
 use Rattle.buffers.specs.declared.Space.{Space}
 use Rattle.buffers.specs.declared.Spot.{Spot}
 use Rattle.buffers.specs.declared.Step.{Step}
+use Rattle.coercion.specs.declared.Figures.{Figures}
+use Rattle.resolution.specs.declared.value.Leaf.{Leaf}
 use Rattle.resolution.specs.declared.value.Joint.{Joint}
 use Rattle.resolution.specs.declared.value.Joint.the-variants as Joint
 use Rattle.buffers.specs.declared.Out.{Out}
@@ -25,49 +26,52 @@ use Rattle.resolution.specs.Reached.{AnswerIs, Enclosed, Within, Candida
 abbrev pub isPlain : Head → Bool
 isPlain h = ltb (h .kind) 32 && eqb (h .flags) 0
 
--- the type that such a head says
-abbrev pub plainType : Head → DataType
-plainType h = typeOf (shapeFor (h .kind) (h .figure) (h .scale) (h .quad) false) end
+-- the value that such a head holds
+abbrev pub leafOf : Head → Leaf
+leafOf h = record { kind = h .kind; figure = h .figure; scale = h .scale; size = h .quad }
 
--- the head of a type that has figures only
-abbrev pub headFor : ℕ → ℕ → ℕ → Head
-headFor kind figure scale = record { kind = kind; flags = 0; figure = figure; scale = scale; quad = 0; first = 0; next = 0; name = 0; nlen = 0; last = 0 }
+abbrev pub figuresIn : Leaf → Figures
+figuresIn x = record { kind = x .kind; figure = x .figure; scale = x .scale }
 
--- a type without parts that a head says wholly, and that may stand in a sheet
-pub record Valued (h : Head) (t : DataType) : Type 0 where
-  pub is : t ≡ plainType h
-  pub low : h .kind < 32
+-- the type that a value is
+abbrev pub leafType : Leaf → DataType
+leafType x = typeOf (shapeFor (x .kind) (x .figure) (x .scale) (x .size) false) end
+
+-- a type that a value is, and that may stand in a sheet
+pub record Valued (x : Leaf) (t : DataType) : Type 0 where
+  pub is : t ≡ leafType x
+  pub low : x .kind < 32
   pub right : FieldsRight 0 (single t)
 
--- the head of an answer fits a record
+-- an answer fits a record
 abbrev pub Holdable : Joint → Type 0
-Holdable (Joint.Of h) = Bounded h
+Holdable (Joint.Of x) = x .size < 4294967296
 Holdable Joint.Nothing = Unit
 
--- an answer's head says the type, if there is one
-abbrev pub JointIs : (Head → DataType → Type 0) → Joint → Option DataType → Type 0
-JointIs Is (Joint.Of h) none = ⊥
-JointIs Is (Joint.Of h) (some t) = Is h t
+-- an answer is the type, if there is one
+abbrev pub JointIs : (Leaf → DataType → Type 0) → Joint → Option DataType → Type 0
+JointIs Is (Joint.Of x) none = ⊥
+JointIs Is (Joint.Of x) (some t) = Is x t
 JointIs Is Joint.Nothing none = Unit
 JointIs Is Joint.Nothing (some t) = ⊥
 
--- what a step says of the types of two heads
-pub record Says (step : Step) (x y : Head) (o : Joint) : Type 0 where
+-- what a step says of two values
+pub record Says (step : Step) (x y : Leaf) (o : Joint) : Type 0 where
   pub holdable : Holdable o
-  pub means : JointIs (λ h t. t ≡ plainType h) o (stepOf step (plainType x) (plainType y))
+  pub means : JointIs (λ z t. t ≡ leafType z) o (stepOf step (leafType x) (leafType y))
 
--- what a rule says of two types, whatever types their heads say
-pub record Joins (coerce : DataType → DataType → Option DataType) (x y : Head) (o : Joint) : Type 0 where
+-- what a rule says of two types, whatever types two values are
+pub record Joins (coerce : DataType → DataType → Option DataType) (x y : Leaf) (o : Joint) : Type 0 where
   pub holdable : Holdable o
   pub means : (l r : DataType) → Valued x l → Valued y r → JointIs Valued o (coerce l r)
 
--- the type of a head was written as a candidate
-pub record Fronted (space : Space) (w v : List ℕ) (h : Head) (d : Spot) : Type 0 where
+-- a value was written as a candidate, whatever type it is
+pub record Fronted (space : Space) (w v : List ℕ) (x : Leaf) (d : Spot) : Type 0 where
   pub within : Within space w v
   pub inside : Inside space d
-  pub candidate : (t : DataType) → Valued h t → Candidate space v d t
+  pub candidate : (t : DataType) → Valued x t → Candidate space v d t
 
--- an answer was written, whatever type its head says
+-- an answer was written, whatever type it is
 pub record JointLaid (space : Space) (w v : List ℕ) (joint : Joint) (o : Out) : Type 0 where
   pub within : Within space w v
   pub inside : Enclosed space o

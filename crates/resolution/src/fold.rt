@@ -7,7 +7,6 @@ ghost use Rattle.coercion.specs.Answers.{coercion, foldFrom, foldTypes, typeUni
 ghost use Rattle.buffers.specs.Region.{Room, Inside};
 ghost use Rattle.buffers.specs.Plain.{rulesOf};
 ghost use Rattle.buffers.specs.Typed.{Typed};
-ghost use Rattle.sheet.specs.Bounds.{Bounded};
 ghost use Rattle.resolution.specs.Reached.{Reached, Candidate, Entry, Steps, Folds};
 ghost use Rattle.resolution.specs.Value.{Valued};
 use crate::keep::core_of;
@@ -16,11 +15,15 @@ use crate::list::all_equal;
 use crate::list::is_fitting;
 use crate::shift::mirror;
 use crate::shift::shift;
+use crate::taken::is_taken;
+use crate::taken::taken_kinds;
 use crate::value::Joint;
+use crate::value::Leaf;
 use crate::value::common_type;
 use crate::value::is_plain;
 use crate::value::lay_front;
 use crate::value::lay_joint;
+use crate::value::leaf_of;
 use buffers::Goal;
 use buffers::Out;
 use buffers::Question;
@@ -28,7 +31,6 @@ use buffers::Space;
 use buffers::Spot;
 use buffers::field::copy_field;
 use merge::coerce::coerce;
-use sheet::Head;
 use sheet::record::head_at;
 
 // The common type of the type at a link and the candidate that ends at d; it takes the candidate's place.
@@ -165,52 +167,57 @@ fn fold_first(
     copy_field(sheet, work, space, false, first, Spot { at: 1, label: 0 })
 }
 
-// The type that a head says, written as a candidate and folded with the types at a link past floor.
+// A type without parts, written as a candidate and folded with the types at a link past floor.
 fn fold_written(
     sheet: &[u8],
     work: &mut [u8],
     space: Space,
     mask: u64,
-    h: Head,
+    x: Leaf,
     floor: usize,
     link: usize,
 ) -> Out
-    requires { ⌜ Room (now work) space × ((1 < space .n) × Bounded h) ⌝ }
-    ensures { λ o. ⌜ Folds (foldFrom (rulesOf Question.List mask)) space (Valued h) (now (sheet .entry)) (now (work .entry)) (now (work .exit)) floor link o ⌝ }
+    requires { ⌜ Room (now work) space × ((1 < space .n) × (x .size < 4294967296)) ⌝ }
+    ensures { λ o. ⌜ Folds (foldFrom (rulesOf Question.List mask)) space (Valued x) (now (sheet .entry)) (now (work .entry)) (now (work .exit)) floor link o ⌝ }
 {
-    let d = lay_front(work, space, h);
+    let d = lay_front(work, space, x);
     fold_from(sheet, work, space, mask, floor, link, d)
 }
 
-// The type that a head says, folded with the types at a link past floor. It is a value, and so are the candidates after it, up to a type with parts, a zone
-// or an order. Nulls are skipped.
+// A type without parts, folded with the types at a link past floor. The candidate is a value up to the first type with parts, a zone or an order. Nulls are
+// skipped.
 fn fold_plain(
     sheet: &[u8],
     work: &mut [u8],
     space: Space,
     mask: u64,
-    first: Head,
+    first: Leaf,
     floor: usize,
     link: usize,
 ) -> Out
-    requires { ⌜ Room (now work) space × ((1 < space .n) × Bounded first) ⌝ }
+    requires { ⌜ Room (now work) space × ((1 < space .n) × (first .size < 4294967296)) ⌝ }
     ensures { λ o. ⌜ Folds (foldFrom (rulesOf Question.List mask)) space (Valued first) (now (sheet .entry)) (now (work .entry)) (now (work .exit)) floor link o ⌝ }
 {
     let mut last = floor;
     let mut at = link;
     let mut candidate = first;
+    let mut kinds = 0u64;
     while last < at {
         if space.n <= at {
             return Out::No;
         }
         let h = head_at(sheet, at);
         let next = h.next;
-        if h.kind != 1 {
-            if !is_plain(h) {
-                return fold_written(sheet, work, space, mask, candidate, last, at);
-            }
-            match common_type(Question::List, mask, h, candidate) {
-                Joint::Of(c) => candidate = c,
+        if !is_plain(h) {
+            return fold_written(sheet, work, space, mask, candidate, last, at);
+        }
+        let x = leaf_of(h);
+        if !is_taken(kinds, x) {
+            match common_type(Question::List, mask, x, candidate) {
+                Joint::Of(c) => {
+                    kinds = taken_kinds(kinds, x, candidate, c);
+                    candidate = c;
+                }
                 Joint::Nothing => return Out::No,
             }
         }
@@ -242,7 +249,7 @@ fn fold_types(
         let next = h.next;
         if h.kind != 1 {
             if is_plain(h) {
-                return fold_plain(sheet, work, space, mask, h, at, next);
+                return fold_plain(sheet, work, space, mask, leaf_of(h), at, next);
             }
             return fold_first(sheet, work, space, mask, at, at, next);
         }
@@ -308,7 +315,8 @@ pub(crate) fn pair(
     }
     if is_plain(x) {
         if is_plain(y) {
-            return lay_joint(work, space, common_type(question, mask, x, y));
+            let joint = common_type(question, mask, leaf_of(x), leaf_of(y));
+            return lay_joint(work, space, joint);
         }
     }
     meet(sheet, work, space, question, mask, link, next)

@@ -3,6 +3,7 @@ mod fold;
 mod keep;
 mod list;
 mod shift;
+mod taken;
 mod value;
 
 ghost use mathlib.Core.Path.{_≡_};

@@ -1,4 +1,4 @@
-// Types without parts, by value: such a type stands wholly in the head of its record.
+// Types without parts, zone or order, by value.
 ghost use mathlib.Core.Path.{_≡_};
 ghost use mathlib.Core.Bool.{Bool};
 ghost use Prim.Native.Nat.{_<_};
@@ -7,7 +7,7 @@ ghost use Rattle.coercion.specs.Same.{sameType};
 ghost use Rattle.coercion.specs.Answers.{coercion};
 ghost use Rattle.buffers.specs.Region.{Room};
 ghost use Rattle.buffers.specs.Plain.{rulesOf};
-ghost use Rattle.resolution.specs.Value.{plainType, isPlain, headFor, Holdable, Says, Joins, Fronted, JointLaid};
+ghost use Rattle.resolution.specs.Value.{isPlain, leafOf, leafType, figuresIn, Holdable, Says, Joins, Fronted, JointLaid};
 use buffers::Goal;
 use buffers::Out;
 use buffers::Question;
@@ -15,24 +15,57 @@ use buffers::Space;
 use buffers::Spot;
 use buffers::Step;
 use buffers::lay::lay;
-use buffers::plain::plain;
+use buffers::plain::plain_step;
+use coercion::Figures;
 use sheet::Head;
 
-// The head of a common type without parts, or none.
+// A type without parts, zone or order.
+pub struct Leaf {
+    pub kind: u8,
+    pub figure: u8,
+    pub scale: u8,
+    pub size: usize,
+}
+
+// The common type of two such types, or none.
 pub enum Joint {
-    Of(Head),
+    Of(Leaf),
     Nothing,
 }
 
-// Whether a head says its type wholly: it has no parts, no zone and no order.
+// Whether a head is that of such a type.
 pub(crate) fn is_plain(h: Head) -> bool
     ensures { λ b. ⌜ b ≡ isPlain h ⌝ }
 {
     if h.kind < 32 { h.flags == 0 } else { false }
 }
 
-fn is_same(x: Head, y: Head) -> bool
-    ensures { λ b. ⌜ ((named : Bool) → b ≡ sameType named (plainType x) (plainType y)) ⌝ }
+// The type of such a head.
+pub(crate) fn leaf_of(h: Head) -> Leaf
+    requires { ⌜ Bounded h ⌝ }
+    ensures { λ x. ⌜ (x ≡ leafOf h) × (x .size < 4294967296) ⌝ }
+{
+    Leaf {
+        kind: h.kind,
+        figure: h.figure,
+        scale: h.scale,
+        size: h.quad,
+    }
+}
+
+fn figures_of(x: Leaf) -> Figures
+    ensures { λ f. ⌜ f ≡ figuresIn x ⌝ }
+{
+    Figures {
+        kind: x.kind,
+        figure: x.figure,
+        scale: x.scale,
+    }
+}
+
+// Whether two such types are the same.
+pub(crate) fn is_same(x: Leaf, y: Leaf) -> bool
+    ensures { λ b. ⌜ ((named : Bool) → b ≡ sameType named (leafType x) (leafType y)) ⌝ }
 {
     if x.kind != y.kind {
         return false;
@@ -43,55 +76,52 @@ fn is_same(x: Head, y: Head) -> bool
     if x.scale != y.scale {
         return false;
     }
-    x.quad == y.quad
+    x.size == y.size
 }
 
-fn head_for(kind: u8, figure: u8, scale: u8) -> Head
-    ensures { λ h. ⌜ h ≡ headFor kind figure scale ⌝ }
-{
-    Head {
-        kind,
-        flags: 0,
-        figure,
-        scale,
-        quad: 0,
-        first: 0,
-        next: 0,
-        name: 0,
-        nlen: 0,
-        last: 0,
-    }
-}
-
-// What a step says of two types without parts. As neither has a zone, a Timestamp has none.
-fn joint_of(step: Step, x: Head, y: Head) -> Joint
-    requires { ⌜ Bounded x × Bounded y ⌝ }
+// What a step says of two such types. As neither has a zone, a Timestamp has none.
+fn joint_of(step: Step, x: Leaf, y: Leaf) -> Joint
+    requires { ⌜ (x .size < 4294967296) × (y .size < 4294967296) ⌝ }
     ensures { λ o. ⌜ Says step x y o ⌝ }
 {
     match step {
-        Step::Lay(f) => Joint::Of(head_for(f.kind, f.figure, f.scale)),
-        Step::Stamp(unit) => Joint::Of(head_for(22, unit, 0)),
+        Step::Lay(f) => Joint::Of(Leaf {
+            kind: f.kind,
+            figure: f.figure,
+            scale: f.scale,
+            size: 0,
+        }),
+        Step::Stamp(unit) => Joint::Of(Leaf {
+            kind: 22,
+            figure: unit,
+            scale: 0,
+            size: 0,
+        }),
         Step::Left => Joint::Of(x),
         Step::Right => Joint::Of(y),
         Step::Nothing => Joint::Nothing,
     }
 }
 
-// The common type of two types without parts.
-pub(crate) fn common_type(question: Question, mask: u64, x: Head, y: Head) -> Joint
-    requires { ⌜ Bounded x × Bounded y ⌝ }
+// The common type of two such types.
+pub(crate) fn common_type(question: Question, mask: u64, x: Leaf, y: Leaf) -> Joint
+    requires { ⌜ (x .size < 4294967296) × (y .size < 4294967296) ⌝ }
     ensures { λ o. ⌜ Joins (coercion (rulesOf question mask)) x y o ⌝ }
 {
     if is_same(x, y) {
         return Joint::Of(x);
     }
-    joint_of(plain(question, mask, x, y), x, y)
+    joint_of(
+        plain_step(question, mask, figures_of(x), figures_of(y)),
+        x,
+        y,
+    )
 }
 
-// Writes the type that a head says where a candidate stands.
-pub(crate) fn lay_front(work: &mut [u8], space: Space, h: Head) -> Spot
-    requires { ⌜ Room (now work) space × ((1 < space .n) × Bounded h) ⌝ }
-    ensures { λ d. ⌜ Fronted space (now (work .entry)) (now (work .exit)) h d ⌝ }
+// Writes such a type where a candidate stands.
+pub(crate) fn lay_front(work: &mut [u8], space: Space, x: Leaf) -> Spot
+    requires { ⌜ Room (now work) space × ((1 < space .n) × (x .size < 4294967296)) ⌝ }
+    ensures { λ d. ⌜ Fronted space (now (work .entry)) (now (work .exit)) x d ⌝ }
 {
     let g = Goal {
         at: 1,
@@ -99,10 +129,10 @@ pub(crate) fn lay_front(work: &mut [u8], space: Space, h: Head) -> Spot
         nlen: 0,
         nullable: false,
     };
-    let kind = h.kind;
-    let figure = h.figure;
-    let scale = h.scale;
-    let size = h.quad;
+    let kind = x.kind;
+    let figure = x.figure;
+    let scale = x.scale;
+    let size = x.size;
     lay(work, space, g, kind, figure, scale, size, false, 0);
     Spot { at: 2, label: 0 }
 }
@@ -113,7 +143,7 @@ pub(crate) fn lay_joint(work: &mut [u8], space: Space, joint: Joint) -> Out
     ensures { λ o. ⌜ JointLaid space (now (work .entry)) (now (work .exit)) joint o ⌝ }
 {
     match joint {
-        Joint::Of(h) => Out::Done(lay_front(work, space, h)),
+        Joint::Of(x) => Out::Done(lay_front(work, space, x)),
         Joint::Nothing => Out::No,
     }
 }

@@ -13,7 +13,7 @@ use Rattle.coercion.specs.Data.{DataType, size, mayBecome}
 use Rattle.buffers.specs.Writes.{side}
 use Rattle.buffers.specs.Typed.{Typed}
 use Rattle.buffers.specs.declared.Space.{Space}
-use Rattle.buffers.proofs.Steps.{kind-low}
+use Rattle.buffers.proofs.Steps.{kind-low, reads-figured}
 use Rattle.buffers.proofs.Fielding.{typed-reads}
 use Rattle.wrappers.specs.Ways.{isWrapper, wrappersOf, isNullCore, allows, meets, mayMerge, dictionaryMay}
 use Rattle.wrappers.specs.Walks.{Core, Tells, TellsBoth, wayOf, Way}
@@ -66,7 +66,7 @@ module _ {s : List ℕ} {l k : ℕ} {w : Bool} (ek : k ≡ headAt s l .kind) (ew
   core-found z h = record { is = λ space x a q. sym (bare-core (x .shape) (x .parts) (typed-wrapper a ∙ z) ∙ kind-of ek a); low = h }
 
   pub core-strange : {left : ℕ} → 64 ≤ k → Core left s l 0
-  core-strange h = record { is = λ space x a q. absurd (omega (arith, kind-low (typed-reads a refl))); low = omega arith }
+  core-strange h = record { is = λ space x a q. absurd (omega (arith, kind-low (reads-figured refl (typed-reads a refl)))); low = omega arith }
 
 pub core-spent : (left : ℕ) (s : List ℕ) (l : ℕ) → left ≡ 0 → Core left s l 0
 core-spent left s l e = record { is = λ space x a h. absurd (omega arith); low = omega arith }

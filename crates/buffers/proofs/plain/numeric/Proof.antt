@@ -8,16 +8,7 @@ use Rattle.buffers.proofs.plain.numeric.Tie as tie
 use Rattle.buffers.proofs.plain.numeric.Reads as reads
 use Rattle.buffers.proofs.plain.numeric.Lts as lts
 use Rattle.numeric.proofs.numbers.binary_numeric_coercion.Reads as binary-numeric-coercion-reads
-use Rattle.buffers.proofs.plain.figures.Reads as figures-reads
 use Rattle.buffers.proofs.plain.of_common.Reads as of-common-reads
-
--- src/plain.rt:140:39
-figures-requires : tie.Need-figures-requires
-figures-requires c κs = search needs
-
--- src/plain.rt:140:51
-figures-requires-2 : tie.Need-figures-requires-2
-figures-requires-2 c κs = search needs
 
 -- src/plain.rt:140:15
 binary-numeric-coercion-requires : tie.Need-binary-numeric-coercion-requires
@@ -30,14 +21,12 @@ of-common-requires c κs = search needs
 -- src/plain.rt:137:1
 returns : tie.Need-returns
 returns c =
-    λ l r p q. (c .of-common .ensures) l r ∙ ap asType ((c .before .binary-numeric-coercion .ensures) ∙ sym (ap₂ binaryNumericCoercion (figures-read p (c .before .before .before .figures .ensures)) (figures-read q (c .before .before .figures2 .ensures))))
+    λ l r p q. (c .of-common .ensures) l r ∙ ap asType ((c .before .binary-numeric-coercion .ensures) ∙ sym (ap₂ binaryNumericCoercion (figures-read p) (figures-read q)))
 
 pub numeric-spec : {M : Type 1} → statement M
 numeric-spec =
     tie.close
     (tie.spec
-    figures-requires
-    figures-requires-2
     binary-numeric-coercion-requires
     of-common-requires
     returns)

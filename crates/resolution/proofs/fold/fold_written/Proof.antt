@@ -9,19 +9,19 @@ use Rattle.resolution.proofs.fold.fold_written.Lts as lts
 use Rattle.resolution.proofs.fold.fold_from.Reads as fold-from-reads
 use Rattle.resolution.proofs.value.lay_front.Reads as lay-front-reads
 
--- src/fold.rt:173:9
+-- src/fold.rt:175:9
 lay-front-requires : tie.Need-lay-front-requires
 lay-front-requires c κs = search needs
 
--- src/fold.rt:174:5
+-- src/fold.rt:176:5
 fold-from-requires : tie.Need-fold-from-requires
 fold-from-requires c κs = search needs
 
--- src/fold.rt:161:1
+-- src/fold.rt:163:1
 same-length : tie.Need-same-length
 same-length c = search needs
 
--- src/fold.rt:161:1
+-- src/fold.rt:163:1
 returns : tie.Need-returns
 returns c =
     folds-written (rulesOf Question.List _) (c .before .before .before .before .before .before .lay-front .ensures) (c .before .before .fold-from .ensures)

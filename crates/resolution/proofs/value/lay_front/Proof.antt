@@ -6,18 +6,18 @@ use Rattle.resolution.proofs.value.lay_front.Reads as reads
 use Rattle.resolution.proofs.value.lay_front.Lts as lts
 use Rattle.buffers.proofs.lay.lay.Reads as lay-reads
 
--- src/value.rt:106:5
+-- src/value.rt:136:5
 lay-requires : tie.Need-lay-requires
 lay-requires c κs = search needs
 
--- src/value.rt:92:1
+-- src/value.rt:122:1
 same-length : tie.Need-same-length
 same-length c = search needs
 
--- src/value.rt:92:1
+-- src/value.rt:122:1
 returns : tie.Need-returns
 returns c =
-    fronted (c .before .before .before .before .before .args .space) _ _ (c .before .before .before .before .before .args .h) (c .before .before .before .before .before .pre .0) (c .before .before .before .before .before .pre .1 .0) (c .before .before .lay .ensures)
+    fronted (c .before .before .before .before .before .args .space) _ _ (c .before .before .before .before .before .args .x) (c .before .before .before .before .before .pre .0) (c .before .before .before .before .before .pre .1 .0) (c .before .before .lay .ensures)
 
 pub lay-front-spec : {M : Type 1} → statement M
 lay-front-spec = tie.close (tie.spec lay-requires same-length returns)
