@@ -28,7 +28,7 @@ use Rattle.buffers.specs.declared.Question.the-variants as Question
 use Rattle.buffers.specs.declared.Out.{Out}
 use Rattle.buffers.specs.declared.Out.the-variants.{Done, No, Full}
 use Rattle.merge.proofs.Orders.{ask-turns, bare-turns, plain-turns}
-use Rattle.merge.proofs.Merging.{typed-same, known-as, as-known, merges-left, merges-none}
+use Rattle.merge.proofs.Merging.{typed-same, any-known, known-as, as-known, merges-left, merges-none}
 use Rattle.wrappers.proofs.Values.{kind-of}
 
 -- the rules of a question that looks at names, and of one that does not
@@ -53,8 +53,7 @@ module _ (question : Question) (mask : ℕ) (space : Space) (left : ℕ) (swap :
   names = isListQuestion (asked question)
 
   pub coerce-spent : {known : Bool} → left ≡ 0 → MergesKnown known names both space left swap s w w l r g No
-  coerce-spent {known} e =
-      as-known both space swap s w w l r g No known left (omega arith) (λ x y a b d. refl) (merges-none both space left swap s w l r g (λ x y a b q. absurd (omega arith)))
+  coerce-spent {known} e = any-known known swap (merges-none both space left swap s w l r g (λ x y a b q. absurd (omega arith)))
 
   module _ {known flag e : Bool} (ef : flag ≡ names) (same : SameKnown known flag space (side swap s w) l (side (not swap) s w) r e) where
     told : (x y : DataType) → Typed space (side swap s w) l x → Typed space (side (not swap) s w) r y → Differ known names x y → e ≡ sameType names x y

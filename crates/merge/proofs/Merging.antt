@@ -1,6 +1,6 @@
 -- Two types that were merged, by one rule and by another. Assumes nothing.
 use mathlib.Core.Path.{_≡_, refl, ap, sym, subst, subst₂, _∙_}
-use mathlib.Core.Bool.{Bool, true, false, not}
+use mathlib.Core.Bool.{Bool, true, false, not, _&&_}
 use mathlib.Core.List.{List, [], _++_}
 use mathlib.Core.Logic.{_⊎_, inl, inr, ⊎-elim}
 use mathlib.Core.Option.{Option, none, some}
@@ -15,15 +15,15 @@ use Rattle.sheet.proofs.Repeating.{head-is}
 use Rattle.coercion.specs.Data.{DataType, Rules, size, single}
 use Rattle.coercion.specs.Answers.{coercion}
 use Rattle.coercion.proofs.Shorter.{coercion-smaller, coercion-shorter}
-use Rattle.sheet.proofs.Tests.{never, all-at, all-cons, all-nil}
+use Rattle.sheet.proofs.Tests.{never, and-fst, and-snd, all-at, all-cons, all-nil}
 use Rattle.coercion.specs.Same.{sameType}
 use Rattle.buffers.specs.Source.{Source, SameTypes}
 use Rattle.buffers.specs.Writes.{side}
 use Rattle.buffers.specs.Region.{Room, Kept, Held, Inside, Ready, Wrote}
 use Rattle.buffers.specs.Goal.{letters, NoRoom, Means, Writes, CopiedType}
 use Rattle.buffers.specs.Typed.{Chain, Typed, Merges}
-use Rattle.buffers.specs.Part.{sameButPart, LoneParts}
-use Rattle.merge.specs.Merge.{Differ, MergesKnown}
+use Rattle.buffers.specs.Part.{sameButPart, sameFirst, LoneParts}
+use Rattle.merge.specs.Merge.{Differ, DifferInPart, MergesKnown}
 use Rattle.buffers.specs.declared.Space.{Space}
 use Rattle.buffers.specs.declared.Goal.{Goal}
 use Rattle.buffers.specs.declared.Out.{Out}
@@ -34,6 +34,7 @@ use Rattle.buffers.proofs.Copying.{held-side}
 use Rattle.buffers.proofs.Laying.{no-record}
 use Rattle.buffers.proofs.Fielding.{typed-reads}
 use Rattle.buffers.proofs.Stamping.{means-more}
+use Rattle.buffers.proofs.Parting.{part-differ}
 use Rattle.wrappers.proofs.Values.{side-twice}
 
 -- what a source holds stays while the second half is written
@@ -58,15 +59,32 @@ typed-same named f a b =
     f _ _ _ _ _ _ _ _ _ _ _ _ _ _ _ _ (source-lower 0 (omega arith) (a .chain .held .source)) (source-lower 0 (omega arith) (b .chain .held .source))
 
 -- two types that were compared but for the type of their part
-pub typed-lone : {space : Space} {s t : List ℕ} {i j : ℕ} (named : Bool) {e : Bool} {x y : DataType} → LoneParts s (space .n) i t (space .n) j named e → Typed space s i x → Typed space t j y
-    → e ≡ sameButPart named x y
-typed-lone named f a b =
-    f _ _ _ _ _ _ _ _ _ _ _ _ _ _ _ _ (source-lower 0 (omega arith) (a .chain .held .source)) (source-lower 0 (omega arith) (b .chain .held .source))
+pub in-part : {space : Space} {s t : List ℕ} {l r : ℕ} {known flag e : Bool} (named : Bool) → known ≡ true → flag ≡ named → LoneParts s (space .n) l t (space .n) r flag e
+    → DifferInPart known named space s l t r e
+in-part named k ef f x y a b =
+    rw (k, sym ef) (f _ _ _ _ _ _ _ _ _ _ _ _ _ _ _ _ (source-lower 0 (omega arith) (a .chain .held .source)) (source-lower 0 (omega arith) (b .chain .held .source)))
+
+-- the types of the first parts of two types differ, where the two differ in the type of their one part
+pub parts-differ : {space : Space} {s t : List ℕ} {l r : ℕ} (known named : Bool) {e : Bool} → DifferInPart known named space s l t r e
+    → {x y : DataType} → Typed space s l x → Typed space t r y → Differ known named x y → e ≡ true → (sameButPart named x y ≡ true) × (sameFirst named (x .parts) (y .parts) ≡ false)
+parts-differ known named f {x} {y} a b d k =
+    let h = sym (f x y a b) ∙ k in
+    let e = and-snd known (sameButPart named x y) h in
+    (e, part-differ named x y e (d (and-fst known (sameButPart named x y) h)))
 
 -- the same meaning, for more room
 pub means-for : (space : Space) (w v : List ℕ) (g : Goal) {z y : ℕ} (z′ y′ : ℕ) (o : Out) {m m′ : Option DataType} → z ≤ z′ → y ≤ y′ → m ≡ m′ → Means space w v g z y o m
     → Means space w v g z′ y′ o m′
 means-for space w v g {z} {y} z′ y′ o {m} p q e a = subst (Means space w v g z′ y′ o) e (means-more space w v g z y z′ y′ o m p q a)
+
+-- two types of which something may be known, and of which nothing is
+pub any-known : (known : Bool) {named : Bool} {A : DataType → DataType → Option DataType} {space : Space} {left : ℕ} (swap : Bool) {s w v : List ℕ} {l r : ℕ} {g : Goal} {o : Out}
+    → Merges A space left swap s w v l r g o → MergesKnown known named A space left swap s w v l r g o
+any-known known swap m = record { writes = m .writes; means = λ x y a b q d. m .means x y a b q }
+
+pub none-known : {named : Bool} {A : DataType → DataType → Option DataType} {space : Space} {left : ℕ} (swap : Bool) {s w v : List ℕ} {l r : ℕ} {g : Goal} {o : Out}
+    → MergesKnown false named A space left swap s w v l r g o → Merges A space left swap s w v l r g o
+none-known swap m = record { writes = m .writes; means = λ x y a b q. m .means x y a b q (λ k. never k) }
 
 module _ {A : DataType → DataType → Option DataType} (B : DataType → DataType → Option DataType) (space : Space) (swap : Bool) (s w v : List ℕ) (l r : ℕ) (g : Goal) (o : Out) where
   -- a rule that says the same of the types at hand, where no more records are left in them
@@ -99,7 +117,7 @@ module _ {A : DataType → DataType → Option DataType} (B : DataType → DataT
   pub as-known : (known : Bool) {named : Bool} {left : ℕ} (left′ : ℕ) → left′ ≤ left
       → ((x y : DataType) → Typed space (side swap s w) l x → Typed space (side (not swap) s w) r y → Differ known named x y → A x y ≡ B x y)
       → Merges A space left swap s w v l r g o → MergesKnown known named B space left′ swap s w v l r g o
-  as-known known left′ h f m = known-as {known = false} known left′ h (λ x y a b d. (f x y a b d, λ k. never k)) (record { writes = m .writes; means = λ x y a b q d. m .means x y a b q })
+  as-known known left′ h f m = known-as {known = false} known left′ h (λ x y a b d. (f x y a b d, λ k. never k)) (any-known false swap m)
 
   -- the sides exchanged
   pub merges-swapped : (left : ℕ) → ((x y : DataType) → Typed space (side swap s w) l x → Typed space (side (not swap) s w) r y → A y x ≡ B x y)
@@ -112,11 +130,6 @@ module _ {A : DataType → DataType → Option DataType} (B : DataType → DataT
             means-for space w v g (size x + size y) (letters x + letters y) o (omega arith) (omega arith) (f x y a b)
             (m .means y x b (subst (λ (u : List ℕ). Typed space u l x) (sym (side-twice swap s w)) a) (omega arith));
       }
-
--- two types of which nothing is known
-pub none-known : {named : Bool} {A : DataType → DataType → Option DataType} {space : Space} {left : ℕ} (swap : Bool) {s w v : List ℕ} {l r : ℕ} {g : Goal} {o : Out}
-    → MergesKnown false named A space left swap s w v l r g o → Merges A space left swap s w v l r g o
-none-known swap m = record { writes = m .writes; means = λ x y a b q. m .means x y a b q (λ k. never k) }
 
 module _ (B : DataType → DataType → Option DataType) (space : Space) (left : ℕ) (swap : Bool) (s w : List ℕ) (l r : ℕ) (g : Goal) where
   -- the left type as it is

@@ -23,7 +23,8 @@ use Rattle.buffers.specs.Region.{Room, region, Kept, Grows, Ready, Named, Passe
 use Rattle.buffers.specs.Goal.{letters, spotOf, fieldFor, Means, Writes, Laid, typeOf, shapeFor}
 use Rattle.merge.specs.Turns.{bothWrapped, mapRule}
 use Rattle.buffers.specs.Typed.{Chain, Typed, Merges, ChainIs, goalAt, NamedAt}
-use Rattle.merge.specs.Merge.{MergesField, fieldOf, Rowed, Under}
+use Rattle.buffers.specs.Part.{sameFirst}
+use Rattle.merge.specs.Merge.{DifferInPart, MergesKnown, MergesField, fieldOf, Rowed, Under}
 use Rattle.buffers.specs.declared.Space.{Space}
 use Rattle.buffers.specs.declared.Spot.{Spot}
 use Rattle.buffers.specs.declared.Goal.{Goal}
@@ -36,7 +37,7 @@ use Rattle.buffers.proofs.Frames.{stands-frame, kept-trans, kept-wider}
 use Rattle.buffers.proofs.Chained.{labels-sum}
 use Rattle.buffers.proofs.Laying.{no-record}
 use Rattle.wrappers.proofs.Values.{chain-first}
-use Rattle.merge.proofs.Merging.{chain-side, typed-side, chain-some, means-for, merges-none}
+use Rattle.merge.proofs.Merging.{chain-side, typed-side, chain-some, parts-differ, means-for, any-known, merges-none}
 use Rattle.buffers.proofs.Rows.{chain-end, chain-link, chain-typed, chain-nullable}
 use Rattle.buffers.proofs.Fielding.{name-length}
 
@@ -189,24 +190,24 @@ module _ {named : Bool} (c : DataType → DataType → Option DataType) (space :
 -- a field that was merged with a type: its name, and then its type
 module _ (A : DataType → DataType → Option DataType) (space : Space) (left : ℕ) (swap : Bool) (s w : List ℕ) (l r : ℕ) (to : Spot) (h : Head) (eh : h ≡ headAt (side swap s w) l)
     (v : List ℕ) (b : Bool) (named : NamedAt space (side swap s w) w v h to b) where
-  pub field-crowded : b ≡ false → MergesField A space left swap s w v l r to Full
+  pub field-crowded : {known by-names : Bool} → b ≡ false → MergesField known by-names A space left swap s w v l r to Full
   field-crowded z =
       record {
         kept = named .kept;
         grows = tt;
-        means = λ name nullable x y rest a t q. inr (omega (arith, named .full z, name-length a h eh));
+        means = λ name nullable x y rest a t q d. inr (omega (arith, named .full z, name-length a h eh));
       }
 
-  pub field-merged : (u : List ℕ) (o : Out) (own : Bool) → Room w space → b ≡ true → own ≡ nullableIn h → Merges A space left swap s v u l r (goalAt to (h .nlen) own) o
-      → MergesField A space left swap s w u l r to o
+  pub field-merged : {known by-names : Bool} (u : List ℕ) (o : Out) (own : Bool) → Room w space → b ≡ true → own ≡ nullableIn h → MergesKnown known by-names A space left swap s v u l r (goalAt to (h .nlen) own) o
+      → MergesField known by-names A space left swap s w u l r to o
   field-merged u o own room z eo m =
       record {
         kept = kept-trans (named .kept) (kept-wider (to .at) (to .label) (omega arith) (omega arith) (m .writes .kept));
         grows = grown o (m .writes .passes);
         means =
-            λ name nullable x y rest a t q.
+            λ name nullable x y rest a t q d.
             told name nullable _ (letters x) (letters y) o (A x y) (sym (name-length a h eh)) (eo ∙ chain-nullable a h eh) (named .named z l name nullable own (x .shape) (x .parts) rest a eh)
-            (m .means x y (chain-typed (chain-side swap space s w v (to .at) (to .label) room (named .kept) a)) (typed-side (not swap) space s w v (to .at) (to .label) room (named .kept) t) q);
+            (m .means x y (chain-typed (chain-side swap space s w v (to .at) (to .label) room (named .kept) a)) (typed-side (not swap) space s w v (to .at) (to .label) room (named .kept) t) q d);
       }
     where
       grown : (o : Out) → Passes space (goalAt to (h .nlen) own) o → Grows space to o
@@ -225,14 +226,14 @@ module _ (A : DataType → DataType → Option DataType) (space : Space) (left :
 -- two maps
 module _ (c : DataType → DataType → Option DataType) (space : Space) (left : ℕ) (swap : Bool) (s w : List ℕ) (l r : ℕ) (g : Goal) (h k : Head)
     (eh : h ≡ headAt (side swap s w) l) (ek : k ≡ headAt (side (not swap) s w) r) where
-  pub map-left-end : h .first ≡ 0 → Merges (mapRule c) space left swap s w w l r g No
-  map-left-end z = merges-none (mapRule c) space left swap s w l r g (λ x y a b q. go x y (chain-end z (chain-first h eh (a .chain))))
+  pub map-left-end : {known by-names : Bool} → h .first ≡ 0 → MergesKnown known by-names (mapRule c) space left swap s w w l r g No
+  map-left-end {known} z = any-known known swap (merges-none (mapRule c) space left swap s w l r g (λ x y a b q. go x y (chain-end z (chain-first h eh (a .chain)))))
     where
       go : (x y : DataType) → x .parts ≡ end → none ≡ mapRule c x y
       go x y e = rw e refl
 
-  pub map-right-end : k .first ≡ 0 → Merges (mapRule c) space left swap s w w l r g No
-  map-right-end z = merges-none (mapRule c) space left swap s w l r g (λ x y a b q. go (x .parts) x y (chain-end z (chain-first k ek (b .chain))))
+  pub map-right-end : {known by-names : Bool} → k .first ≡ 0 → MergesKnown known by-names (mapRule c) space left swap s w w l r g No
+  map-right-end {known} z = any-known known swap (merges-none (mapRule c) space left swap s w l r g (λ x y a b q. go (x .parts) x y (chain-end z (chain-first k ek (b .chain)))))
     where
       go : (f : Fields) (x y : DataType) → y .parts ≡ end
           → _≡_ {A = Option DataType} none (andThen (entryType f) (λ a. andThen (entryType (y .parts))
@@ -247,7 +248,8 @@ module _ (c : DataType → DataType → Option DataType) (space : Space) (left :
 
   module _ (room : Room w space) (ready : Ready space g) (lt : g .at < space .n) (v u : List ℕ) (o : Out) (sorted : Bool) (es : sorted ≡ (sortedIn h && sortedIn k))
       (some-left : ¬ (h .first ≡ 0)) (some-right : ¬ (k .first ≡ 0)) (laid : Laid space w v g (shapeFor 36 0 0 0 sorted) (g .at + 1))
-      (m : MergesField (structCoercion c) space left swap s v u (h .first) (k .first) (after g) o) where
+      (known named : Bool) {apart : Bool}
+      (fp : DifferInPart known named space (side swap s w) l (side (not swap) s w) r apart) (m : MergesField apart named (structCoercion c) space left swap s v u (h .first) (k .first) (after g) o) where
     linked : (n : List ℕ) (b : Bool) (t : Option DataType) → If (λ parts. g .at + 1 ≡ linkTo (g .at + 1) parts) (fieldOf n b t)
     linked n b none = tt
     linked n b (some t) = refl
@@ -262,13 +264,13 @@ module _ (c : DataType → DataType → Option DataType) (space : Space) (left :
     over way a = chain-side way space s w v (g .at) (g .label + g .nlen) room (laid .kept) a
 
     entries : {sx : Bool} (f f′ : Fields) → sorted ≡ sx → Chain space (side swap s w) (h .first) f → Chain space (side (not swap) s w) (k .first) f′
-        → 1 + count f + (1 + count f′) ≤ left
+        → 1 + count f + (1 + count f′) ≤ left → (apart ≡ true → sameFirst named f f′ ≡ false)
         → Means space w u g (1 + count f + (1 + count f′)) (length (labels f) + length (labels f′)) o
         (andThen (entryType f) (λ a. andThen (entryType f′) (λ b. andThen (structCoercion c a b) (λ t. some (record { shape = mapShape sx; parts = entryOf f t })))))
-    unfolding count
-    entries end f′ e a b q = absurd (some-left (chain-link refl a))
-    entries (field n nb sh p more) end e a b q = absurd (some-right (chain-link refl b))
-    entries (field n nb sh p more) (field n′ nb′ sh′ p′ more′) e a b q =
+    unfolding count sameFirst
+    entries end f′ e a b q d = absurd (some-left (chain-link refl a))
+    entries (field n nb sh p more) end e a b q d = absurd (some-right (chain-link refl b))
+    entries (field n nb sh p more) (field n′ nb′ sh′ p′ more′) e a b q d =
         let x = typeOf sh p in
         let y = typeOf sh′ p′ in
         let l₀ = labels-sum n nb sh p more in
@@ -277,14 +279,14 @@ module _ (c : DataType → DataType → Option DataType) (space : Space) (left :
         let l₃ = length-append n′ (zoneBytes (sh′ .zone)) in
         means-for space w u g _ _ o (omega arith) (omega arith) (shaped n nb sh p more (structCoercion c x y) e)
         (parent-means u _ _ o (fieldOf n nb (structCoercion c x y)) (parent-laid laid) (linked n nb (structCoercion c x y)) (m .kept)
-        (m .means n nb x y more (over swap a) (chain-typed (over (not swap) b)) (omega arith)))
+        (m .means n nb x y more (over swap a) (chain-typed (over (not swap) b)) (omega arith) d))
 
-    pub map-on : Merges (mapRule c) space left swap s w u l r g o
+    pub map-on : MergesKnown known named (mapRule c) space left swap s w u l r g o
     map-on =
         record {
           writes = writes-on g o (laid .kept) (after-passes g ready lt) (m .kept) (m .grows);
           means =
-              λ x y a b q.
+              λ x y a b q d.
               means-for space w u g (size x + size y) (letters x + letters y) o (omega arith) (omega arith) refl
-              (entries (x .parts) (y .parts) (es ∙ ap₂ _&&_ (sorted-is h eh a) (sorted-is k ek b)) (chain-first h eh (a .chain)) (chain-first k ek (b .chain)) q);
+              (entries (x .parts) (y .parts) (es ∙ ap₂ _&&_ (sorted-is h eh a) (sorted-is k ek b)) (chain-first h eh (a .chain)) (chain-first k ek (b .chain)) q (λ k. parts-differ known named fp a b d k .1));
         }

@@ -1,25 +1,28 @@
 -- Two structs that were merged, by name or by place. Assumes nothing.
 use mathlib.Core.Path.{_≡_, refl, ap, ap₂, sym, _∙_}
-use mathlib.Core.Bool.{Bool, true, false, not, _&&_}
+use mathlib.Core.Bool.{Bool, true, false, cond, not, _&&_}
 use mathlib.Core.List.{List}
-use mathlib.Core.Option.{Option, none, some}
+use mathlib.Core.Option.{Option, none, some, Option·some-injective}
 use Prim.Native.Nat.{ℕ, _+_}
 use native.Mathlib.Omega.{arith}
 use lib.Dec.{eqb}
 use borrow.Author.Tests.{eq-eqb, eqb-true, not-true}
-use Rattle.sheet.specs.Types.{Fields, arity}
+use Rattle.sheet.specs.Tests.{allOf}
+use Rattle.sheet.specs.Types.{Fields, end, field, arity}
 use Rattle.sheet.specs.Head.{headAt}
-use Rattle.sheet.specs.Names.{repeats, namesDiffer}
+use Rattle.sheet.specs.Names.{sameBytes, repeats, namesDiffer}
 use Rattle.sheet.specs.declared.Head.{Head}
 use Rattle.sheet.proofs.Tests.{never, all-at, and-fst, and-snd}
 use Rattle.coercion.specs.Data.{DataType, size}
 use Rattle.coercion.specs.Wrappers.{isOf}
-use Rattle.coercion.specs.Nested.{joinFields, byName, fieldsHaveSameNames, partners, listOf, structOf, structCoercion}
+use Rattle.coercion.specs.Same.{sameShape}
+use Rattle.coercion.specs.Nested.{joinFields, withName, byName, fieldsHaveSameNames, partners, listOf, structOf, structCoercion}
 use Rattle.coercion.specs.Answers.{listStruct}
 use Rattle.buffers.specs.Writes.{side}
 use Rattle.buffers.specs.Goal.{letters, shapeFor}
-use Rattle.buffers.specs.Typed.{Typed, Merges}
-use Rattle.merge.specs.Merge.{Under}
+use Rattle.buffers.specs.Typed.{Typed}
+use Rattle.buffers.specs.Part.{sameLone, sameButPart, sameFirst}
+use Rattle.merge.specs.Merge.{DifferInPart, MergesKnown, Under}
 use Rattle.buffers.specs.declared.Space.{Space}
 use Rattle.buffers.specs.declared.Goal.{Goal}
 use Rattle.buffers.specs.declared.Out.{Out}
@@ -27,7 +30,7 @@ use Rattle.buffers.specs.declared.Out.the-variants.{No}
 use Rattle.buffers.specs.declared.Feed.the-variants as Feed
 use Rattle.buffers.proofs.Chained.{held-first}
 use Rattle.wrappers.proofs.Values.{chain-first}
-use Rattle.merge.proofs.Merging.{means-for, merges-none}
+use Rattle.merge.proofs.Merging.{parts-differ, means-for, any-known, merges-none}
 use Rattle.buffers.proofs.Naming.{Asks, sameArity, names-found, names-missing, by-name-fits, end-self}
 use Rattle.buffers.proofs.Fielding.{typed-reads}
 
@@ -40,6 +43,25 @@ struct-differ {t = t} e a =
 struct-list : (o : Option Fields) → listOf (shapeFor 35 0 0 0 false) o ≡ structOf o
 struct-list none = refl
 struct-list (some fields) = refl
+
+-- of two chains that have a field each, the one of a name
+lone-found : (named : Bool) (a b tf : Fields) → sameLone named a b ≡ true → byName a b ≡ some tf → sameFirst named a tf ≡ sameFirst named a b
+unfolding sameLone sameFirst byName withName arity allOf
+lone-found named end b tf e f = refl
+lone-found named (field n c s p q) end tf e f = never e
+lone-found named (field n c s p end) (field n′ c′ s′ p′ end) tf e f = go (sameBytes n n′) f
+  where
+    go : (b : Bool) → cond b (some (field n′ c′ s′ p′ end)) none ≡ some tf → sameFirst named (field n c s p end) tf ≡ sameFirst named (field n c s p end) (field n′ c′ s′ p′ end)
+    go true f = rw (sym (Option·some-injective _ _ f))
+    go false f = let z : _≡_ {A = ℕ} 0 1 = cc in absurd (omega arith)
+lone-found named (field n c s p end) (field n′ c′ s′ p′ (field n₂ c₂ s₂ p₂ q₂)) tf e f = absurd (omega (arith, eqb-true (0 + (1 + arity q₂)) 0 (and-fst (eqb (0 + (1 + arity q₂)) 0) _ e)))
+lone-found named (field n c s p (field n₁ c₁ s₁ p₁ q₁)) (field n′ c′ s′ p′ q′) tf e f = absurd (omega (arith, eqb-true (1 + arity q₁ + arity q′) 0 (and-fst (eqb (1 + arity q₁ + arity q′) 0) _ e)))
+
+-- two types that differ in the type of their one part differ in it by name too
+found-differ : (named : Bool) (x y : DataType) (tf : Fields) → (sameButPart named x y ≡ true) × (sameFirst named (x .parts) (y .parts) ≡ false) → byName (x .parts) (y .parts) ≡ some tf
+    → sameFirst named (x .parts) tf ≡ false
+unfolding sameButPart
+found-differ named x y tf e f = lone-found named (x .parts) (y .parts) tf (and-snd (sameShape (x .shape) (y .shape)) _ (e .0)) f ∙ e .1
 
 -- two Structs of one arity whose fields have the same names
 struct-by-name : (c : DataType → DataType → Option DataType) (X Y : DataType) (tf : Fields) → (isOf 35 X && (isOf 35 Y && eqb (arity (X .parts)) (arity (Y .parts)))) ≡ true
@@ -72,22 +94,23 @@ module _ (c : DataType → DataType → Option DataType) (space : Space) (left :
     right-kind h = typed-reads b ey .kind ∙ eqb-true (y .kind) 35 (and-snd (eqb (x .kind) 35) _ (and-fst _ alike h))
 
   -- no common type
-  pub struct-none : ((eqb (x .kind) 35 && eqb (y .kind) 35) && alike) ≡ false → Merges (structCoercion c) space (left + 1) swap s w w l r g No
+  pub struct-none : {known by-names : Bool} → ((eqb (x .kind) 35 && eqb (y .kind) 35) && alike) ≡ false → MergesKnown known by-names (structCoercion c) space (left + 1) swap s w w l r g No
   unfolding structCoercion
-  struct-none h = merges-none (structCoercion c) space (left + 1) swap s w l r g (λ X Y a b q. rw (kinds a b ∙ h) refl)
+  struct-none {known} h = any-known known swap (merges-none (structCoercion c) space (left + 1) swap s w l r g (λ X Y a b q. rw (kinds a b ∙ h) refl))
 
   module _ {named : Bool} (fn : Asks fieldsHaveSameNames space (side swap s w) (side (not swap) s w) l (x .first) (y .first) named) where
     names : {X Y : DataType} → Typed space (side swap s w) l X → Typed space (side (not swap) s w) r Y → named ≡ fieldsHaveSameNames (X .parts) (Y .parts)
     names {X} {Y} a b = fn _ _ _ (X .parts) (Y .parts) (held-first (a .chain .held) x ex) (chain-first y ey (b .chain))
 
     module _ (h : ((eqb (x .kind) 35 && eqb (y .kind) 35) && alike) ≡ true) (v : List ℕ) (o : Out) where
-      pub struct-named : {by-names : Bool} → named ≡ true → Under false by-names c space left swap s w v Feed.Name (shapeFor 35 0 0 0 false) (x .first) (y .first) (y .first) g o
-          → Merges (structCoercion c) space (left + 1) swap s w v l r g o
-      struct-named e u =
+      pub struct-named : (known by-names : Bool) {apart : Bool} → DifferInPart known by-names space (side swap s w) l (side (not swap) s w) r apart
+          → named ≡ true → Under apart by-names c space left swap s w v Feed.Name (shapeFor 35 0 0 0 false) (x .first) (y .first) (y .first) g o
+          → MergesKnown known by-names (structCoercion c) space (left + 1) swap s w v l r g o
+      struct-named known by-names fp e u =
           record {
             writes = u .writes;
             means =
-                λ X Y a b q.
+                λ X Y a b q d.
                 let n = sym (names a b) ∙ e in
                 let f = names-found (X .parts) (Y .parts) n in
                 let right = chain-first y ey (b .chain) in
@@ -96,39 +119,41 @@ module _ (c : DataType → DataType → Option DataType) (space : Space) (left :
                 (struct-by-name c X Y (f .fields) (kinds a b ∙ h) n (f .is))
                 (u .means (X .parts) (Y .parts) (Y .parts) (f .fields) (f .fields) (chain-first x ex (a .chain)) right right
                 (f .is, (refl, ((end-self (Y .parts), struct-differ (right-kind a b h) b), sym (eqb-true _ _ (sym (arities a b) ∙ and-snd (eqb (x .kind) 35 && eqb (y .kind) 35) alike h)))))
-                (omega (arith, fits .0)) (λ k. never k));
+                (omega (arith, fits .0)) (λ k. found-differ by-names X Y (f .fields) (parts-differ known by-names fp a b d k) (f .is)));
           }
 
-      pub struct-placed : {by-names : Bool} → named ≡ false → Under false by-names c space left swap s w v Feed.Place (shapeFor 35 0 0 0 false) (x .first) (y .first) (y .first) g o
-          → Merges (structCoercion c) space (left + 1) swap s w v l r g o
+      pub struct-placed : (known by-names : Bool) {apart : Bool} → DifferInPart known by-names space (side swap s w) l (side (not swap) s w) r apart
+          → named ≡ false → Under apart by-names c space left swap s w v Feed.Place (shapeFor 35 0 0 0 false) (x .first) (y .first) (y .first) g o
+          → MergesKnown known by-names (structCoercion c) space (left + 1) swap s w v l r g o
       unfolding structCoercion partners
-      struct-placed e u =
+      struct-placed known by-names fp e u =
           record {
             writes = u .writes;
             means =
-                λ X Y a b q.
+                λ X Y a b q d.
                 let n = sym (names a b) ∙ e in
                 let right = chain-first y ey (b .chain) in
                 means-for space w v g (size X + size Y) (letters X + letters Y) o (omega arith) (omega arith)
                 (struct-list (joinFields c (X .parts) (Y .parts) (Y .parts)) ∙ rw (kinds a b ∙ h) (rw n refl))
-                (u .means (X .parts) (Y .parts) (Y .parts) (Y .parts) (Y .parts) (chain-first x ex (a .chain)) right right (refl, refl) (omega arith) (λ k. never k));
+                (u .means (X .parts) (Y .parts) (Y .parts) (Y .parts) (Y .parts) (chain-first x ex (a .chain)) right right (refl, refl) (omega arith) (λ k. parts-differ known by-names fp a b d k .1));
           }
 
     -- two structs of a list
-    pub listed-none : (alike && named) ≡ false → Merges (listStruct c) space (left + 1) swap s w w l r g No
-    listed-none h = merges-none (listStruct c) space (left + 1) swap s w l r g (λ X Y a b q. go alike refl X Y a b)
+    pub listed-none : {known by-names : Bool} → (alike && named) ≡ false → MergesKnown known by-names (listStruct c) space (left + 1) swap s w w l r g No
+    listed-none {known} h = any-known known swap (merges-none (listStruct c) space (left + 1) swap s w l r g (λ X Y a b q. go alike refl X Y a b))
       where
         go : (t : Bool) → alike ≡ t → (X Y : DataType) → Typed space (side swap s w) l X → Typed space (side (not swap) s w) r Y → none ≡ listStruct c X Y
         go true e X Y a b = rw (sym (arities a b) ∙ e) (rw (names-missing (X .parts) (Y .parts) (sym (names a b) ∙ rw e at h)) refl)
         go false e X Y a b = rw (sym (arities a b) ∙ e) refl
 
-    pub listed-merged : {by-names : Bool} → (alike && named) ≡ true → headAt (side swap s w) l .kind ≡ 35 → headAt (side (not swap) s w) r .kind ≡ 35 → (v : List ℕ) (o : Out)
-        → Under false by-names c space left swap s w v Feed.NameThenPlace (shapeFor 35 0 0 0 false) (x .first) (y .first) (y .first) g o → Merges (listStruct c) space (left + 1) swap s w v l r g o
-    listed-merged h k k′ v o u =
+    pub listed-merged : (known by-names : Bool) {apart : Bool} → DifferInPart known by-names space (side swap s w) l (side (not swap) s w) r apart
+        → (alike && named) ≡ true → headAt (side swap s w) l .kind ≡ 35 → headAt (side (not swap) s w) r .kind ≡ 35 → (v : List ℕ) (o : Out)
+        → Under apart by-names c space left swap s w v Feed.NameThenPlace (shapeFor 35 0 0 0 false) (x .first) (y .first) (y .first) g o → MergesKnown known by-names (listStruct c) space (left + 1) swap s w v l r g o
+    listed-merged known by-names fp h k k′ v o u =
         record {
           writes = u .writes;
           means =
-              λ X Y a b q.
+              λ X Y a b q d.
               let n = sym (names a b) ∙ and-snd alike named h in
               let f = names-found (X .parts) (Y .parts) n in
               let right = chain-first y ey (b .chain) in
@@ -136,5 +161,5 @@ module _ (c : DataType → DataType → Option DataType) (space : Space) (left :
               means-for space w v g (size X + size Y) (letters X + letters Y) o (omega (arith, fits .0)) (omega (arith, fits .1))
               (struct-list (joinFields c (X .parts) (f .fields) (Y .parts)) ∙ rw (sym (arities a b) ∙ and-fst alike named h) (rw (f .is) refl))
               (u .means (X .parts) (Y .parts) (Y .parts) (f .fields) (Y .parts) (chain-first x ex (a .chain)) right right
-              (f .is, (refl, (end-self (Y .parts), struct-differ (typed-reads b refl .kind ∙ k′) b))) (omega (arith, fits .0)) (λ k. never k));
+              (f .is, (refl, (end-self (Y .parts), struct-differ (typed-reads b refl .kind ∙ k′) b))) (omega (arith, fits .0)) (λ k. found-differ by-names X Y (f .fields) (parts-differ known by-names fp a b d k) (f .is)));
         }

@@ -27,8 +27,7 @@ use Rattle.buffers.specs.Steps.{Reads, listKind, listSize}
 use Rattle.buffers.specs.Plain.{isListQuestion, plainRules}
 use Rattle.merge.specs.Turns.{structRule, nestedOf, listRule, mapRule, bothWrapped, rewrapped, eitherWrapped, resolved, unwrapped}
 use Rattle.buffers.specs.Typed.{Typed, Merges}
-use Rattle.buffers.specs.Part.{sameButPart, sameFirst, LoneParts}
-use Rattle.merge.specs.Merge.{Differ, MergesKnown, Under}
+use Rattle.merge.specs.Merge.{DifferInPart, MergesKnown, Under}
 use Rattle.buffers.specs.declared.Space.{Space}
 use Rattle.buffers.specs.declared.Spot.{Spot}
 use Rattle.buffers.specs.declared.Goal.{Goal}
@@ -37,8 +36,7 @@ use Rattle.buffers.specs.declared.Out.the-variants.{Done, No, Full}
 use Rattle.buffers.specs.declared.Feed.the-variants as Feed
 use Rattle.buffers.proofs.Frames.{kept-trans}
 use Rattle.buffers.proofs.Laying.{named-kept}
-use Rattle.buffers.proofs.Parting.{part-differ}
-use Rattle.merge.proofs.Merging.{typed-side, typed-same, typed-lone, means-for, merges-within, merges-as, known-as, as-known, merges-swapped, merges-left, merges-right, merges-none}
+use Rattle.merge.proofs.Merging.{typed-side, typed-same, parts-differ, means-for, merges-within, merges-as, known-as, as-known, merges-swapped, merges-left, merges-right, merges-none}
 use Rattle.wrappers.specs.Ways.{isWrapper}
 use Rattle.wrappers.specs.Walks.{Way}
 use Rattle.wrappers.proofs.Choosing.{typed-whole, way-rule}
@@ -298,25 +296,25 @@ module _ (known named : Bool) (rules : Rules) (c : DataType → DataType → Opt
       by-rule Data.union X Y e = refl
       by-rule Data.compare X Y e = refl
 
-      pub nested-listed : isListQuestion (rules .question) ≡ true → Merges (listStruct c) space (left + 1) swap s w v l r g o → MergesKnown known named (nestedOf rules c) space (left + 1) swap s w v l r g o
+      pub nested-listed : isListQuestion (rules .question) ≡ true → MergesKnown known named (listStruct c) space (left + 1) swap s w v l r g o → MergesKnown known named (nestedOf rules c) space (left + 1) swap s w v l r g o
       unfolding nestedOf
       nested-listed e =
-          as-known (nestedOf rules c) space swap s w v l r g o known (left + 1) (omega arith)
-          (λ X Y a b d. rw (lists a b ∙ n) (rw (are a b 35 ∙ h) (by-names (rules .question) X Y e)))
+          known-as (nestedOf rules c) space swap s w v l r g o known (left + 1) (omega arith)
+          (λ X Y a b d. (rw (lists a b ∙ n) (rw (are a b 35 ∙ h) (by-names (rules .question) X Y e)), d))
 
-      pub nested-struct : isListQuestion (rules .question) ≡ false → Merges (structCoercion c) space (left + 1) swap s w v l r g o
+      pub nested-struct : isListQuestion (rules .question) ≡ false → MergesKnown known named (structCoercion c) space (left + 1) swap s w v l r g o
           → MergesKnown known named (nestedOf rules c) space (left + 1) swap s w v l r g o
       unfolding nestedOf
       nested-struct e =
-          as-known (nestedOf rules c) space swap s w v l r g o known (left + 1) (omega arith)
-          (λ X Y a b d. rw (lists a b ∙ n) (rw (are a b 35 ∙ h) (by-rule (rules .question) X Y e)))
+          known-as (nestedOf rules c) space swap s w v l r g o known (left + 1) (omega arith)
+          (λ X Y a b d. (rw (lists a b ∙ n) (rw (are a b 35 ∙ h) (by-rule (rules .question) X Y e)), d))
 
     module _ (h : (eqb k 35 && eqb j 35) ≡ false) where
-      pub nested-map : (eqb k 36 && eqb j 36) ≡ true → Merges (mapRule c) space (left + 1) swap s w v l r g o → MergesKnown known named (nestedOf rules c) space (left + 1) swap s w v l r g o
+      pub nested-map : (eqb k 36 && eqb j 36) ≡ true → MergesKnown known named (mapRule c) space (left + 1) swap s w v l r g o → MergesKnown known named (nestedOf rules c) space (left + 1) swap s w v l r g o
       unfolding nestedOf mapCoercion
       nested-map e =
-          as-known (nestedOf rules c) space swap s w v l r g o known (left + 1) (omega arith)
-          (λ X Y a b d. rw (lists a b ∙ n) (rw (are a b 35 ∙ h) (rw (are a b 36 ∙ e) refl)))
+          known-as (nestedOf rules c) space swap s w v l r g o known (left + 1) (omega arith)
+          (λ X Y a b d. (rw (lists a b ∙ n) (rw (are a b 35 ∙ h) (rw (are a b 36 ∙ e) refl)), d))
 
       pub nested-plain : (eqb k 36 && eqb j 36) ≡ false → ((i : ℕ) → Merges (plainRules rules) space i swap s w v l r g o) → MergesKnown known named (nestedOf rules c) space (left + 1) swap s w v l r g o
       unfolding nestedOf
@@ -357,14 +355,7 @@ shape-listed {x} {y} {X} {Y} a b = rw (sym (a .kind)) (rw (sym (b .kind)) (go (e
 
 -- two lists, and whether they are known to differ in the type of their part alone
 module _ {known named : Bool} (c : DataType → DataType → Option DataType) (space : Space) (left : ℕ) (swap : Bool) (s w : List ℕ) (l r : ℕ) (g : Goal) (x y : Head)
-    (ex : x ≡ headAt (side swap s w) l) (ey : y ≡ headAt (side (not swap) s w) r) {flag lone apart : Bool} (ef : flag ≡ named)
-    (fl : LoneParts (side swap s w) (space .n) l (side (not swap) s w) (space .n) r flag lone) (ea : apart ≡ (known && lone)) where
-  parts-differ : {X Y : DataType} → Typed space (side swap s w) l X → Typed space (side (not swap) s w) r Y → Differ known named X Y → apart ≡ true
-      → sameFirst named (X .parts) (Y .parts) ≡ false
-  parts-differ {X} {Y} a b d k =
-      let h = sym ea ∙ k in
-      part-differ named X Y (ap (λ (n : Bool). sameButPart n X Y) (sym ef) ∙ sym (typed-lone flag fl a b) ∙ and-snd known lone h) (d (and-fst known lone h))
-
+    (ex : x ≡ headAt (side swap s w) l) (ey : y ≡ headAt (side (not swap) s w) r) {apart : Bool} (fp : DifferInPart known named space (side swap s w) l (side (not swap) s w) r apart) where
   pub list-merged : {kind sz : ℕ} → kind ≡ listKind x y → sz ≡ listSize x y → (v : List ℕ) (o : Out)
       → Under apart named c space left swap s w v Feed.Place (shapeFor kind 0 0 sz false) (x .first) (y .first) (y .first) g o
       → MergesKnown known named (listRule c) space (left + 1) swap s w v l r g o
@@ -376,5 +367,5 @@ module _ {known named : Bool} (c : DataType → DataType → Option DataType) (s
             let right = chain-first y ey (b .chain) in
             let shape = ap₂ (λ (i j : ℕ). shapeFor i 0 0 j false) ek es ∙ shape-listed (typed-reads a ex) (typed-reads b ey) in
             means-for space w v g (size X + size Y) (letters X + letters Y) o (omega arith) (omega arith) (ap (λ (i : Shape). listOf i (joinFields c (X .parts) (Y .parts) (Y .parts))) shape)
-            (u .means (X .parts) (Y .parts) (Y .parts) (Y .parts) (Y .parts) (chain-first x ex (a .chain)) right right (refl, refl) (omega arith) (parts-differ a b d));
+            (u .means (X .parts) (Y .parts) (Y .parts) (Y .parts) (Y .parts) (chain-first x ex (a .chain)) right right (refl, refl) (omega arith) (λ k. parts-differ known named fp a b d k .1));
       }

@@ -1,7 +1,7 @@
 -- What the merge of two fields and of two chains says, whatever types stand at its links.
 use mathlib.Core.Path.{_≡_}
 use Prim.Native.Nat.{ℕ, _+_, _≤_}
-use mathlib.Core.Bool.{Bool, true, false, not}
+use mathlib.Core.Bool.{Bool, true, false, not, _&&_}
 use mathlib.Core.List.{List}
 use mathlib.Core.Option.{Option, none, some}
 use lib.ListN.{length}
@@ -14,7 +14,7 @@ use Rattle.buffers.specs.Region.{Kept, Grows}
 use Rattle.buffers.specs.Goal.{letters, Means, Writes}
 use Rattle.buffers.specs.Typed.{Chain, Typed, ChainIs}
 use Rattle.buffers.specs.Feeds.{Feeds}
-use Rattle.buffers.specs.Part.{sameFirst}
+use Rattle.buffers.specs.Part.{sameButPart, sameFirst}
 use Rattle.buffers.specs.declared.Space.{Space}
 use Rattle.buffers.specs.declared.Spot.{Spot}
 use Rattle.buffers.specs.declared.Goal.{Goal}
@@ -29,6 +29,10 @@ Differ known named x y = known ≡ true → sameType named x y ≡ false
 abbrev pub SameKnown : Bool → Bool → Space → List ℕ → ℕ → List ℕ → ℕ → Bool → Type 0
 SameKnown known named space s l t r e = (x y : DataType) → Typed space s l x → Typed space t r y → Differ known named x y → e ≡ sameType named x y
 
+-- two types are known to differ, and are the same but for the type of the one part that each has
+abbrev pub DifferInPart : Bool → Bool → Space → List ℕ → ℕ → List ℕ → ℕ → Bool → Type 0
+DifferInPart known named space s l t r e = (x y : DataType) → Typed space s l x → Typed space t r y → e ≡ (known && sameButPart named x y)
+
 -- two types that may be known to differ were merged as a rule says, where no more than `left` records are left in both
 pub record MergesKnown (known named : Bool) (answer : DataType → DataType → Option DataType) (space : Space) (left : ℕ) (swap : Bool) (s w v : List ℕ) (l r : ℕ) (g : Goal) (o : Out) : Type 0 where
   pub writes : Writes space w v g o
@@ -40,12 +44,12 @@ abbrev pub fieldOf : List ℕ → Bool → Option DataType → Option Fields
 fieldOf name nullable none = none
 fieldOf name nullable (some t) = some (before name nullable t end)
 
--- a field was merged with a type as a rule says, under its own name and nullability
-pub record MergesField (answer : DataType → DataType → Option DataType) (space : Space) (left : ℕ) (swap : Bool) (s w v : List ℕ) (l r : ℕ) (to : Spot) (o : Out) : Type 0 where
+-- a field was merged with a type that its own may be known to differ from, as a rule says, under its own name and nullability
+pub record MergesField (known named : Bool) (answer : DataType → DataType → Option DataType) (space : Space) (left : ℕ) (swap : Bool) (s w v : List ℕ) (l r : ℕ) (to : Spot) (o : Out) : Type 0 where
   pub kept : Kept space w v (to .at) (to .label)
   pub grows : Grows space to o
   pub means : (name : List ℕ) (nullable : Bool) (x y : DataType) (rest : Fields) → Chain space (side swap s w) l (field name nullable (x .shape) (x .parts) rest)
-      → Typed space (side (not swap) s w) r y → size x + size y ≤ left
+      → Typed space (side (not swap) s w) r y → size x + size y ≤ left → Differ known named x y
       → ChainIs space v to (size x + size y) (length name + letters x + letters y) o (fieldOf name nullable (answer x y))
 
 -- the rows of two chains were merged, where the types of the first row may be known to differ

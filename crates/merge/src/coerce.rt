@@ -13,7 +13,7 @@ ghost use Rattle.buffers.specs.Plain.{asked, rulesOf, isListQuestion};
 ghost use Rattle.wrappers.specs.Ways.{isWrapper};
 ghost use Rattle.merge.specs.Turns.{resolved, unwrapped, eitherWrapped, nestedOf, bothWrapped, rewrapped, listRule, mapRule};
 ghost use Rattle.buffers.specs.Typed.{Merges};
-ghost use Rattle.merge.specs.Merge.{MergesKnown, SameKnown, MergesField, Rowed, Under};
+ghost use Rattle.merge.specs.Merge.{MergesKnown, SameKnown, DifferInPart, MergesField, Rowed, Under};
 use buffers::Feed;
 use buffers::Goal;
 use buffers::Out;
@@ -147,6 +147,26 @@ fn are_same(
         return false;
     }
     same_sides(sheet, work, space.n, swap, l, r, named)
+}
+
+// Whether two types that are known to differ do so in the type of the one part that each has, and in nothing else.
+fn differ_in_part(
+    sheet: &[u8],
+    work: &[u8],
+    space: Space,
+    question: Question,
+    swap: bool,
+    known: bool,
+    l: usize,
+    r: usize,
+) -> bool
+    requires { ⌜ space .n < 65536 ⌝ }
+    ensures { λ e. ⌜ DifferInPart known (isListQuestion (asked question)) space (side swap (now (sheet .entry)) (now (work .entry))) l (side (not swap) (now (sheet .entry)) (now (work .entry))) r e ⌝ }
+{
+    if known {
+        return sides_but_part(sheet, work, space.n, swap, l, r, is_list_question(question));
+    }
+    false
 }
 
 // The rules of a list, after the test for sameness.
@@ -356,7 +376,7 @@ fn coerce_field(
     to: Spot,
 ) -> Out
     requires { ⌜ Room (now work) space × Inside space to ⌝ }
-    ensures { λ o. ⌜ MergesField (coercion (rulesOf question mask)) space left swap (now (sheet .entry)) (now (work .entry)) (now (work .exit)) l r to o ⌝ }
+    ensures { λ o. ⌜ MergesField false (isListQuestion (asked question)) (coercion (rulesOf question mask)) space left swap (now (sheet .entry)) (now (work .entry)) (now (work .exit)) l r to o ⌝ }
 {
     let x = look(sheet, &*work, swap, l);
     let nlen = x.nlen;
@@ -498,12 +518,48 @@ fn nested(
     }
     if both(k == 35, j == 35) {
         if is_list_question(question) {
-            return list_struct(sheet, work, space, question, mask, left, swap, l, r, g);
+            return list_struct(
+                sheet,
+                work,
+                space,
+                question,
+                mask,
+                left,
+                swap,
+                known,
+                l,
+                r,
+                g,
+            );
         }
-        return struct_rule(sheet, work, space, question, mask, left, swap, l, r, g);
+        return struct_rule(
+            sheet,
+            work,
+            space,
+            question,
+            mask,
+            left,
+            swap,
+            known,
+            l,
+            r,
+            g,
+        );
     }
     if both(k == 36, j == 36) {
-        return map_rule(sheet, work, space, question, mask, left, swap, l, r, g);
+        return map_rule(
+            sheet,
+            work,
+            space,
+            question,
+            mask,
+            left,
+            swap,
+            known,
+            l,
+            r,
+            g,
+        );
     }
     plain_rule(sheet, work, space, question, mask, swap, l, r, g)
 }
@@ -552,7 +608,7 @@ fn under(
     )
 }
 
-// `list_coercion`, of two lists. Where they are known to differ, and do so in the type of their part alone, that is known of that type.
+// `list_coercion`, of two lists.
 fn list_rule(
     sheet: &[u8],
     work: &mut [u8],
@@ -575,11 +631,7 @@ fn list_rule(
     let size = list_size(x, y);
     let a = x.first;
     let b = y.first;
-    let list = is_list_question(question);
-    let apart = both(
-        known,
-        sides_but_part(sheet, &*work, space.n, swap, l, r, list),
-    );
+    let apart = differ_in_part(sheet, &*work, space, question, swap, known, l, r);
     under(
         sheet,
         work,
@@ -608,12 +660,13 @@ fn struct_rule(
     mask: u64,
     left: usize,
     swap: bool,
+    known: bool,
     l: usize,
     r: usize,
     g: Goal,
 ) -> Out
     requires { ⌜ Room (now work) space × Ready space g ⌝ }
-    ensures { λ o. ⌜ Merges (structCoercion (coercion (rulesOf question mask))) space (left + 1) swap (now (sheet .entry)) (now (work .entry)) (now (work .exit)) l r g o ⌝ }
+    ensures { λ o. ⌜ MergesKnown known (isListQuestion (asked question)) (structCoercion (coercion (rulesOf question mask))) space (left + 1) swap (now (sheet .entry)) (now (work .entry)) (now (work .exit)) l r g o ⌝ }
 {
     let x = look(sheet, &*work, swap, l);
     let y = look(sheet, &*work, !swap, r);
@@ -623,6 +676,7 @@ fn struct_rule(
         both(x.kind == 35, y.kind == 35),
         same_arity(sheet, &*work, space, swap, l, a, b),
     ) {
+        let apart = differ_in_part(sheet, &*work, space, question, swap, known, l, r);
         if have_same_names(sheet, &*work, space, swap, l, a, b) {
             return under(
                 sheet,
@@ -632,7 +686,7 @@ fn struct_rule(
                 mask,
                 left,
                 swap,
-                false,
+                apart,
                 Feed::Name,
                 35,
                 0,
@@ -650,7 +704,7 @@ fn struct_rule(
             mask,
             left,
             swap,
-            false,
+            apart,
             Feed::Place,
             35,
             0,
@@ -672,13 +726,14 @@ fn list_struct(
     mask: u64,
     left: usize,
     swap: bool,
+    known: bool,
     l: usize,
     r: usize,
     g: Goal,
 ) -> Out
     requires { ⌜ Room (now work) space × Ready space g ⌝ }
     requires { ⌜ (headAt (side swap (now sheet) (now work)) l .kind ≡ 35) × (headAt (side (not swap) (now sheet) (now work)) r .kind ≡ 35) ⌝ }
-    ensures { λ o. ⌜ Merges (listStruct (coercion (rulesOf question mask))) space (left + 1) swap (now (sheet .entry)) (now (work .entry)) (now (work .exit)) l r g o ⌝ }
+    ensures { λ o. ⌜ MergesKnown known (isListQuestion (asked question)) (listStruct (coercion (rulesOf question mask))) space (left + 1) swap (now (sheet .entry)) (now (work .entry)) (now (work .exit)) l r g o ⌝ }
 {
     let a = look(sheet, &*work, swap, l).first;
     let b = look(sheet, &*work, !swap, r).first;
@@ -686,6 +741,7 @@ fn list_struct(
         same_arity(sheet, &*work, space, swap, l, a, b),
         have_same_names(sheet, &*work, space, swap, l, a, b),
     ) {
+        let apart = differ_in_part(sheet, &*work, space, question, swap, known, l, r);
         return under(
             sheet,
             work,
@@ -694,7 +750,7 @@ fn list_struct(
             mask,
             left,
             swap,
-            false,
+            apart,
             Feed::NameThenPlace,
             35,
             0,
@@ -716,12 +772,13 @@ fn map_rule(
     mask: u64,
     left: usize,
     swap: bool,
+    known: bool,
     l: usize,
     r: usize,
     g: Goal,
 ) -> Out
     requires { ⌜ Room (now work) space × Ready space g ⌝ }
-    ensures { λ o. ⌜ Merges (mapRule (coercion (rulesOf question mask))) space (left + 1) swap (now (sheet .entry)) (now (work .entry)) (now (work .exit)) l r g o ⌝ }
+    ensures { λ o. ⌜ MergesKnown known (isListQuestion (asked question)) (mapRule (coercion (rulesOf question mask))) space (left + 1) swap (now (sheet .entry)) (now (work .entry)) (now (work .exit)) l r g o ⌝ }
 {
     let at = g.at;
     let label = g.label + g.nlen;
@@ -739,6 +796,7 @@ fn map_rule(
     if b == 0 {
         return Out::No;
     }
+    let apart = differ_in_part(sheet, &*work, space, question, swap, known, l, r);
     lay(work, space, g, 36, 0, 0, 0, sorted, at + 1);
     entry(
         sheet,
@@ -748,13 +806,14 @@ fn map_rule(
         mask,
         left,
         swap,
+        apart,
         a,
         b,
         Spot { at: at + 1, label },
     )
 }
 
-// The entries of two maps, under the left's name and nullability.
+// The entries of two maps, which may be known to differ, under the left's name and nullability.
 fn entry(
     sheet: &[u8],
     work: &mut [u8],
@@ -763,12 +822,13 @@ fn entry(
     mask: u64,
     left: usize,
     swap: bool,
+    known: bool,
     l: usize,
     r: usize,
     to: Spot,
 ) -> Out
     requires { ⌜ Room (now work) space × Inside space to ⌝ }
-    ensures { λ o. ⌜ MergesField (structCoercion (coercion (rulesOf question mask))) space (left + 1) swap (now (sheet .entry)) (now (work .entry)) (now (work .exit)) l r to o ⌝ }
+    ensures { λ o. ⌜ MergesField known (isListQuestion (asked question)) (structCoercion (coercion (rulesOf question mask))) space (left + 1) swap (now (sheet .entry)) (now (work .entry)) (now (work .exit)) l r to o ⌝ }
 {
     let x = look(sheet, &*work, swap, l);
     let nlen = x.nlen;
@@ -780,7 +840,19 @@ fn entry(
             nlen,
             nullable,
         };
-        return struct_rule(sheet, work, space, question, mask, left, swap, l, r, g);
+        return struct_rule(
+            sheet,
+            work,
+            space,
+            question,
+            mask,
+            left,
+            swap,
+            known,
+            l,
+            r,
+            g,
+        );
     }
     Out::Full
 }
