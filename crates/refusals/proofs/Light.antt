@@ -7,14 +7,13 @@ use Prim.Native.Nat.{ℕ, _+_, _*_, _/_, _%_, _<_, _≤_}
 use native.Mathlib.Omega.{arith}
 use lib.ListN.{length}
 use lib.Dec.{eqb, ltb, leb}
-use borrow.Author.Tests.{eq-eqb, ne-eqb, eqb-true, lt-ltb, ltb-true, lt-leb, le-leb}
+use borrow.Author.Tests.{eq-eqb, ne-eqb, eqb-true, lt-ltb, ltb-true, lt-leb, le-leb, leb-true}
 use Rattle.sheet.specs.Tests.{allOf, implies, between}
 use Rattle.sheet.specs.Kind.{isDecimal, cap, partsRight, namesParts}
 use Rattle.sheet.specs.Head.{byQuads, nullableIn, zonedIn, zoneLen, labelled}
 use Rattle.sheet.specs.Refusals.{decimalRight, figureRight, figuresRight, recordRight, placed, labelRight}
 use Rattle.sheet.specs.declared.Head.{Head}
-use Rattle.refusals.specs.Walk.{bare}
-use Rattle.refusals.specs.Sound.{light, plain, Passes}
+use Rattle.refusals.specs.Sound.{light, usualDecimal, plain, Passes}
 use Rattle.sheet.proofs.Tests.{never, and-fst, and-snd, all-not, all-nil, all-cons}
 use Rattle.sheet.proofs.Figures.{figure-none, size-none, record-plain, labels-named, parts-none}
 
@@ -111,44 +110,84 @@ passes-linked a b c d up o r z p =
     subst (λ (x : ℕ). Passes (byQuads a x c d) up o r) (sym z)
     (record { few = p .few; figures = p .figures; placed = p .placed; all = p .all })
 
+-- a usual decimal
+module _ (k p s : ℕ) (u : usualDecimal k p s ≡ true) where
+  usual-kind : k ≡ 16
+  usual-kind = eqb-true k 16 (and-fst (eqb k 16) _ u)
+
+  usual-scale : s ≤ p
+  usual-scale = leb-true s p (and-fst (leb s p) _ (and-snd (eqb k 16) _ u))
+
+  usual-some : 0 < p
+  usual-some = ltb-true 0 p (and-fst (ltb 0 p) _ (and-snd (leb s p) _ (and-snd (eqb k 16) _ u)))
+
+  usual-few : p ≤ 38
+  usual-few = leb-true p 38 (and-snd (ltb 0 p) _ (and-snd (leb s p) _ (and-snd (eqb k 16) _ u)))
+
+  usual-right : figureRight 16 p s ≡ true
+  unfolding figureRight decimalRight isDecimal between cap
+  usual-right =
+      let e : (s + 128) % 256 ≡ s + 128 = omega (arith, usual-scale, usual-few) in
+      all-cons _ (le-leb 1 p usual-some)
+      (all-cons _ (le-leb p 38 usual-few)
+      (all-cons _ (le-leb ((s + 128) % 256) (p + 128) (omega (arith, usual-scale, e)))
+      (all-cons _ (le-leb (p + 1) ((s + 128) % 256) (omega (arith, usual-few, e))) all-nil)))
+
 -- a plain record
-kind-cases : (x y z : Bool) → (x || (y && z)) ≡ true → (x ≡ true) ⊎ ((y ≡ true) × (z ≡ true))
-kind-cases true y z e = inl refl
-kind-cases false true true e = inr (refl, refl)
-kind-cases false true false e = never e
-kind-cases false false z e = never e
+plain-cases : (x y z u : Bool) → (x || cond y z u) ≡ true → (x ≡ true) ⊎ (((y ≡ true) × (z ≡ true)) ⊎ (u ≡ true))
+plain-cases true y z u e = inl refl
+plain-cases false true true u e = inr (inl (refl, refl))
+plain-cases false true false u e = never e
+plain-cases false false z true e = inr (inr refl)
+plain-cases false false z false e = never e
+
+-- what it says of its kind
+record Kinded (a : ℕ) : Type 0 where
+  low : a % 256 < 32
+  flagless : a / 256 % 256 ≡ 0
+  lit : light (byQuads a 0 0 0) ≡ true
+
+kinded-low : (a : ℕ) → a < 32 → isDecimal (a % 256) ≡ false → Kinded a
+kinded-low a h n = record { low = omega arith; flagless = omega arith; lit = sym (light-few a 0 refl (omega arith) n) }
+
+mul-mod : (x : ℕ) → 256 * x % 256 ≡ 0
+mul-mod x = omega arith
+
+kinded-usual : (a : ℕ) → usualDecimal (a % 65536) (a / 65536 % 256) (a / 16777216) ≡ true → Kinded a
+unfolding light
+kinded-usual a u =
+    let k : a % 65536 ≡ 16 = usual-kind (a % 65536) (a / 65536 % 256) (a / 16777216) u in
+    let m : a ≡ 65536 * (a / 65536) + 16 = omega arith in
+    let g : a / 256 ≡ 256 * (a / 65536) = omega arith in
+    let e : 16 ≡ a % 256 = omega (arith, g, m) in
+    let f : a / 256 % 256 ≡ 0 = ap (λ (x : ℕ). x % 256) g ∙ mul-mod (a / 65536) in
+    record {
+      low = omega arith;
+      flagless = f;
+      lit =
+          rw (lt-ltb (a / 256 % 256) 2 (omega arith))
+          (subst (λ (j : ℕ). figureRight j (a / 65536 % 256) (a / 16777216) ≡ true) e (usual-right (a % 65536) (a / 65536 % 256) (a / 16777216) u));
+    }
 
 module _ (a b c d : ℕ) (p : plain a b d ≡ true) where
-  kind-is : (a < 14) ⊎ ((17 < a) × (a < 32))
-  kind-is =
-      ⊎-elim (λ x. inl (ltb-true a 14 x)) (λ y. inr (ltb-true 17 a (y .0), ltb-true a 32 (y .1)))
-      (kind-cases (ltb a 14) (ltb 17 a) (ltb a 32) (and-snd (eqb (b + d) 0) _ p))
-
-  pub plain-low : a < 32
-  plain-low = ⊎-elim (λ x. omega arith) (λ y. y .1) kind-is
-
   rest-none : b + d ≡ 0
   rest-none = eqb-true (b + d) 0 (and-fst (eqb (b + d) 0) _ p)
 
-  no-decimal : isDecimal (a % 256) ≡ false
+  kinded : Kinded a
   unfolding isDecimal between
-  no-decimal =
-      let e : a % 256 ≡ a = omega (arith, plain-low) in
-      ⊎-elim (λ x. rw (lt-leb 14 (a % 256) (omega arith)))
-      (λ y. rw (le-leb 14 (a % 256) (omega (arith, y .0)), lt-leb (a % 256) 17 (omega (arith, y .0)))) kind-is
+  kinded =
+      ⊎-elim (λ x. let h = ltb-true a 14 x in kinded-low a (omega (arith, h)) (rw (lt-leb 14 (a % 256) (omega (arith, h)))))
+      (⊎-elim
+      (λ y.
+      let h = ltb-true a 32 (y .0) in
+      let g = ltb-true 17 a (y .1) in
+      kinded-low a h (rw (le-leb 14 (a % 256) (omega (arith, h, g)), lt-leb (a % 256) 17 (omega (arith, h, g)))))
+      (kinded-usual a))
+      (plain-cases (ltb a 14) (ltb a 32) (ltb 17 a) (usualDecimal (a % 65536) (a / 65536 % 256) (a / 16777216)) (and-snd (eqb (b + d) 0) _ p))
 
-  pub plain-bare : bare (byQuads a b c d) ≡ true
-  unfolding bare
-  plain-bare =
-      let fl : a / 256 % 256 ≡ 0 = omega (arith, plain-low) in
-      let fi : a / 65536 % 256 ≡ 0 = omega (arith, plain-low) in
-      let sc : a / 16777216 ≡ 0 = omega (arith, plain-low) in
-      let qu : b ≡ 0 = omega (arith, rest-none) in
-      let z : d ≡ 0 = omega (arith, rest-none) in
-      let na : d % 65536 ≡ 0 = omega arith in
-      let nl : d / 65536 % 256 ≡ 0 = omega arith in
-      let la : d / 16777216 ≡ 0 = omega arith in
-      rw (eq-eqb (a / 256 % 256 + a / 65536 % 256 + a / 16777216 + b + (d % 65536 + d / 65536 % 256 + d / 16777216)) 0 (omega arith)) (ap not no-decimal)
+  pub plain-passes : (up o : ℕ) → Passes (byQuads a b c d) up o 0
+  plain-passes up o =
+      passes-linked a b c d up o 0 (omega (arith, rest-none)) (light-bare a d up o (kinded .lit) (omega (arith, rest-none)) (kinded .flagless))
 
   pub plain-parts : partsRight (a % 256) 0 ≡ true
-  plain-parts = parts-none (a % 256) 0 (omega (arith, plain-low))
+  plain-parts = parts-none (a % 256) 0 (kinded .low)

@@ -6,7 +6,7 @@ use Prim.Native.Nat.{ℕ, zero, suc, _+_, _*_, _-_, _/_, _%_, _<_, _≤_}
 use native.Mathlib.Omega.{arith}
 use lib.ListN.{length}
 use Rattle.sheet.specs.Kind.{partsRight}
-use Rattle.sheet.specs.Head.{quadAt, headFrom, byQuads, headAt}
+use Rattle.sheet.specs.Head.{quadAt, headFrom, byQuads, headAt, labelled}
 use Rattle.sheet.specs.Holds.{Plain}
 use Rattle.sheet.specs.declared.Head.{Head}
 use Rattle.refusals.specs.Walk.{passHead, Ready, Walks}
@@ -15,8 +15,7 @@ use Rattle.refusals.specs.declared.Walked.{Walked}
 use Rattle.refusals.specs.declared.Walked.the-variants.{Came}
 use Rattle.refusals.specs.declared.Progress.{Progress}
 use Rattle.sheet.proofs.Heads.{head-inside, by-quads}
-use Rattle.refusals.proofs.Bare.{pass-bare}
-use Rattle.refusals.proofs.Light.{plain-bare, plain-parts}
+use Rattle.refusals.proofs.Light.{plain-passes, plain-parts}
 use Rattle.refusals.proofs.Walking.{walk-none, walk-bare, walk-on, ready-past}
 
 pub some-of : (x : ℕ) → ¬ (x ≡ 0) → 0 < x
@@ -65,8 +64,13 @@ module _ (s : List ℕ) (n : ℕ) (bytes : Plain s) (long : 16 * n ≤ length s)
   plain-walk up at k link el ready o v =
       let z : c % 65536 ≡ 0 = omega arith in
       let e : link ≡ c / 65536 = omega arith in
+      let r = plain-passes a b c d p up at in
+      let small : 0 < 511 = omega arith in
+      let same : at ≡ at + labelled (byQuads a b c d) = omega (arith, r .all small) in
       walk-bare s n up q (clean q at) k refl lt (byQuads a b c d) plain-head (clean (q + 1) at)
-      (pass-bare (byQuads a b c d) (plain-bare a b c d p) up (clean q at)) ready (omega arith) z (plain-parts a b c d p) o
+      (λ i.
+      record { due = q + 1; at = same i; figure = sym (ap not (r .figures small)) i; label = sym (ap not (r .placed small)) i })
+      ready (omega arith) z (plain-parts a b c d p) o
       (subst (λ (j : ℕ). Walks s n up j (clean (q + 1) at) (k + 1) o) e v)
 
   pub rows-more : (r : ℕ) → Rows s n r q → c ≡ 65536 * (q + 1) → Rows s n r (q + 1)
@@ -95,13 +99,12 @@ module _ (s : List ℕ) (n : ℕ) (bytes : Plain s) (long : 16 * n ≤ length s)
         past = λ pos. omega (arith, row .some);
       }
 
--- what the row of all listed types tells
-pub row-told : (s : List ℕ) (n link e : ℕ) → link ≡ 1 → Ready n (clean 1 0) 0 → Row s n 1 e → ¬ (e ≡ 0) → Tells s n 0 link (clean 1 0) (e + 65536 * (e - 1))
-row-told s n link e l ready row ne =
-    let z : e + 65536 * (e - 1) + 4294967296 * 0 ≡ e + 65536 * (e - 1) = omega arith in
-    subst (λ (r : ℕ). Tells s n 0 link (clean 1 0) r) z
-    (told s n 0 link (clean 1 0) e (e - 1) 0 (omega (arith, row .inside, ready .few)) (omega (arith, row .inside, ready .few))
-    (subst (λ (j : ℕ). Walks s n 0 j (clean 1 0) 0 (Came (clean e 0) (e - 1))) (sym l) (row .walks (some-of e ne) 0 0 ready)))
+-- what a row tells
+pub row-told : (s : List ℕ) (n link due at e : ℕ) → link ≡ due → Ready n (clean due at) 0 → Row s n due e → ¬ (e ≡ 0)
+    → (up : ℕ) → Tells s n up link (clean due at) (e + 65536 * (e - due) + 4294967296 * at)
+row-told s n link due at e l ready row ne up =
+    told s n up link (clean due at) e (e - due) at (omega (arith, row .inside, ready .few)) (omega (arith, row .inside, ready .few))
+    (subst (λ (j : ℕ). Walks s n up j (clean due at) 0 (Came (clean e at) (e - due))) (sym l) (row .walks (some-of e ne) up at ready))
 
 -- past a record with which nothing is wrong
 module _ (s : List ℕ) (n up link due at k : ℕ) (long : 16 * n ≤ length s) (e : link ≡ due) (lt : due < n)

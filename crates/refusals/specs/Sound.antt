@@ -1,9 +1,9 @@
 -- What the numbers say that a walk carries while nothing is wrong.
 use mathlib.Core.Path.{_≡_}
-use mathlib.Core.Bool.{Bool, true, false, _&&_, _||_}
+use mathlib.Core.Bool.{Bool, true, false, cond, _&&_, _||_}
 use mathlib.Core.List.{List}
 use Prim.Native.Nat.{ℕ, _+_, _-_, _/_, _%_, _<_, _≤_}
-use lib.Dec.{eqb, ltb}
+use lib.Dec.{eqb, ltb, leb}
 use Rattle.sheet.specs.Head.{labelled}
 use Rattle.sheet.specs.Refusals.{figureRight, recordRight, labelRight}
 use Rattle.sheet.specs.declared.Head.{Head}
@@ -26,9 +26,15 @@ pub record Passes (h : Head) (up o r : ℕ) : Type 0 where
   pub placed : r < 511 → labelRight h up o ≡ true
   pub all : r < 511 → r ≡ labelled h
 
--- the numbers of 32 bits of a record that says nothing but a kind that has no parts and no figures, and its links
+-- a Decimal128 of up to 38 digits, and a scale of 0 up to the precision
+abbrev pub usualDecimal : ℕ → ℕ → ℕ → Bool
+usualDecimal k p s = eqb k 16 && (leb s p && (ltb 0 p && leb p 38))
+
+-- the numbers of 32 bits of a record that says nothing but a kind that has no parts, at most a usual decimal's figures, and its links
 abbrev pub plain : ℕ → ℕ → ℕ → Bool
-plain a b d = eqb (b + d) 0 && (ltb a 14 || (ltb 17 a && ltb a 32))
+plain a b d =
+    eqb (b + d) 0
+    && (ltb a 14 || cond (ltb a 32) (ltb 17 a) (usualDecimal (a % 65536) (a / 65536 % 256) (a / 16777216)))
 
 -- e is the record after the chain that begins at r, which is a row of plain records; 0 leaves it open whether there is such a row
 pub record Row (s : List ℕ) (n r e : ℕ) : Type 0 where

@@ -1,13 +1,13 @@
 // The walk over a sheet in which nothing is wrong. It carries numbers alone, and leaves to `walk` what it does not know at a glance.
 ghost use mathlib.Core.Path.{_≡_};
 ghost use mathlib.Core.Bool.{true, false};
-ghost use Prim.Native.Nat.{_+_, _*_, _/_, _%_, _<_, _≤_};
+ghost use Prim.Native.Nat.{ℕ, _+_, _*_, _/_, _%_, _<_, _≤_};
 ghost use lib.ListN.{length};
 ghost use Rattle.sheet.specs.Kind.{namesParts};
 ghost use Rattle.sheet.specs.Head.{headFrom, byQuads};
 ghost use Rattle.refusals.specs.Walk.{Ready, Walks};
 ghost use Rattle.refusals.specs.Found.{outset};
-ghost use Rattle.refusals.specs.Sound.{clean, light, plain, Passes, Row, Tells};
+ghost use Rattle.refusals.specs.Sound.{clean, light, usualDecimal, plain, Passes, Row, Tells};
 use crate::Progress;
 use crate::Walked;
 use crate::walk::walk;
@@ -81,7 +81,21 @@ fn pass_light(s: &[u8], i: usize, up: u8, o: usize) -> usize
     }
 }
 
-// Whether a record says nothing but a kind that has no parts and no figures, and its links, by its numbers of 32 bits.
+// Whether a kind with no flags, a precision and a scale are those of a Decimal128 as it is mostly written.
+fn is_usual_decimal(k: usize, p: usize, s: usize) -> bool
+    ensures { λ r. ⌜ r ≡ usualDecimal k p s ⌝ }
+{
+    if k == 16 {
+        if s <= p {
+            if 0 < p {
+                return p <= 38;
+            }
+        }
+    }
+    false
+}
+
+// Whether a record says nothing but a kind that has no parts, at most a usual decimal's figures, and its links, by its numbers of 32 bits.
 fn is_plain(a: usize, b: usize, d: usize) -> bool
     requires { ⌜ (b < 4294967296) × (d < 4294967296) ⌝ }
     ensures { λ r. ⌜ r ≡ plain a b d ⌝ }
@@ -92,7 +106,10 @@ fn is_plain(a: usize, b: usize, d: usize) -> bool
     if a < 14 {
         return true;
     }
-    if 17 < a { a < 32 } else { false }
+    if a < 32 {
+        return 17 < a;
+    }
+    is_usual_decimal(a % 65536, a / 65536 % 256, a / 16777216)
 }
 
 // Follows the chain that begins at record r through plain records to its end.
@@ -118,7 +135,33 @@ fn plain_row(s: &[u8], n: usize, r: usize) -> usize
     0
 }
 
+// Walks the chain that a link leads to where it is a row of plain records.
+fn row_walk(s: &[u8], n: usize, link: usize, due: usize, at: usize) -> usize
+    requires { ⌜ (16 * n ≤ length (now s)) × Ready n (clean due at) 0 ⌝ }
+    ensures { λ r. ⌜ ((up : ℕ) → Tells (now (s .entry)) n up link (clean due at) r) ⌝ }
+{
+    if link == due {
+        let end = plain_row(s, n, due);
+        if end != 0 {
+            return end + 65536 * (end - due) + 4294967296 * at;
+        }
+    }
+    0
+}
+
 // Walks the chain that a link leads to, in a record of kind up, as `walk` does.
+fn sound_chain(s: &[u8], n: usize, up: u8, link: usize, due: usize, at: usize) -> usize
+    requires { ⌜ (16 * n ≤ length (now s)) × Ready n (clean due at) 0 ⌝ }
+    ensures { λ r. ⌜ Tells (now (s .entry)) n up link (clean due at) r ⌝ }
+{
+    let r = row_walk(s, n, link, due, at);
+    if r == 0 {
+        return sound_walk(s, n, up, link, due, at);
+    }
+    r
+}
+
+// The same, record by record.
 fn sound_walk(s: &[u8], n: usize, up: u8, link: usize, due: usize, at: usize) -> usize
     requires { ⌜ (16 * n ≤ length (now s)) × Ready n (clean due at) 0 ⌝ }
     ensures { λ r. ⌜ Tells (now (s .entry)) n up link (clean due at) r ⌝ }
@@ -150,7 +193,7 @@ fn sound_walk(s: &[u8], n: usize, up: u8, link: usize, due: usize, at: usize) ->
             }
             return 0;
         }
-        let inner = sound_walk(s, n, h.kind, h.first, due, at);
+        let inner = sound_chain(s, n, h.kind, h.first, due, at);
         if inner == 0 {
             return 0;
         }
@@ -164,18 +207,16 @@ fn sound_walk(s: &[u8], n: usize, up: u8, link: usize, due: usize, at: usize) ->
     due + 65536 * k + 4294967296 * at
 }
 
-// The same for the listed types, by few tests where they are a row of plain records.
+// The same for the listed types. It calls both, so that the first is inlined here.
 fn sound_types(s: &[u8], n: usize, link: usize) -> usize
     requires { ⌜ (16 * n ≤ length (now s)) × Ready n (clean 1 0) 0 ⌝ }
     ensures { λ r. ⌜ Tells (now (s .entry)) n 0 link (clean 1 0) r ⌝ }
 {
-    if link == 1 {
-        let end = plain_row(s, n, 1);
-        if end != 0 {
-            return end + 65536 * (end - 1);
-        }
+    let r = row_walk(s, n, link, 1, 0);
+    if r == 0 {
+        return sound_walk(s, n, 0, link, 1, 0);
     }
-    sound_walk(s, n, 0, link, 1, 0)
+    r
 }
 
 // Walks all records of a sheet: by numbers where nothing is wrong, and else from the start.
