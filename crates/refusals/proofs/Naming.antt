@@ -16,7 +16,7 @@ use Rattle.sheet.specs.Holds.{Leads}
 use Rattle.sheet.specs.declared.Head.{Head}
 use Rattle.refusals.specs.declared.Pair.{Pair}
 use Rattle.refusals.specs.declared.Pair.the-variants.{At, Nothing, Unsure}
-use Rattle.refusals.specs.Twins.{nameOf, nameAt, placed, Tells, Spells, Known, mixed, Numbered}
+use Rattle.refusals.specs.Twins.{nameOf, nameAt, placed, Tells, Spells, Known, numberOf, Numbered}
 use Rattle.sheet.proofs.Tests.{never}
 use Rattle.sheet.proofs.Bytewise.{same-self, same-equal}
 use Rattle.refusals.proofs.Joins.{or-true}
@@ -190,4 +190,4 @@ module _ (s : List ℕ) (n floor link low at k : ℕ) (p : Passed s n floor link
 -- names whose numbers differ do so too
 pub numbers-differ : (s : List ℕ) (n : ℕ) (recs : List ℕ) (k : ℕ) (numbers : List ℕ) → Numbered s n recs k numbers
     → Tells (λ i. getD numbers i 0) k Nothing → Tells (nameAt s n recs) k Nothing
-numbers-differ s n recs k numbers e d a b l m q = d a b l m (e .each a (omega arith) ∙ ap (mixed 0) q ∙ sym (e .each b m))
+numbers-differ s n recs k numbers e d a b l m q = d a b l m (e .each a (omega arith) ∙ ap numberOf q ∙ sym (e .each b m))

@@ -1,26 +1,17 @@
--- The number of a name, an array that is filled place by place, and marks of the numbers that were met. Assumes nothing.
+-- An array that is filled place by place, and marks of the numbers that were met. Assumes nothing.
 use mathlib.Core.Path.{_≡_, refl, ap, sym, _∙_}
 use mathlib.Core.Bool.{Bool, true, false}
-use mathlib.Core.List.{List, [], _∷_}
+use mathlib.Core.List.{List}
 use Prim.Native.Nat.{ℕ, _+_, _*_, _/_, _%_, _<_, _≤_}
 use native.Mathlib.Omega.{arith}
 use native.Mathlib.Numerals.{add-one}
 use lib.Dec.{eqb}
-use lib.ListN.{length, length-set, getD, set, drop, drop-of-length-le}
-use lib.Seq.{drop-cons, getD-set-same, getD-set-other}
+use lib.ListN.{length, getD, set}
+use lib.Seq.{getD-set-same, getD-set-other}
 use borrow.Author.Tests.{eqb-true, eqb-false}
 use borrow.Author.Count.{below-more}
 use Rattle.refusals.specs.declared.Pair.the-variants.{Nothing}
-use Rattle.refusals.specs.Twins.{First, Tells, mixed}
-
--- a turn of the making of a number, and its end
-pub mixed-next : (name : List ℕ) (k w i : ℕ) → i < length name → mixed k (drop i name) ≡ w → mixed (2654435769 * (k + getD name i 0) % 4294967296) (drop (i + 1) name) ≡ w
-unfolding mixed
-mixed-next name k w i h v = sym (ap (mixed k) (drop-cons name i 0 h) ∙ rw (add-one i)) ∙ v
-
-pub mixed-done : (name : List ℕ) (k w i : ℕ) → length name ≤ i → mixed k (drop i name) ≡ w → k ≡ w
-unfolding mixed
-mixed-done name k w i h v = sym (ap (mixed k) (drop-of-length-le name {i = i} h)) ∙ v
+use Rattle.refusals.specs.Twins.{First, Tells}
 
 -- an array that holds f below i, and one place more
 pub filled-more : (f : ℕ → ℕ) (xs : List ℕ) (i x : ℕ) → i < length xs → x ≡ f i → ((j : ℕ) → j < i → getD xs j 0 ≡ f j)

@@ -8,7 +8,7 @@ use lib.ListN.{length, getD}
 use Rattle.sheet.specs.Types.{Fields, end, field}
 use Rattle.sheet.specs.Head.{headAt}
 use Rattle.sheet.specs.Read.{labelAt}
-use Rattle.sheet.specs.Names.{repeats}
+use Rattle.sheet.specs.Names.{repeats, mixed}
 use Rattle.sheet.specs.Holds.{Leads}
 use Rattle.refusals.specs.declared.Pair.{Pair}
 use Rattle.refusals.specs.declared.Pair.the-variants.{At, Nothing, Unsure}
@@ -59,14 +59,13 @@ pub record Compared (s : List ℕ) (n floor link most : ℕ) (p : Pair) : Type 0
   pub known : (r o : ℕ) (t : Fields) → Leads s n floor link r o t → Known p (repeats t)
   pub short : p ≡ Unsure → most < n
 
--- a number of 32 bits made of the bytes of a name
-unfoldable pub mixed : ℕ → List ℕ → ℕ
-mixed k [] = k
-mixed k (b ∷ bs) = mixed (2654435769 * (k + b) % 4294967296) bs
+-- the number of a name
+abbrev pub numberOf : List ℕ → ℕ
+numberOf name = mixed 0 name
 
 -- the numbers of the names of the first k of several records
 pub record Numbered (s : List ℕ) (n : ℕ) (recs : List ℕ) (k : ℕ) (numbers : List ℕ) : Type 0 where
-  pub each : (i : ℕ) → i < k → getD numbers i 0 ≡ mixed 0 (nameAt s n recs i)
+  pub each : (i : ℕ) → i < k → getD numbers i 0 ≡ numberOf (nameAt s n recs i)
 
 -- whether a byte string comes before another
 unfoldable pub lessBytes : List ℕ → List ℕ → Bool

@@ -1,7 +1,7 @@
 // Two equal names among those of several records, found by putting them in order. That the order is one is not proved of the sort: it is looked at afterwards.
 ghost use mathlib.Core.Path.{_≡_};
 ghost use mathlib.Core.Bool.{true, false, _&&_};
-ghost use Prim.Native.Nat.{ℕ, _<_, _≤_};
+ghost use Prim.Native.Nat.{_<_, _≤_};
 ghost use lib.Dec.{ltb};
 ghost use Rattle.sheet.specs.Names.{sameBytes};
 ghost use Rattle.refusals.specs.Twins.{nameAt, Tells, lessBytes, Inverts, Climbs};

@@ -2,22 +2,17 @@
 ghost use mathlib.Core.Path.{_≡_};
 ghost use Prim.Native.Nat.{ℕ, _/_, _<_, _≤_};
 ghost use lib.ListN.{length, getD};
-ghost use Rattle.refusals.specs.Twins.{nameAt, First, Tells, mixed, Numbered};
+ghost use Rattle.refusals.specs.Twins.{nameAt, First, Tells, numberOf, Numbered};
 use crate::Pair;
 use crate::names::name_at;
 use crate::names::same_at;
+use sheet::label::mix;
 
-// A number made of the bytes of a name.
+// The number of a name.
 fn number(name: &[u8]) -> u32
-    ensures { λ r. ⌜ r ≡ mixed 0 (now (name .entry)) ⌝ }
+    ensures { λ r. ⌜ r ≡ numberOf (now (name .entry)) ⌝ }
 {
-    let mut k: usize = 0;
-    let mut i = 0;
-    while i < name.len() {
-        k = 2654435769 * (k + name[i] as usize) % 4294967296;
-        i += 1;
-    }
-    k as u32
+    mix(name) as u32
 }
 
 // The first of the places below k at which x stands, or k.

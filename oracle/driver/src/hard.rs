@@ -70,46 +70,59 @@ fn differing(count: usize, length: usize, place: usize) -> Vec<Vec<u8>> {
     (0..count).map(name).collect()
 }
 
-/// The number that the check makes of a name, and its key, by which the names of one Struct are sifted.
-fn number(name: &[u8]) -> u32 {
-    name.iter().fold(0, |sum: u32, &byte| sum.wrapping_add(byte.into()).wrapping_mul(2_654_435_769))
-}
+const FACTOR: u32 = 1_640_531_527;
 
-fn key(name: &[u8]) -> u32 {
-    number(name) >> 19
-}
+/// FACTOR times this is 1, so that a number can be traced back.
+const INVERSE: u32 = inverse(FACTOR);
 
-/// What may be added to four bytes in a row of a name and leaves its number as it is.
-const APART: [i16; 4] = [-29, -52, 91, 150];
-
-/// Another name of the same number, which differs in the four bytes at a place.
-fn twin(name: &[u8], place: usize) -> Option<Vec<u8>> {
-    let mut other = name.to_vec();
-    for (byte, apart) in other[place..].iter_mut().zip(APART) {
-        *byte = u8::try_from(i16::from(*byte) + apart).ok()?;
+const fn inverse(factor: u32) -> u32 {
+    let (mut guess, mut step) = (factor, 0);
+    while step < 5 {
+        guess = guess.wrapping_mul(2u32.wrapping_sub(factor.wrapping_mul(guess)));
+        step += 1;
     }
-    assert_eq!(number(name), number(&other));
-    Some(other)
+    guess
 }
 
-/// Names of one key, which differ in the four bytes at a place alone. The last two have one number.
+fn stir(number: u32, four: u32) -> u32 {
+    number.rotate_left(16).wrapping_add(four).wrapping_mul(FACTOR)
+}
+
+/// The number from which four bytes lead to a number.
+fn before(number: u32, four: u32) -> u32 {
+    number.wrapping_mul(INVERSE).wrapping_sub(four).rotate_left(16)
+}
+
+/// The number that the check makes of a name of whole fours of bytes. The names of one Struct are
+/// sifted by its upper 13 bits.
+fn number(name: &[u8]) -> u32 {
+    fours(name).into_iter().fold(0, stir)
+}
+
+fn fours(name: &[u8]) -> Vec<u32> {
+    let four = |bytes: &[u8]| u32::from_le_bytes(bytes.try_into().expect("four bytes"));
+    name.chunks(4).map(four).collect()
+}
+
+/// A name with this number, made from another in the eight bytes at a place.
+fn with_number(name: &[u8], place: usize, first: u32, wanted: u32) -> Vec<u8> {
+    let behind = fours(&name[place + 8..]).into_iter().rev().fold(wanted, before);
+    let here = stir(number(&name[..place]), first);
+    let second = behind.wrapping_mul(INVERSE).wrapping_sub(here.rotate_left(16));
+    let mut made = name.to_vec();
+    made[place..place + 4].copy_from_slice(&first.to_le_bytes());
+    made[place + 4..place + 8].copy_from_slice(&second.to_le_bytes());
+    assert_eq!(number(&made), wanted);
+    made
+}
+
+/// Names in no order whose numbers share their upper bits and which differ in the eight bytes at
+/// a place alone, a multiple of four. The last two have one number.
 fn colliding(count: usize, length: usize, place: usize) -> Vec<Vec<u8>> {
-    let mut name = vec![b'x'; length];
-    let wanted = key(&name);
-    let mut made = |at: u32| {
-        name[place..place + 4].copy_from_slice(&at.to_be_bytes());
-        (key(&name) == wanted).then(|| name.clone())
-    };
-    let mut spread = (0..u32::MAX).filter_map(|at| made(at.wrapping_mul(2_654_435_769)));
-    let (one, other) =
-        spread.find_map(|one| twin(&one, place).map(|other| (one, other))).expect("two names");
-    let mut names: Vec<_> = (0..u32::MAX)
-        .filter_map(made)
-        .filter(|name| *name != one && *name != other)
-        .take(count - 2)
-        .collect();
-    names.extend([one, other]);
-    names
+    let name = vec![b'x'; length];
+    let wanted = |at: usize| (7 << 19) + at.min(count - 2) as u32;
+    let spread = |at: usize| (at as u32).wrapping_mul(2_654_435_769);
+    (0..count).map(|at| with_number(&name, place, spread(at), wanted(at))).collect()
 }
 
 // Deep types, alike almost to the end
@@ -350,12 +363,11 @@ fn squares() -> Vec<DataType> {
     vec![square(&names, Int32), square(&turned(&names), Int64)]
 }
 
-const PLACES: [(usize, usize, &str); 5] = [
-    (16, 0, "first four bytes"),
-    (16, 6, "middle four bytes"),
-    (16, 11, "four bytes before the last"),
-    (16, 12, "last four bytes"),
-    (4, 0, "four bytes"),
+const PLACES: [(usize, usize, &str); 4] = [
+    (16, 0, "first eight bytes"),
+    (16, 4, "middle eight bytes"),
+    (16, 8, "last eight bytes"),
+    (8, 0, "eight bytes"),
 ];
 
 /// Names that the check cannot sift, as they have one key, and that it has to sort, as two have one number.

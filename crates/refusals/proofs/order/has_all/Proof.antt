@@ -1,12 +1,10 @@
 use Prim.Native.Nat.{ℕ, _-_, _<_, _≤_}
-use mathlib.Core.Path.{_≡_, refl, ap, sym, _∙_}
-use mathlib.Core.Bool.{true, false}
+use mathlib.Core.Path.{_≡_, ap, sym, _∙_}
 use native.Mathlib.Omega.{arith}
 use borrow.Author.Count.{below-more}
 use borrow.Author.Needs.{needs}
 use lib.ListN.{getD}
 use Rattle.sheet.proofs.Tests.{never}
-use Rattle.refusals.specs.Twins.{Inverts}
 use Rattle.refusals.proofs.order.has_all.Statement.{statement}
 use Rattle.refusals.proofs.order.has_all.Tie as tie
 use Rattle.refusals.proofs.order.has_all.Reads as reads

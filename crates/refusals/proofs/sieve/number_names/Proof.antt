@@ -3,7 +3,7 @@ use mathlib.Core.Path.{_≡_, refl, ap, _∙_}
 use native.Mathlib.Omega.{arith}
 use borrow.Author.Needs.{needs}
 use lib.ListN.{length, length-set, getD}
-use Rattle.refusals.specs.Twins.{nameAt, mixed}
+use Rattle.refusals.specs.Twins.{nameAt, numberOf}
 use Rattle.refusals.proofs.Sieving.{filled-more}
 use Rattle.refusals.proofs.sieve.number_names.Statement.{statement}
 use Rattle.refusals.proofs.sieve.number_names.Tie as tie
@@ -14,7 +14,7 @@ use Rattle.refusals.proofs.sieve.number.Reads as number-reads
 
 abbrev Inv-loop : tie.InvT-loop
 Inv-loop s n recs k numbers₀ i₀ numbers i =
-    (length numbers ≡ length numbers₀) × ((i ≤ k) × ((j : ℕ) → j < i → getD numbers j 0 ≡ mixed 0 (nameAt s n recs j)))
+    (length numbers ≡ length numbers₀) × ((i ≤ k) × ((j : ℕ) → j < i → getD numbers j 0 ≡ numberOf (nameAt s n recs j)))
 
 abbrev μ-loop : tie.MeasureT-loop
 μ-loop s n recs k numbers₀ i₀ numbers i =
@@ -59,7 +59,7 @@ loop-less c =
 loop-again : tie.Need-loop-again Inv-loop μ-loop
 loop-again c =
     let l : (c .before .before .before .loop .i) < length (c .before .before .before .loop .numbers) = omega (arith, (c .before .before .before .before .before .before .before .pre .1), (c .before .before .before .loop .inv .0), (c .before .before .loop-test .taken)) in
-    (length-set (c .before .before .before .loop .numbers) (c .before .before .before .loop .i) (c .number .result) ∙ (c .before .before .before .loop .inv .0), (omega (arith, (c .before .before .loop-test .taken)), filled-more (λ j. mixed 0 (nameAt (c .before .before .before .before .before .before .before .args .s .now) (c .before .before .before .before .before .before .before .args .n) (c .before .before .before .before .before .before .before .args .recs .now) j)) (c .before .before .before .loop .numbers) (c .before .before .before .loop .i) (c .number .result) l ((c .number .ensures) ∙ ap (mixed 0) (c .before .name-at .ensures)) (c .before .before .before .loop .inv .1 .1)))
+    (length-set (c .before .before .before .loop .numbers) (c .before .before .before .loop .i) (c .number .result) ∙ (c .before .before .before .loop .inv .0), (omega (arith, (c .before .before .loop-test .taken)), filled-more (λ j. numberOf (nameAt (c .before .before .before .before .before .before .before .args .s .now) (c .before .before .before .before .before .before .before .args .n) (c .before .before .before .before .before .before .before .args .recs .now) j)) (c .before .before .before .loop .numbers) (c .before .before .before .loop .i) (c .number .result) l ((c .number .ensures) ∙ ap numberOf (c .before .name-at .ensures)) (c .before .before .before .loop .inv .1 .1)))
 
 -- src/sieve.rt:74:1
 same-length : tie.Need-same-length Inv-loop μ-loop
