@@ -1,14 +1,14 @@
 -- Two types that are the same but for the type of the one part that each has. Assumes nothing.
-use mathlib.Core.Path.{_≡_, refl, ap, ap₂, sym, _∙_}
+use mathlib.Core.Path.{_≡_, refl, ap₂, sym, _∙_}
 use mathlib.Core.Bool.{Bool, true, false, _&&_, Bool·beq}
 use mathlib.Core.List.{List, [], _∷_}
-use Prim.Native.Nat.{ℕ, suc, _+_, _%_, _<_, _≤_}
+use Prim.Native.Nat.{ℕ, _+_, _%_}
 use native.Mathlib.Omega.{arith}
 use lib.Dec.{eqb}
 use borrow.Author.Tests.{eq-eqb, ne-eqb, eqb-true}
 use Rattle.sheet.specs.Tests.{allOf, implies}
-use Rattle.sheet.specs.Types.{Shape, Fields, end, field, arity}
-use Rattle.sheet.specs.Head.{headAt, nullableIn}
+use Rattle.sheet.specs.Types.{Fields, end, field, arity}
+use Rattle.sheet.specs.Head.{headAt}
 use Rattle.sheet.specs.Read.{labelAt, shapeOf}
 use Rattle.sheet.specs.Names.{sameBytes}
 use Rattle.sheet.specs.declared.Head.{Head}

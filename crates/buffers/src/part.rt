@@ -1,5 +1,4 @@
 // Whether two types are the same but for the type of the one part that each has. Two such types that are not the same differ in that type.
-ghost use mathlib.Core.Path.{_≡_};
 ghost use mathlib.Core.Bool.{not};
 ghost use Prim.Native.Nat.{_<_};
 ghost use Rattle.buffers.specs.Writes.{side};
