@@ -68,6 +68,7 @@ core-wrap s end v w e = missing e
 core-wrap s (field n b s₁ p₁ end) v w e = missing e
 core-wrap s (field n b s₁ p₁ (field n₂ b₂ s₂ p₂ q)) v w e = rw w (ap (λ (t : DataType). coreOf (t .shape) (t .parts)) (Option·some-inj .0 e))
 
+-- the second of two parts
 second-above : {space : Space} {s : List ℕ} {at link r o up : ℕ} {f : Fields} (x : Two f) → Held space s at link r o up f → (g : Head) → g ≡ headAt s link → at < g .next
 second-above {space} {s} {at} {link} {r} {o} {up} x a g e =
     let q = subst (Held space s at link r o up) (x .is) a in
@@ -143,7 +144,7 @@ module _ (h : Head) (b : isBare h ≡ true) where
       (eqb-true (arity p) 0
       (rw (lt-leb 32 (h .kind) bare-kind, lt-leb 37 (h .kind) (omega arith), ne-eqb (h .kind) 36 (λ e. omega arith), ne-eqb (h .kind) 35 (λ e. omega arith)) at q))
 
-  pub typed-bare : {space : Space} {s : List ℕ} {link : ℕ} {t : DataType} → h ≡ headAt s link → Typed space s link t → Bare h t
+  typed-bare : {space : Space} {s : List ℕ} {link : ℕ} {t : DataType} → h ≡ headAt s link → Typed space s link t → Bare h t
   typed-bare {space} {s} {t = t} e a =
       let r = typed-reads a e in
       let source = a .chain .held .source in
@@ -151,7 +152,7 @@ module _ (h : Head) (b : isBare h ≡ true) where
       let parts = bare-parts (t .parts) (subst (λ (k : ℕ). partsRight k (arity (t .parts)) ≡ true) (r .kind) (source .right .0 .filled)) in
       record { reads = r; low = bare-kind; is = λ i. record { shape = shape i; parts = parts i } }
 
-pub figured : (h : Head) (f : Figures) (size : ℕ) → hasFigures h f size ≡ true → bareType (figuresAt h) (h .quad) ≡ bareType f size
+figured : (h : Head) (f : Figures) (size : ℕ) → hasFigures h f size ≡ true → bareType (figuresAt h) (h .quad) ≡ bareType f size
 figured h f size q =
     let a = and-fst (eqb (h .kind) (f .kind) && eqb (h .figure) (f .figure)) _ q in
     let b = and-snd (eqb (h .kind) (f .kind) && eqb (h .figure) (f .figure)) _ q in
@@ -162,9 +163,9 @@ figured h f size q =
     λ i. bareType (record { kind = e₀ i; figure = e₁ i; scale = e₂ i }) (e₃ i)
 
 -- what a step says of the kept type
-module _ (h : Head) (left : Bool) {b : Bool} where
-  pub says-figures : (f : Figures) → b ≡ hasFigures h f 0 → b ≡ true → (l r : DataType) → Bare h (cond left l r) → stepOf (Step.Lay f) l r ≡ some (cond left l r)
-  says-figures f e z l r a = ap (λ (t : DataType). some t) (sym (a .is ∙ figured h f 0 (sym e ∙ z)))
+pub says-figures : (h : Head) (left : Bool) (f : Figures) {b : Bool} → b ≡ hasFigures h f 0 → b ≡ true → (l r : DataType) → Bare h (cond left l r)
+    → stepOf (Step.Lay f) l r ≡ some (cond left l r)
+says-figures h left f e z l r a = ap (λ (t : DataType). some t) (sym (a .is ∙ figured h f 0 (sym e ∙ z)))
 
 pub says-left : (left : Bool) → left ≡ true → (l r : DataType) → stepOf Step.Left l r ≡ some (cond left l r)
 says-left true z l r = refl

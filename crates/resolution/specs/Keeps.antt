@@ -25,7 +25,7 @@ coreOf shape (field n b s p (field n₂ b₂ s₂ p₂ rest)) =
 pub record CoreAt (space : Space) (s : List ℕ) (r k : ℕ) : Type 0 where
   pub is : (t : DataType) → Typed space s r t → Typed space s k (coreOf (t .shape) (t .parts))
 
--- so stands the core of the type of record 1, where a record is told
+-- so does the core of the type of record 1, where k is not 0
 abbrev pub CoreIf : Space → List ℕ → ℕ → Type 0
 CoreIf space s k = ¬ (k ≡ 0) → CoreAt space s 1 k
 

@@ -39,7 +39,7 @@ fn core_at(s: &[u8], space: Space, r: usize) -> usize
     at
 }
 
-// The record of the candidate's core, which may be known already. 0 is no record of a type.
+// The record of the candidate's core, which may be known already: 0 where it is not.
 pub(crate) fn core_of(second: &[u8], space: Space, core: usize) -> usize
     ensures { λ k. ⌜ (CoreIf space (now (second .entry)) core → CoreAt space (now (second .entry)) 1 k) ⌝ }
 {
@@ -109,8 +109,8 @@ fn stays_right(mask: u64, x: Head, y: Head) -> bool
     says(plain(Question::List, mask, x, y), y, false)
 }
 
-// Whether the candidate at record 1 of the second half, whose core is at a record, stays as it is under the type at a link of the sheet. Below a wrapper
-// the core goes left, and a Dictionary of Utf8View gives way to Utf8View.
+// Whether the candidate at record 1 of the second half, whose core is at a record, stays as it is under the type at a link of the sheet. Types that their
+// heads do not tell whole are only compared. Below a wrapper the core goes left, and a Dictionary of Utf8View gives way to Utf8View.
 pub(crate) fn keeps(
     sheet: &[u8],
     second: &[u8],
@@ -123,12 +123,9 @@ pub(crate) fn keeps(
     ensures { λ b. ⌜ (b ≡ true → CoreAt space (now (second .entry)) 1 core → (x c : DataType) → Typed space (now (sheet .entry)) link x → Typed space (now (second .entry)) 1 c → coercion (rulesOf Question.List mask) x c ≡ some c) ⌝ }
 {
     let x = head_at(sheet, link);
-    if 32 <= x.kind {
-        return same_type(sheet, space.n, link, second, space.n, 1, true);
-    }
     let v = head_at(second, core);
     if !both(is_bare(x), is_bare(v)) {
-        return false;
+        return same_type(sheet, space.n, link, second, space.n, 1, true);
     }
     if head_at(second, 1).kind < 32 {
         return stays_right(mask, x, v);

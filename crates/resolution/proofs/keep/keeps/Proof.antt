@@ -19,78 +19,72 @@ use Rattle.sheet.proofs.record.head_at.Reads as head-at-reads
 head-at-requires : tie.Need-head-at-requires
 head-at-requires c κs = search needs
 
--- src/keep.rt:127:9
-same-type-requires : tie.Need-same-type-requires
-same-type-requires c κs = search needs
-
--- src/keep.rt:127:9
-returns : tie.Need-returns
-returns c =
-    λ z at. keeps-same (c .before .before .before .before .before .before .args .mask) (c .same-type .ensures) z
-
--- src/keep.rt:129:9
+-- src/keep.rt:126:9
 head-at-requires-2 : tie.Need-head-at-requires-2
 head-at-requires-2 c κs = search needs
 
--- src/keep.rt:130:14
+-- src/keep.rt:127:14
 is-bare-requires : tie.Need-is-bare-requires
 is-bare-requires c κs = search needs
 
--- src/keep.rt:130:26
+-- src/keep.rt:127:26
 is-bare-requires-2 : tie.Need-is-bare-requires-2
 is-bare-requires-2 c κs = search needs
 
--- src/keep.rt:130:9
+-- src/keep.rt:127:9
 both-requires : tie.Need-both-requires
 both-requires c κs = search needs
+
+-- src/keep.rt:128:9
+same-type-requires : tie.Need-same-type-requires
+same-type-requires c κs = search needs
+
+-- src/keep.rt:128:9
+returns : tie.Need-returns
+returns c =
+    λ z at. keeps-same (c .before .before .before .before .before .before .before .before .before .args .mask) (c .same-type .ensures) z
+
+-- src/keep.rt:130:8
+head-at-requires-3 : tie.Need-head-at-requires-3
+head-at-requires-3 c κs = search needs
+
+-- src/keep.rt:131:9
+stays-right-requires : tie.Need-stays-right-requires
+stays-right-requires c κs = search needs
 
 -- src/keep.rt:131:9
 returns-2 : tie.Need-returns-2
 returns-2 c =
-    λ z. never z
-
--- src/keep.rt:133:8
-head-at-requires-3 : tie.Need-head-at-requires-3
-head-at-requires-3 c κs = search needs
-
--- src/keep.rt:134:9
-stays-right-requires : tie.Need-stays-right-requires
-stays-right-requires c κs = search needs
+    λ z at t y a d. keeps-alone (c .before .before .before .before .before .before .before .before .before .before .before .before .args .mask) _ _ _ (c .before .before .before .before .before .before .before .before .before .head-at .ensures .0) (c .before .before .before .before .before .before .before .before .head-at2 .ensures .0) (c .before .before .before .head-at3 .ensures .0) (sym ((c .before .before .before .before .before .both .ensures) ∙ ap₂ _&&_ (c .before .before .before .before .before .before .before .is-bare .ensures) (c .before .before .before .before .before .before .is-bare2 .ensures)) ∙ unnot _ (c .before .before .before .before .if1 .left)) at t y a d (c .before .if2 .taken) ((c .stays-right .ensures) z)
 
 -- src/keep.rt:134:9
 returns-3 : tie.Need-returns-3
 returns-3 c =
-    λ z at t y a d. keeps-alone (c .before .before .before .before .before .before .before .before .before .before .before .before .before .before .args .mask) _ _ _ (c .before .before .before .before .before .before .before .before .before .before .before .head-at .ensures .0) (c .before .before .before .before .before .before .before .before .head-at2 .ensures .0) (c .before .before .before .head-at3 .ensures .0) (sym ((c .before .before .before .before .before .both .ensures) ∙ ap₂ _&&_ (c .before .before .before .before .before .before .before .is-bare .ensures) (c .before .before .before .before .before .before .is-bare2 .ensures)) ∙ unnot _ (c .before .before .before .before .if2 .left)) at t y a d (c .before .if3 .taken) ((c .stays-right .ensures) z)
-
--- src/keep.rt:137:9
-returns-4 : tie.Need-returns-4
-returns-4 c =
     λ z. never z
 
--- src/keep.rt:139:5
+-- src/keep.rt:136:5
 stays-left-requires : tie.Need-stays-left-requires
 stays-left-requires c κs = search needs
 
 -- src/keep.rt:114:1
-returns-5 : tie.Need-returns-5
-returns-5 c =
-    λ z at t y a d. keeps-under (c .before .before .before .before .before .before .before .before .before .before .before .before .before .before .before .before .args .mask) _ _ _ (c .before .before .before .before .before .before .before .before .before .before .before .before .before .head-at .ensures .0) (c .before .before .before .before .before .before .before .before .before .before .head-at2 .ensures .0) (c .before .before .before .before .before .head-at3 .ensures .0) (sym ((c .before .before .before .before .before .before .before .both .ensures) ∙ ap₂ _&&_ (c .before .before .before .before .before .before .before .before .before .is-bare .ensures) (c .before .before .before .before .before .before .before .before .is-bare2 .ensures)) ∙ unnot _ (c .before .before .before .before .before .before .if2 .left)) at t y a d (c .before .before .before .if3 .left) (c .before .if4 .left) ((c .stays-left .ensures) z)
+returns-4 : tie.Need-returns-4
+returns-4 c =
+    λ z at t y a d. keeps-under (c .before .before .before .before .before .before .before .before .before .before .before .before .before .before .args .mask) _ _ _ (c .before .before .before .before .before .before .before .before .before .before .before .head-at .ensures .0) (c .before .before .before .before .before .before .before .before .before .before .head-at2 .ensures .0) (c .before .before .before .before .before .head-at3 .ensures .0) (sym ((c .before .before .before .before .before .before .before .both .ensures) ∙ ap₂ _&&_ (c .before .before .before .before .before .before .before .before .before .is-bare .ensures) (c .before .before .before .before .before .before .before .before .is-bare2 .ensures)) ∙ unnot _ (c .before .before .before .before .before .before .if1 .left)) at t y a d (c .before .before .before .if2 .left) (c .before .if3 .left) ((c .stays-left .ensures) z)
 
 pub keeps-spec : {M : Type 1} → statement M
 keeps-spec =
     tie.close
     (tie.spec
     head-at-requires
-    same-type-requires
-    returns
     head-at-requires-2
     is-bare-requires
     is-bare-requires-2
     both-requires
-    returns-2
+    same-type-requires
+    returns
     head-at-requires-3
     stays-right-requires
+    returns-2
     returns-3
-    returns-4
     stays-left-requires
-    returns-5)
+    returns-4)
