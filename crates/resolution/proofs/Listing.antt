@@ -15,15 +15,14 @@ use Rattle.sheet.specs.declared.Head.{Head}
 use Rattle.sheet.proofs.Tests.{and-fst, and-snd}
 use Rattle.coercion.specs.Data.{DataType, typesOf}
 use Rattle.coercion.specs.Rules.{isNull}
+use Rattle.coercion.specs.Same.{equal}
 use Rattle.coercion.specs.Answers.{Category, array, boolean, numeric, dateTime, composite, unknown, notSupported, ownCategory, categoryOf, isCategory, hasCategory, asNumber, categoriesIn, categoriesFit, allEqual}
 use Rattle.coercion.specs.Meaning.{categoryBit, isSupported}
 use Rattle.rules.proofs.Cores.{Found, core-own}
-use Rattle.buffers.specs.Source.{SameTypes}
 use Rattle.buffers.specs.Typed.{Typed}
 use Rattle.buffers.specs.declared.Space.{Space}
 use Rattle.buffers.proofs.Sources.{link-inside}
 use Rattle.buffers.proofs.Chained.{held-next}
-use Rattle.merge.proofs.Merging.{typed-same}
 use Rattle.resolution.specs.Reached.{Listed, categoryBits, seenBits}
 
 pub unnot : (b : Bool) {c : Bool} → not b ≡ c → b ≡ not c
@@ -75,14 +74,14 @@ module _ {A : Type 0} (F : List DataType → A) (space : Space) (s : List ℕ) (
 pub equal-none : (space : Space) (s : List ℕ) (floor link : ℕ) → link ≤ floor → (t : DataType) → Tells (allEqual t) space s floor link true
 equal-none space s floor link h t = tells-none (allEqual t) space s floor link true h refl
 
-module _ (space : Space) (s : List ℕ) (first floor link : ℕ) (past : floor < link) {e : Bool} (same : SameTypes s (space .n) link s (space .n) first true e) (t : DataType)
-    (x : Typed space s first t) where
+module _ (space : Space) (s : List ℕ) (first floor link : ℕ) (past : floor < link) {e : Bool}
+    (same : (u t : DataType) → Typed space s link u → Typed space s first t → e ≡ equal u t) (t : DataType) (x : Typed space s first t) where
   pub equal-on : (h : Head) → h ≡ headAt s link → (b : Bool) → e ≡ true → Tells (allEqual t) space s link (h .next) b → Tells (allEqual t) space s floor link b
   equal-on h eh b z k =
-      tells-next (allEqual t) space s floor link b past h eh (allEqual t) k (λ u us y. rw (sym (typed-same true same y x) ∙ z))
+      tells-next (allEqual t) space s floor link b past h eh (allEqual t) k (λ u us y. rw (sym (same u t y x) ∙ z))
 
   pub equal-not : e ≡ false → Tells (allEqual t) space s floor link false
-  equal-not z = tells-first (allEqual t) space s floor link false past (λ u us y. rw (sym (typed-same true same y x) ∙ z))
+  equal-not z = tells-first (allEqual t) space s floor link false past (λ u us y. rw (sym (same u t y x) ∙ z))
 
 -- the category of a type, by the kind that was found for it
 abbrev category : DataType → Category

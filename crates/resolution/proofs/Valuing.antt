@@ -1,5 +1,5 @@
 -- Types without parts, zone or order, by value. Assumes nothing.
-use mathlib.Core.Path.{_≡_, refl, ap, sym, subst, _∙_}
+use mathlib.Core.Path.{_≡_, refl, ap, ap₂, sym, subst, _∙_}
 use mathlib.Core.Bool.{Bool, true, false, cond, and-true}
 use mathlib.Core.List.{List, [], _∷_}
 use mathlib.Core.Option.{Option, none, some}
@@ -111,6 +111,13 @@ module _ (x y : Leaf) where
   pub same-last : x .kind ≡ y .kind → x .figure ≡ y .figure → x .scale ≡ y .scale → (named : Bool) → eqb (x .size) (y .size) ≡ sameType named (leafType x) (leafType y)
   unfolding allOf
   same-last a b c named = sym (same-tests named ∙ rw (eq-eqb (x .kind) (y .kind) a, eq-eqb (x .figure) (y .figure) b, eq-eqb (x .scale) (y .scale) c) (and-true (eqb (x .size) (y .size))))
+
+-- two plain types that were compared by value
+pub plain-equal : (named : Bool) {space : Space} {s : List ℕ} {link other : ℕ} (h k : Head) {x y : Leaf} {b : Bool} → isPlain h ≡ true → isPlain k ≡ true → h ≡ headAt s link → k ≡ headAt s other
+    → x ≡ leafOf h → y ≡ leafOf k → ((n : Bool) → b ≡ sameType n (leafType x) (leafType y)) → (u t : DataType) → Typed space s link u → Typed space s other t → b ≡ sameType named u t
+plain-equal named h k p q eh ek ex ey same u t a c =
+    same named
+    ∙ sym (ap₂ (sameType named) (plain-valued h p ex eh a .is) (plain-valued k q ey ek c .is))
 
 -- what a step says of two values
 module _ {step : Step} {x y : Leaf} where

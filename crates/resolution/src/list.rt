@@ -6,9 +6,13 @@ ghost use Prim.Native.Nat.{ℕ, _≤_};
 ghost use Rattle.sheet.specs.Types.{Shape, Fields, field};
 ghost use Rattle.sheet.specs.Holds.{Leads};
 ghost use Rattle.coercion.specs.Data.{DataType, typesOf};
+ghost use Rattle.coercion.specs.Same.{equal};
 ghost use Rattle.coercion.specs.Answers.{allEqual, ownCategory, categoryOf, categoriesFit};
 ghost use Rattle.buffers.specs.Typed.{Typed};
 ghost use Rattle.resolution.specs.Reached.{Listed, seenBits};
+use crate::value::is_plain;
+use crate::value::is_same;
+use crate::value::leaf_of;
 use buffers::Space;
 use buffers::alike::same_type;
 use rules::category::core_kind;
@@ -16,6 +20,21 @@ use rules::category::is_mixed;
 use rules::category::is_supported;
 use rules::category::with_category;
 use sheet::record::head_at;
+
+// Whether the type at a link is that of record `first`. Types without parts are compared by value.
+fn is_equal(sheet: &[u8], space: Space, link: usize, first: usize) -> bool
+    requires { ⌜ space .n ≤ 1024 ⌝ }
+    ensures { λ b. ⌜ ((u t : DataType) → Typed space (now (sheet .entry)) link u → Typed space (now (sheet .entry)) first t → b ≡ equal u t) ⌝ }
+{
+    let x = head_at(sheet, link);
+    let y = head_at(sheet, first);
+    if is_plain(x) {
+        if is_plain(y) {
+            return is_same(leaf_of(x), leaf_of(y));
+        }
+    }
+    same_type(sheet, space.n, link, sheet, space.n, first, true)
+}
 
 // Whether the types at a link, past floor, are all the same as that of record `first`.
 pub(crate) fn all_equal(sheet: &[u8], space: Space, first: usize, floor: usize, link: usize) -> bool
@@ -29,7 +48,7 @@ pub(crate) fn all_equal(sheet: &[u8], space: Space, first: usize, floor: usize, 
             return false;
         }
         let next = head_at(sheet, at).next;
-        if !same_type(sheet, space.n, at, sheet, space.n, first, true) {
+        if !is_equal(sheet, space, at, first) {
             return false;
         }
         last = at;

@@ -88,7 +88,7 @@ is-taken-requires c κs =
 -- src/fold.rt:208:19
 common-type-requires : tie.Need-common-type-requires Inv-loop μ-loop
 common-type-requires c κs =
-    ((c .before .before .leaf-of .ensures .1), (c .before .before .before .before .before .before .before .before .before .loop .inv .0 .1 .1))
+    (omega (arith, (c .before .before .leaf-of .ensures .1), (c .before .before .before .before .before .before .before .before .before .loop .inv .0 .1 .1)), omega (arith, (c .before .before .leaf-of .ensures .1), (c .before .before .before .before .before .before .before .before .before .loop .inv .0 .1 .1)))
 
 -- src/fold.rt:209:27
 enum-known-c : tie.Need-enum-known-c Inv-loop μ-loop

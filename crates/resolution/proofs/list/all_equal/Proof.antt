@@ -9,7 +9,7 @@ use Rattle.resolution.proofs.list.all_equal.Statement.{statement}
 use Rattle.resolution.proofs.list.all_equal.Tie as tie
 use Rattle.resolution.proofs.list.all_equal.Reads as reads
 use Rattle.resolution.proofs.list.all_equal.Lts as lts
-use Rattle.buffers.proofs.alike.same_type.Reads as same-type-reads
+use Rattle.resolution.proofs.list.is_equal.Reads as is-equal-reads
 use Rattle.sheet.proofs.record.head_at.Reads as head-at-reads
 
 abbrev Inv-loop : tie.InvT-loop
@@ -36,14 +36,14 @@ head-at-requires c κs =
     search needs
 
 -- src/list.rt:29:13
-same-type-requires : tie.Need-same-type-requires Inv-loop μ-loop
-same-type-requires c κs =
-    (omega (arith, (c .before .before .before .before .before .before .pre)), omega (arith, (c .before .before .before .before .before .before .pre)))
+is-equal-requires : tie.Need-is-equal-requires Inv-loop μ-loop
+is-equal-requires c κs =
+    (c .before .before .before .before .before .before .pre)
 
 -- src/list.rt:30:13
 returns-2 : tie.Need-returns-2 Inv-loop μ-loop
 returns-2 c =
-    λ t ts x. (c .before .before .before .before .before .before .loop .inv) t x _ (equal-not _ _ _ _ _ (c .before .before .before .before .before .loop-test .taken) (c .before .same-type .ensures) t x (unnot _ (c .if2 .taken))) ts
+    λ t ts x. (c .before .before .before .before .before .before .loop .inv) t x _ (equal-not _ _ _ _ _ (c .before .before .before .before .before .loop-test .taken) (c .before .is-equal .ensures) t x (unnot _ (c .if2 .taken))) ts
 
 -- src/list.rt:24:5
 loop-less : tie.Need-loop-less Inv-loop μ-loop
@@ -53,7 +53,7 @@ loop-less c =
 -- src/list.rt:24:5
 loop-again : tie.Need-loop-again Inv-loop μ-loop
 loop-again c =
-    λ t x a g. (c .before .before .before .before .before .before .loop .inv) t x a (equal-on _ _ _ _ _ (c .before .before .before .before .before .loop-test .taken) (c .before .same-type .ensures) t x _ (c .before .before .head-at .ensures .0) a (unnot _ (c .if2 .left)) g)
+    λ t x a g. (c .before .before .before .before .before .before .loop .inv) t x a (equal-on _ _ _ _ _ (c .before .before .before .before .before .loop-test .taken) (c .before .is-equal .ensures) t x _ (c .before .before .head-at .ensures .0) a (unnot _ (c .if2 .left)) g)
 
 -- src/list.rt:18:1
 returns-3 : tie.Need-returns-3 Inv-loop μ-loop
@@ -69,7 +69,7 @@ all-equal-spec =
     loop-holds
     returns
     head-at-requires
-    same-type-requires
+    is-equal-requires
     returns-2
     loop-less
     loop-again
