@@ -6,7 +6,7 @@ use Prim.Native.Nat.{ℕ, _+_, _<_, _≤_}
 use native.Mathlib.Omega.{arith}
 use native.Mathlib.Numerals.{add-one}
 use lib.Dec.{eqb}
-use lib.ListN.{getD}
+use lib.ListN.{length, length-set, getD, set}
 use borrow.Author.Tests.{eqb-true, eqb-false}
 use Rattle.sheet.specs.Types.{Fields, end, field, arity, count}
 use Rattle.sheet.specs.Head.{headAt}
@@ -20,6 +20,7 @@ use Rattle.refusals.specs.Twins.{nameOf, nameAt, placed, Tells, Spells, 
 use Rattle.sheet.proofs.Tests.{never}
 use Rattle.sheet.proofs.Bytewise.{same-self, same-equal}
 use Rattle.refusals.proofs.Joins.{or-true}
+use Rattle.refusals.proofs.Sieving.{filled-more}
 use Rattle.sheet.proofs.Repeating.{name-is, next-leads}
 
 same-of : (xs ys : List ℕ) → xs ≡ ys → sameBytes xs ys ≡ true
@@ -171,10 +172,34 @@ module _ (s : List ℕ) (n floor link : ℕ) where
             go t (field name nullable shape parts rest) m w =
                 record { rest = rest; r = _; o = _; leads = next-leads s n low at _ _ name nullable shape parts rest m h e; long = omega arith }
 
--- the records of a chain, listed by place
-module _ (s : List ℕ) (n floor link : ℕ) (recs : List ℕ) (k : ℕ) (f : (i : ℕ) → i < k → getD recs i 0 ≡ placed s link i) where
+-- the first k records of a chain and the numbers of their names, listed by place in arrays that were w and v
+pub record Kept (s : List ℕ) (n link k : ℕ) (w v recs numbers : List ℕ) : Type 0 where
+  pub long : length recs ≡ length w
+  pub wide : length numbers ≡ length v
+  pub room : k ≤ length recs
+  pub record-at : (i : ℕ) → i < k → getD recs i 0 ≡ placed s link i
+  pub number-at : (i : ℕ) → i < k → getD numbers i 0 ≡ numberOf (names s n link i)
+
+module _ (s : List ℕ) (n floor link k : ℕ) (w v recs numbers : List ℕ) (x : Kept s n link k w v recs numbers) where
   pub listed : (r o : ℕ) (t : Fields) → Leads s n floor link r o t → arity t ≡ k → Spells (nameAt s n recs) k 0 t
-  listed r o t l e = spells-as (names s n link) k (nameAt s n recs) (λ i h. ap (nameOf s n) (sym (f i h))) 0 t (spells s n floor link k r o t l e)
+  listed r o t l e =
+      spells-as (names s n link) k (nameAt s n recs) (λ i h. ap (nameOf s n) (sym (x .record-at i h))) 0 t (spells s n floor link k r o t l e)
+
+  pub numbered : Numbered s n recs k numbers
+  numbered = record { each = λ i h. x .number-at i h ∙ ap (λ (r : ℕ). numberOf (nameOf s n r)) (sym (x .record-at i h)) }
+
+  pub kept-more : length w ≤ length v → (k ≡ length recs → ⊥) → (at q : ℕ) → at ≡ placed s link k → q ≡ numberOf (names s n link k)
+      → Kept s n link (k + 1) w v (set recs k at) (set numbers k q)
+  kept-more f h at q e d =
+      let l : k < length recs = omega (arith, x .room) in
+      let m : k < length numbers = omega (arith, x .long, x .wide) in
+      record {
+        long = length-set recs k at ∙ x .long;
+        wide = length-set numbers k q ∙ x .wide;
+        room = omega (arith, length-set recs k at);
+        record-at = filled-more (placed s link) recs k at l e (x .record-at);
+        number-at = filled-more (λ i. numberOf (names s n link i)) numbers k q m d (x .number-at);
+      }
 
 -- the names of a chain were compared: one is the name of a record before it; or it has k names, and all differ
 module _ (s : List ℕ) (n floor link low at k : ℕ) (p : Passed s n floor link low at k) where

@@ -4,12 +4,11 @@ ghost use Prim.Native.Nat.{ℕ, _/_, _<_, _≤_};
 ghost use lib.ListN.{length, getD};
 ghost use Rattle.refusals.specs.Twins.{nameAt, First, Tells, numberOf, Numbered};
 use crate::Pair;
-use crate::names::name_at;
 use crate::names::same_at;
 use sheet::label::mix;
 
 // The number of a name.
-fn number(name: &[u8]) -> u32
+pub(crate) fn number(name: &[u8]) -> u32
     ensures { λ r. ⌜ r ≡ numberOf (now (name .entry)) ⌝ }
 {
     mix(name) as u32
@@ -65,26 +64,12 @@ fn equal_numbers(xs: &[u32], k: usize) -> Pair
     Pair::Nothing
 }
 
-// The numbers of the names of the first k of several records.
-fn number_names(s: &[u8], n: usize, recs: &[u16], k: usize, numbers: &mut [u32])
-    requires { ⌜ (n < 65536) × (k ≤ length (now numbers)) ⌝ }
-    ensures { λ u. ⌜ Numbered (now (s .entry)) n (now (recs .entry)) k (now (numbers .exit)) ⌝ }
-{
-    let mut i = 0;
-    while i < k {
-        numbers[i] = number(name_at(s, n, recs, i));
-        i += 1;
-    }
-}
-
-// Two equal names among those of the first k of several records. It is not known where names that differ have one number.
-pub(crate) fn by_number(s: &[u8], n: usize, recs: &[u16], k: usize) -> Pair
-    requires { ⌜ (n < 65536) × (k ≤ 1024) ⌝ }
+// Two equal names among those of the first k of several records, of which the numbers are known. It is not known where names that differ have one number.
+pub(crate) fn by_number(s: &[u8], n: usize, recs: &[u16], numbers: &[u32], k: usize) -> Pair
+    requires { ⌜ (n < 65536) × ((k ≤ length (now numbers)) × Numbered (now s) n (now recs) k (now numbers)) ⌝ }
     ensures { λ p. ⌜ Tells (nameAt (now (s .entry)) n (now (recs .entry))) k p ⌝ }
 {
-    let mut numbers = [0u32; 1024];
-    number_names(s, n, recs, k, &mut numbers);
-    match equal_numbers(&numbers, k) {
+    match equal_numbers(numbers, k) {
         Pair::At(a, b) => {
             if same_at(s, n, recs, a, b) {
                 Pair::At(a, b)

@@ -8,11 +8,13 @@ ghost use Rattle.sheet.specs.Read.{labelAt};
 ghost use Rattle.sheet.specs.Names.{repeats, namesDiffer};
 ghost use Rattle.sheet.specs.Holds.{Holds, Leads};
 ghost use Rattle.sheet.specs.Bounds.{Bounded};
-ghost use Rattle.refusals.specs.Twins.{nameOf, nameAt, placed, First, Tells, Compared, Listed, Finds};
+ghost use Rattle.refusals.specs.Twins.{nameOf, nameAt, placed, First, Tells, Compared, Listed, Numbered, Finds};
 use crate::Pair;
 use crate::order::by_order;
 use crate::sieve::by_number;
+use crate::sieve::number;
 use sheet::Head;
+use sheet::label::label_at;
 use sheet::label::same_name;
 use sheet::record::head_at;
 
@@ -61,10 +63,17 @@ fn compared(s: &[u8], n: usize, floor: usize, link: usize, most: usize) -> Pair
     Pair::Nothing
 }
 
-// Lists the records of the chain that a link leads to, as many as there is room for, and says how many they are.
-fn list_chain(s: &[u8], n: usize, floor: usize, link: usize, recs: &mut [u16]) -> usize
-    requires { ⌜ n < 65536 ⌝ }
-    ensures { λ k. ⌜ Listed (now (s .entry)) n floor link (now (recs .exit)) k × (length (now (recs .exit)) ≡ length (now (recs .entry))) ⌝ }
+// Lists the records of the chain that a link leads to and the numbers of their names, as many as there is room for, and says how many they are.
+fn list_chain(
+    s: &[u8],
+    n: usize,
+    floor: usize,
+    link: usize,
+    recs: &mut [u16],
+    numbers: &mut [u32],
+) -> usize
+    requires { ⌜ (n < 65536) × (length (now recs) ≤ length (now numbers)) ⌝ }
+    ensures { λ k. ⌜ Listed (now (s .entry)) n floor link (now (recs .exit)) k × Numbered (now (s .entry)) n (now (recs .exit)) k (now (numbers .exit)) ⌝ }
 {
     let mut low = floor;
     let mut at = link;
@@ -76,12 +85,26 @@ fn list_chain(s: &[u8], n: usize, floor: usize, link: usize, recs: &mut [u16]) -
         if k == recs.len() {
             return k;
         }
+        let h = head_at(s, at);
         recs[k] = at as u16;
+        numbers[k] = number(label_at(s, n, h.name, h.nlen));
         low = at;
-        at = head_at(s, at).next;
+        at = h.next;
         k += 1;
     }
     k
+}
+
+// Two equal names among those of the first k of several records.
+fn equal_names(s: &[u8], n: usize, recs: &[u16], numbers: &[u32], k: usize) -> Pair
+    requires { ⌜ (n < 65536) × ((k ≤ 1024) × ((k ≤ length (now numbers)) × Numbered (now s) n (now recs) k (now numbers))) ⌝ }
+    ensures { λ p. ⌜ Tells (nameAt (now (s .entry)) n (now (recs .entry))) k p ⌝ }
+{
+    match by_number(s, n, recs, numbers, k) {
+        Pair::At(a, b) => Pair::At(a, b),
+        Pair::Nothing => Pair::Nothing,
+        Pair::Unsure => by_order(s, n, recs, k),
+    }
 }
 
 // Whether two records of the chain that a link leads to have one name, by comparing all.
@@ -96,29 +119,18 @@ fn plain(s: &[u8], n: usize, floor: usize, link: usize) -> bool
     }
 }
 
-// Two equal names among those of the first k of several records.
-fn equal_names(s: &[u8], n: usize, recs: &[u16], k: usize) -> Pair
-    requires { ⌜ (n < 65536) × (k ≤ 1024) ⌝ }
-    ensures { λ p. ⌜ Tells (nameAt (now (s .entry)) n (now (recs .entry))) k p ⌝ }
-{
-    match by_number(s, n, recs, k) {
-        Pair::At(a, b) => Pair::At(a, b),
-        Pair::Nothing => Pair::Nothing,
-        Pair::Unsure => by_order(s, n, recs, k),
-    }
-}
-
 // The same, where the chain is long.
 fn sifted(s: &[u8], n: usize, floor: usize, link: usize) -> bool
     requires { ⌜ n < 65536 ⌝ }
     ensures { λ b. ⌜ ((r o : ℕ) (t : Fields) → Leads (now (s .entry)) n floor link r o t → b ≡ repeats t) ⌝ }
 {
     let mut recs = [0u16; 1024];
-    let k = list_chain(s, n, floor, link, &mut recs);
+    let mut numbers = [0u32; 1024];
+    let k = list_chain(s, n, floor, link, &mut recs, &mut numbers);
     if k == 1024 {
         return plain(s, n, floor, link);
     }
-    match equal_names(s, n, &recs, k) {
+    match equal_names(s, n, &recs, &numbers, k) {
         Pair::At(_, _) => true,
         Pair::Nothing => false,
         Pair::Unsure => plain(s, n, floor, link),

@@ -8,55 +8,42 @@ use Rattle.refusals.proofs.sieve.by_number.Reads as reads
 use Rattle.refusals.proofs.sieve.by_number.Lts as lts
 use Rattle.refusals.proofs.names.same_at.Reads as same-at-reads
 use Rattle.refusals.proofs.sieve.equal_numbers.Reads as equal-numbers-reads
-use Rattle.refusals.proofs.sieve.number_names.Reads as number-names-reads
 
--- src/sieve.rt:91:33
-slice-aggregate-number-names : tie.Need-slice-aggregate-number-names
-slice-aggregate-number-names c = search needs
-
--- src/sieve.rt:91:5
-number-names-requires : tie.Need-number-names-requires
-number-names-requires c κs = search needs
-
--- src/sieve.rt:92:25
-slice-aggregate-equal-numbers : tie.Need-slice-aggregate-equal-numbers
-slice-aggregate-equal-numbers c = search needs
-
--- src/sieve.rt:92:11
+-- src/sieve.rt:102:11
 equal-numbers-requires : tie.Need-equal-numbers-requires
 equal-numbers-requires c κs = search needs
 
--- src/sieve.rt:93:18
+-- src/sieve.rt:103:18
 enum-known-a : tie.Need-enum-known-a
 enum-known-a c = search needs
 
--- src/sieve.rt:94:16
+-- src/sieve.rt:104:16
 same-at-requires : tie.Need-same-at-requires
 same-at-requires c κs = search needs
 
--- src/sieve.rt:100:26
+-- src/sieve.rt:110:26
 enum-told : tie.Need-enum-told
 enum-told c = search needs
 
--- src/sieve.rt:101:25
+-- src/sieve.rt:111:25
 enum-told-2 : tie.Need-enum-told-2
 enum-told-2 c = search needs
 
--- src/sieve.rt:86:1
+-- src/sieve.rt:98:1
 returns : tie.Need-returns
 returns c =
     let e = rw (c .before .before .before .a .given .1) at (c .before .before .before .before .before .equal-numbers .ensures) in (e .0, (e .1 .0, same-equal _ _ (sym (c .before .same-at .ensures) ∙ (c .if1 .taken))))
 
--- src/sieve.rt:86:1
+-- src/sieve.rt:98:1
 returns-2 : tie.Need-returns-2
 returns-2 c = search needs
 
--- src/sieve.rt:86:1
+-- src/sieve.rt:98:1
 returns-3 : tie.Need-returns-3
 returns-3 c =
-    numbers-differ (c .before .before .before .before .before .before .before .before .before .args .s .now) (c .before .before .before .before .before .before .before .before .before .args .n) (c .before .before .before .before .before .before .before .before .before .args .recs .now) (c .before .before .before .before .before .before .before .before .before .args .k) _ (c .before .before .before .before .before .number-names .ensures) (rw (c .enum-told .given .1) at (c .before .before .equal-numbers .ensures))
+    numbers-differ (c .before .before .before .before .before .before .args .s .now) (c .before .before .before .before .before .before .args .n) (c .before .before .before .before .before .before .args .recs .now) (c .before .before .before .before .before .before .args .k) (c .before .before .before .before .before .before .args .numbers .now) (c .before .before .before .before .before .before .pre .1 .1) (rw (c .enum-told .given .1) at (c .before .before .equal-numbers .ensures))
 
--- src/sieve.rt:86:1
+-- src/sieve.rt:98:1
 returns-4 : tie.Need-returns-4
 returns-4 c = search needs
 
@@ -64,9 +51,6 @@ pub by-number-spec : {M : Type 1} → statement M
 by-number-spec =
     tie.close
     (tie.spec
-    slice-aggregate-number-names
-    number-names-requires
-    slice-aggregate-equal-numbers
     equal-numbers-requires
     enum-known-a
     same-at-requires

@@ -6,37 +6,37 @@ use Rattle.refusals.proofs.twins.equal_names.Lts as lts
 use Rattle.refusals.proofs.order.by_order.Reads as by-order-reads
 use Rattle.refusals.proofs.sieve.by_number.Reads as by-number-reads
 
--- src/twins.rt:104:11
+-- src/twins.rt:96:11
 by-number-requires : tie.Need-by-number-requires
 by-number-requires c κs = search needs
 
--- src/twins.rt:105:18
+-- src/twins.rt:97:18
 enum-known-a : tie.Need-enum-known-a
 enum-known-a c = search needs
 
--- src/twins.rt:106:26
+-- src/twins.rt:98:26
 enum-told : tie.Need-enum-told
 enum-told c = search needs
 
--- src/twins.rt:107:25
+-- src/twins.rt:99:25
 enum-told-2 : tie.Need-enum-told-2
 enum-told-2 c = search needs
 
--- src/twins.rt:107:25
+-- src/twins.rt:99:25
 by-order-requires : tie.Need-by-order-requires
 by-order-requires c κs = search needs
 
--- src/twins.rt:100:1
+-- src/twins.rt:92:1
 returns : tie.Need-returns
 returns c =
     rw (c .before .a .given .1) at (c .before .before .before .by-number .ensures)
 
--- src/twins.rt:100:1
+-- src/twins.rt:92:1
 returns-2 : tie.Need-returns-2
 returns-2 c =
     rw (c .enum-told .given .1) at (c .before .before .by-number .ensures)
 
--- src/twins.rt:100:1
+-- src/twins.rt:92:1
 returns-3 : tie.Need-returns-3
 returns-3 c = search needs
 
