@@ -116,11 +116,11 @@ fn with_number(name: &[u8], place: usize, first: u32, wanted: u32) -> Vec<u8> {
     made
 }
 
-/// Names in no order whose numbers share their upper bits and which differ in the eight bytes at
-/// a place alone, a multiple of four. The last two have one number.
-fn colliding(count: usize, length: usize, place: usize) -> Vec<Vec<u8>> {
+/// Names in no order which differ in the eight bytes at a place alone, a multiple of four. They
+/// have as many numbers, all with the same upper bits.
+fn colliding(count: usize, numbers: usize, length: usize, place: usize) -> Vec<Vec<u8>> {
     let name = vec![b'x'; length];
-    let wanted = |at: usize| (7 << 19) + at.min(count - 2) as u32;
+    let wanted = |at: usize| (7 << 19) + at.min(numbers - 1) as u32;
     let spread = |at: usize| (at as u32).wrapping_mul(2_654_435_769);
     (0..count).map(|at| with_number(&name, place, spread(at), wanted(at))).collect()
 }
@@ -370,16 +370,22 @@ const PLACES: [(usize, usize, &str); 4] = [
     (8, 0, "eight bytes"),
 ];
 
-/// Names that the check cannot sift, as they have one key, and that it has to sort, as two have one number.
+/// Names that the check cannot sift, as their numbers have the same upper bits, and that it has to
+/// sort, as two have one number, or all.
 fn collided() -> Vec<Hard> {
     let mut found = Vec::new();
     for (length, place, word) in PLACES {
-        let what =
-            format!("{length}-byte names of one key that differ in the {word}, two of one number");
-        found.extend(name_orders(&what, &colliding(FIELDS, length, place)));
-        let one = vec![row(&colliding(1022, length, place), &Int32)];
-        let name = format!("a Struct of 1,022 fields, {what}");
-        found.push(Hard::new(&format!("one Struct: {what}"), &name, one));
+        for one_number in [false, true] {
+            let shared = if one_number { "all of one number" } else { "two of one number" };
+            let what = format!("{length}-byte names of one key that differ in the {word}, {shared}");
+            let names = |count: usize| {
+                colliding(count, if one_number { 1 } else { count - 1 }, length, place)
+            };
+            found.extend(name_orders(&what, &names(FIELDS)));
+            let name = format!("a Struct of 1,022 fields, {what}");
+            let one = vec![row(&names(1022), &Int32)];
+            found.push(Hard::new(&format!("one Struct: {what}"), &name, one));
+        }
     }
     found
 }
