@@ -9,8 +9,8 @@ use lib.ListN.{length, getD, take, drop}
 use lib.Seq.{drop-cons}
 use lib.Dec.{eqb, ltb}
 use native.Mathlib.Decide.{ℕ-discrete}
-use borrow.Author.Tests.{eq-eqb, ne-eqb, lt-ltb, le-ltb}
-use Rattle.sheet.specs.Tests.{oneOf}
+use borrow.Author.Tests.{eq-eqb, ne-eqb, eqb-true, lt-ltb, le-ltb, ltb-false, not-false}
+use Rattle.sheet.specs.Tests.{allOf, oneOf}
 use Rattle.sheet.specs.Kind.{isKind}
 use Rattle.sheet.specs.Head.{word, quadAt, headAt}
 use Rattle.sheet.specs.Read.{recordsOf, labelsOf}
@@ -18,7 +18,7 @@ use Rattle.sheet.specs.Refusals.{allZero, anyFrom, torn}
 use Rattle.refusals.specs.Limits.{Fits}
 use Rattle.sheet.specs.declared.Head.{Head}
 use Rattle.sheet.proofs.Heads.{head-inside}
-use Rattle.sheet.proofs.Tests.{one-is, one-cons, one-nil, not-of}
+use Rattle.sheet.proofs.Tests.{all-at, one-at, one-is, one-cons, one-nil, not-of}
 
 -- the sum of k bytes from i on
 abbrev total : List ℕ → ℕ → ℕ → ℕ
@@ -79,6 +79,29 @@ any-here test n r w h e v = ap (λ (b : Bool). b || anyFrom test (r + 1) (n - (r
 pub any-done : (test : ℕ → Bool) (n r : ℕ) (w : Bool) → n ≤ r → anyFrom test r (n - r) ≡ w → false ≡ w
 any-done test n r w h v = let e : n - r ≡ 0 = omega arith in sym (ap (anyFrom test r) e) ∙ v
 
+-- four records of right kinds
+module _ (s : List ℕ) (n r : ℕ) (long : 16 * n ≤ length s) (lt : r + 3 < n) where
+  odd : ℕ → Bool
+  odd q = not (isKind (headAt s q .kind))
+
+  right-at : (q i : ℕ) → q < n → i ≡ 16 * q → isKind (getD s i 0) ≡ true → odd q ≡ false
+  unfolding odd
+  right-at q i h e k =
+      ap (λ (x : Head). not (isKind (x .kind))) (head-inside s q (omega arith)) ∙ ap (λ (j : ℕ). not (isKind (getD s j 0))) (sym e) ∙ not-of k
+
+  pub any-four : (w : Bool) {b : Bool}
+      → b ≡ allOf (isKind (getD s (16 * r) 0) ∷ isKind (getD s (16 * r + 16) 0) ∷ isKind (getD s (16 * r + 32) 0) ∷ isKind (getD s (16 * r + 48) 0) ∷ []) → b ≡ true
+      → anyFrom (λ q. not (isKind (headAt s q .kind))) r (n - r) ≡ w → anyFrom (λ q. not (isKind (headAt s q .kind))) (r + 4) (n - (r + 4)) ≡ w
+  unfolding odd
+  any-four w e t v =
+      let k = sym e ∙ t in
+      let four : r + 1 + 1 + 1 + 1 ≡ r + 4 = omega arith in
+      subst (λ (q : ℕ). anyFrom odd q (n - q) ≡ w) four
+      (any-next odd n (r + 1 + 1 + 1) w (omega arith) (right-at (r + 1 + 1 + 1) (16 * r + 48) (omega arith) (omega arith) (all-at _ 3 k))
+      (any-next odd n (r + 1 + 1) w (omega arith) (right-at (r + 1 + 1) (16 * r + 32) (omega arith) (omega arith) (all-at _ 2 k))
+      (any-next odd n (r + 1) w (omega arith) (right-at (r + 1) (16 * r + 16) (omega arith) (omega arith) (all-at _ 1 k))
+      (any-next odd n r w (omega arith) (right-at r (16 * r) (omega arith) refl (all-at _ 0 k)) v))))
+
 module _ (s : List ℕ) where
   pub torn-short : length s < 16 → torn s ≡ true
   unfolding torn
@@ -123,3 +146,18 @@ module _ (s : List ℕ) where
           short = short;
           long = long;
         }
+
+-- a sheet that is not torn
+module _ (s : List ℕ) (h : torn s ≡ false) where
+  pub whole-long : 16 ≤ length s
+  unfolding torn
+  whole-long = ltb-false (length s) 16 (one-at _ 0 h)
+
+  pub whole-fits : (n m : ℕ) → n ≡ recordsOf s → m ≡ labelsOf s → Fits s n m
+  unfolding torn
+  whole-fits n m en em =
+      let some = ltb-false (recordsOf s) 1 (one-at _ 1 h) in
+      let few = ltb-false 1024 (recordsOf s) (one-at _ 2 h) in
+      let short = ltb-false 16384 (labelsOf s) (one-at _ 3 h) in
+      let long = eqb-true (length s) (16 * recordsOf s + labelsOf s) (not-false _ (one-at _ 4 h)) in
+      record { whole = h; records = en; labels = em; some = omega arith; few = omega arith; short = omega arith; long = omega arith }

@@ -1,13 +1,11 @@
 -- What the code says of a header.
 use mathlib.Core.Path.{_≡_}
 use Prim.Native.Nat.{ℕ, _+_, _*_, _≤_}
-use mathlib.Core.Bool.{true, false}
+use mathlib.Core.Bool.{false}
 use mathlib.Core.List.{List}
 use lib.ListN.{length}
 use Rattle.sheet.specs.Read.{recordsOf, labelsOf}
 use Rattle.sheet.specs.Refusals.{torn}
-use Rattle.refusals.specs.declared.Limits.{Limits}
-use Rattle.refusals.specs.declared.Limits.the-variants.{Fit, Torn}
 
 -- n and m of a sheet that is not torn
 pub record Fits (s : List ℕ) (n m : ℕ) : Type 0 where
@@ -18,7 +16,3 @@ pub record Fits (s : List ℕ) (n m : ℕ) : Type 0 where
   pub few : n ≤ 1024
   pub short : m ≤ 16384
   pub long : length s ≡ 16 * n + m
-
-abbrev pub Measured : List ℕ → Limits → Type 0
-Measured s (Fit n m) = Fits s n m
-Measured s Torn = torn s ≡ true

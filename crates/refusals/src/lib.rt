@@ -1,5 +1,5 @@
 // The check of a sheet, which gives refusals 1 to 5.
-mod header;
+pub mod header;
 mod names;
 mod order;
 mod sieve;
@@ -8,24 +8,19 @@ mod twins;
 mod walk;
 
 ghost use mathlib.Core.Path.{_≡_};
-ghost use mathlib.Core.Bool.{cond};
+ghost use mathlib.Core.Bool.{false, cond};
 ghost use lib.Dec.{ltb};
 ghost use Rattle.sheet.specs.Read.{start};
-ghost use Rattle.sheet.specs.Refusals.{meaning, verdict};
+ghost use Rattle.sheet.specs.Refusals.{torn, meaning, verdict};
 ghost use Rattle.refusals.specs.Limits.{Fits};
 ghost use Rattle.refusals.specs.Found.{Found};
-use header::limits;
+use header::is_torn;
 use header::odd_kind;
 use sheet::Checked;
 use sheet::Refusal;
+use sheet::record::word_at;
 use sound::walk_all;
 use twins::twins;
-
-// What a header says: n and m, or that the sheet is torn.
-enum Limits {
-    Fit(usize, usize),
-    Torn,
-}
 
 // What a walk has found so far: the next record, the next label, and whether a figure or a label is wrong.
 struct Progress {
@@ -52,10 +47,18 @@ enum Pair {
 pub fn check(s: &[u8]) -> Checked
     ensures { λ r. ⌜ meaning r ≡ verdict (now (s .entry)) ⌝ }
 {
-    match limits(s) {
-        Limits::Fit(n, m) => check_records(s, n, m),
-        Limits::Torn => Checked::Refused(Refusal::Torn),
+    if is_torn(s) {
+        return Checked::Refused(Refusal::Torn);
     }
+    check_whole(s)
+}
+
+// The same of a sheet that is not torn.
+pub fn check_whole(s: &[u8]) -> Checked
+    requires { ⌜ torn (now s) ≡ false ⌝ }
+    ensures { λ r. ⌜ meaning r ≡ verdict (now (s .entry)) ⌝ }
+{
+    check_records(s, word_at(s, 0), word_at(s, 2))
 }
 
 // The link to the listed types of a sheet of n records.
