@@ -118,7 +118,7 @@ fn with_number(name: &[u8], place: usize, first: u32, wanted: u32) -> Vec<u8> {
 
 /// Names in no order which differ in the eight bytes at a place alone, a multiple of four. They
 /// have as many numbers, all with the same upper bits.
-fn colliding(count: usize, numbers: usize, length: usize, place: usize) -> Vec<Vec<u8>> {
+pub fn colliding(count: usize, numbers: usize, length: usize, place: usize) -> Vec<Vec<u8>> {
     let name = vec![b'x'; length];
     let wanted = |at: usize| (7 << 19) + at.min(numbers - 1) as u32;
     let spread = |at: usize| (at as u32).wrapping_mul(2_654_435_769);
@@ -377,7 +377,8 @@ fn collided() -> Vec<Hard> {
     for (length, place, word) in PLACES {
         for one_number in [false, true] {
             let shared = if one_number { "all of one number" } else { "two of one number" };
-            let what = format!("{length}-byte names of one key that differ in the {word}, {shared}");
+            let what =
+                format!("{length}-byte names of one key that differ in the {word}, {shared}");
             let names = |count: usize| {
                 colliding(count, if one_number { 1 } else { count - 1 }, length, place)
             };
