@@ -12,7 +12,7 @@ use Rattle.sheet.specs.Head.{word, quadAt, eightAt}
 use Rattle.sheet.specs.Names.{sameBytes}
 use Rattle.sheet.specs.Holds.{Plain}
 use Rattle.sheet.proofs.Bytewise.{same-self, same-equal, part-at}
-use Rattle.sheet.proofs.Heads.{quad0, quad1, quad2, quad3}
+use Rattle.sheet.proofs.Heads.{low, high, quad0, quad1, quad2, quad3}
 use Rattle.sheet.proofs.Spans.{at-eq}
 
 -- two strings agree in their first i bytes
@@ -48,6 +48,11 @@ module _ (a b : List ℕ) where
       go (no g) = let w : k ≡ j = omega arith in at-eq a w ∙ e ∙ sym (at-eq b w)
 
   module _ (pa : Plain a) (pb : Plain b) where
+    pub agree-word : (i j t : ℕ) → Agree a b i → j ≤ i → t ≤ j + 2 → word a j ≡ word b j → Agree a b t
+    agree-word i j t f h z e =
+        let one = agree-one i j (j + 1) f h (omega arith) (by (λ (x : ℕ). x % 256) e (low a 0 pa j) (low b 0 pb j)) in
+        agree-one (j + 1) (j + 1) t one (omega arith) (omega arith) (by (λ (x : ℕ). x / 256) e (high a 0 pa j) (high b 0 pb j))
+
     pub agree-quad : (i j t : ℕ) → Agree a b i → j ≤ i → t ≤ j + 4 → quadAt a j ≡ quadAt b j → Agree a b t
     agree-quad i j t f h z e =
         let one = agree-one i j (j + 1) f h (omega arith) (by (λ (x : ℕ). x % 256) e (quad0 a 0 pa j) (quad0 b 0 pb j)) in
@@ -73,6 +78,12 @@ module _ (a b : List ℕ) where
         go : (t : Bool) → eqb (f a) (f b) ≡ t → t ≡ sameBytes a b
         go true q = agree-all a b e (g (eqb-true (f a) (f b) q))
         go false q = same-unlike f a b (eqb-false (f a) (f b) q)
+
+    pub byte-decides : length a ≡ length b → length a ≤ 1 → eqb (getD a 0 0) (getD b 0 0) ≡ sameBytes a b
+    byte-decides e z = decided (λ (l : List ℕ). getD l 0 0) e (agree-one 0 0 (length a) (agree-none a b) (omega arith) (omega arith))
+
+    pub word-decides : (i j : ℕ) → length a ≡ length b → Agree a b i → j ≤ i → length a ≤ j + 2 → eqb (word a j) (word b j) ≡ sameBytes a b
+    word-decides i j e f h z = decided (λ (l : List ℕ). word l j) e (agree-word i j (length a) f h z)
 
     pub quad-decides : (i j : ℕ) → length a ≡ length b → Agree a b i → j ≤ i → length a ≤ j + 4 → eqb (quadAt a j) (quadAt b j) ≡ sameBytes a b
     quad-decides i j e f h z = decided (λ (l : List ℕ). quadAt l j) e (agree-quad i j (length a) f h z)
@@ -106,9 +117,6 @@ module _ (s t : List ℕ) (a b i : ℕ) where
       go : (c : Bool) → sameBytes (take i (drop a s)) (take i (drop b t)) ≡ c → false ≡ c
       go true q = absurd (n (f (same-equal _ _ q)))
       go false q = refl
-
-  pub bytes-apart : (k x y : ℕ) → k < i → x ≡ a + k → y ≡ b + k → (getD s x 0 ≡ getD t y 0 → ⊥) → false ≡ sameBytes (take i (drop a s)) (take i (drop b t))
-  bytes-apart k x y h p q = parts-apart (λ e. byte-like s t a b i e k x y h p q)
 
   pub quads-apart : (k x y : ℕ) → k + 3 < i → x ≡ a + k → y ≡ b + k → (quadAt s x ≡ quadAt t y → ⊥) → false ≡ sameBytes (take i (drop a s)) (take i (drop b t))
   quads-apart k x y h p q = parts-apart (λ e. quad-like s t a b i e k x y h p q)

@@ -39,34 +39,26 @@ same-lengths [] (y ∷ ys) n = refl
 same-lengths (x ∷ xs) [] n = refl
 same-lengths (x ∷ xs) (y ∷ ys) n = ap (λ (b : Bool). eqb x y && b) (same-lengths xs ys (λ e. n (ap suc e))) ∙ and-false (eqb x y)
 
-same-step : (a b : List ℕ) (i : ℕ) → i < length a → i < length b
-    → sameBytes (drop i a) (drop i b) ≡ (eqb (getD a i 0) (getD b i 0) && sameBytes (drop (i + 1) a) (drop (i + 1) b))
-unfolding sameBytes
-same-step a b i h k = ap₂ sameBytes (drop-cons a i 0 h) (drop-cons b i 0 k) ∙ rw (add-one i)
-
 pub same-done : (a b : List ℕ) (i : ℕ) → length a ≤ i → length b ≤ i → sameBytes (drop i a) (drop i b) ≡ true
 unfolding sameBytes
 same-done a b i h k = ap₂ sameBytes (drop-of-length-le a {i = i} h) (drop-of-length-le b {i = i} k)
 
--- a turn of the comparison, at an index where the two agree, and where they do not
-pub same-next : (a b : List ℕ) (i : ℕ) (w : Bool) → i < length a → i < length b → getD a i 0 ≡ getD b i 0
-    → sameBytes (drop i a) (drop i b) ≡ w → sameBytes (drop (i + 1) a) (drop (i + 1) b) ≡ w
-same-next a b i w h k e v =
-    ap (λ (x : Bool). x && sameBytes (drop (i + 1) a) (drop (i + 1) b)) (sym (eq-eqb _ _ e)) ∙ sym (same-step a b i h k) ∙ v
-
-pub same-differ : (a b : List ℕ) (i : ℕ) (w : Bool) → i < length a → i < length b → (getD a i 0 ≡ getD b i 0 → ⊥)
-    → sameBytes (drop i a) (drop i b) ≡ w → false ≡ w
-same-differ a b i w h k n v =
-    ap (λ (x : Bool). x && sameBytes (drop (i + 1) a) (drop (i + 1) b)) (sym (ne-eqb _ _ n)) ∙ sym (same-step a b i h k) ∙ v
+-- strings that differ at an index are not the same
+same-apart : (xs ys : List ℕ) (k : ℕ) → (getD xs k 0 ≡ getD ys k 0 → ⊥) → sameBytes xs ys ≡ false
+same-apart xs ys k n = go (sameBytes xs ys) refl
+  where
+    go : (b : Bool) → sameBytes xs ys ≡ b → b ≡ false
+    go true e = absurd (n (ap (λ (l : List ℕ). getD l k 0) (same-equal xs ys e)))
+    go false e = refl
 
 -- the length of a part, and a byte of it
-pub part-length : (s : List ℕ) (a m : ℕ) → length (take m (drop a s)) ≡ min m (length s - a)
+part-length : (s : List ℕ) (a m : ℕ) → length (take m (drop a s)) ≡ min m (length s - a)
 part-length s a m = length-take m (drop a s) ∙ ap (min m) (length-drop a s)
 
 pub part-at : (s : List ℕ) (a m k : ℕ) → k < m → getD (take m (drop a s)) k 0 ≡ getD s (a + k) 0
 part-at s a m k h = getD-take m (drop a s) k 0 h ∙ getD-drop a s k 0
 
--- two parts, by their lengths
+-- two parts, by their lengths and by a byte of each
 module _ (s t : List ℕ) (a m b n : ℕ) where
   pub parts-lengths : (min m (length s - a) ≡ min n (length t - b) → ⊥) → false ≡ sameBytes (take m (drop a s)) (take n (drop b t))
   parts-lengths h =
@@ -75,6 +67,20 @@ module _ (s t : List ℕ) (a m b n : ℕ) where
   pub parts-empty : min m (length s - a) ≡ 0 → min n (length t - b) ≡ 0 → true ≡ sameBytes (take m (drop a s)) (take n (drop b t))
   parts-empty h k =
       sym (same-done (take m (drop a s)) (take n (drop b t)) 0 (omega (arith, part-length s a m ∙ h)) (omega (arith, part-length t b n ∙ k)))
+
+  pub parts-apart : (k : ℕ) → k < m → k < n → (getD s (a + k) 0 ≡ getD t (b + k) 0 → ⊥) → false ≡ sameBytes (take m (drop a s)) (take n (drop b t))
+  parts-apart k h h′ d =
+      sym (same-apart (take m (drop a s)) (take n (drop b t)) k (λ e. d (sym (part-at s a m k h) ∙ e ∙ part-at t b n k h′)))
+
+-- the last byte but one of a part of i bytes lies inside
+pub last-inside : (l a m i : ℕ) → i ≡ min m (l - a) → 0 < i - 1 → a + (i - 1) - 1 < l
+last-inside l a m i e h = omega arith
+
+pub last-within : (l a m i : ℕ) → i ≡ min m (l - a) → 0 < i - 1 → i - 2 < m
+last-within l a m i e h = omega arith
+
+pub last-at : (a i : ℕ) → 0 < i - 1 → a + (i - 1) - 1 ≡ a + (i - 2)
+last-at a i h = omega arith
 
 -- a part that is cut off at the end of the list
 pub cut-part : (s : List ℕ) (i k : ℕ) → take (min (min i (length s) + k) (length s) - min i (length s)) (drop (min i (length s)) s) ≡ take k (drop i s)

@@ -17,10 +17,10 @@ unfolding headAt
 head-inside s r h = rw (lt-ltb r (length s / 16) (omega arith))
 
 module _ (s : List ℕ) (i : ℕ) (plain : Plain s) where
-  low : (j : ℕ) → word s j % 256 ≡ getD s j 0
+  pub low : (j : ℕ) → word s j % 256 ≡ getD s j 0
   low j = omega (arith, plain j)
 
-  high : (j : ℕ) → word s j / 256 ≡ getD s (j + 1) 0
+  pub high : (j : ℕ) → word s j / 256 ≡ getD s (j + 1) 0
   high j = omega (arith, plain j)
 
   pub quad0 : (j : ℕ) → quadAt s j % 256 ≡ getD s j 0

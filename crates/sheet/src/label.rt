@@ -10,6 +10,7 @@ use crate::Head;
 use crate::record::eight_at;
 use crate::record::quad_at;
 use crate::record::wide;
+use crate::record::word_at;
 
 // The label of len bytes at an offset, as a part of the sheet: what lies inside, where the sheet ends before it does.
 pub fn label_at(s: &[u8], n: usize, at: usize, len: usize) -> &[u8]
@@ -27,34 +28,28 @@ fn least(a: usize, b: usize) -> usize
     if a < b { a } else { b }
 }
 
-// Whether two slices of one length are the same bytes, one by one.
-fn same_few(a: &[u8], b: &[u8]) -> bool
-    requires { ⌜ length (now a) ≡ length (now b) ⌝ }
-    ensures { λ r. ⌜ r ≡ sameBytes (now (a .entry)) (now (b .entry)) ⌝ }
-{
-    let mut i = 0;
-    while i < a.len() {
-        if a[i] != b[i] {
-            return false;
-        }
-        i += 1;
-    }
-    true
-}
-
-// The same of less than eight bytes. The last four may be compared with some of the first.
+// Whether two slices of one length, less than eight, are the same bytes. The last four, or two, may be compared with some of the first.
 fn same_short(a: &[u8], b: &[u8]) -> bool
     requires { ⌜ (length (now a) ≡ length (now b)) × (length (now a) < 8) ⌝ }
     ensures { λ r. ⌜ r ≡ sameBytes (now (a .entry)) (now (b .entry)) ⌝ }
 {
     let n = a.len();
-    if n < 4 {
-        return same_few(a, b);
+    if 4 <= n {
+        if quad_at(a, 0) != quad_at(b, 0) {
+            return false;
+        }
+        return quad_at(a, n - 4) == quad_at(b, n - 4);
     }
-    if quad_at(a, 0) != quad_at(b, 0) {
-        return false;
+    if 2 <= n {
+        if word_at(a, 0) != word_at(b, 0) {
+            return false;
+        }
+        return word_at(a, n - 2) == word_at(b, n - 2);
     }
-    quad_at(a, n - 4) == quad_at(b, n - 4)
+    if n == 0 {
+        return true;
+    }
+    a[0] == b[0]
 }
 
 // Whether two slices are the same bytes. Eight are compared at a time, the last eight at the end.
@@ -102,7 +97,7 @@ fn reach(l: usize, a: usize, m: usize) -> usize
     if l <= a { 0 } else { least(m, l - a) }
 }
 
-// The comparison of same_label. Each label is held in an array of its own before they are compared.
+// The comparison of labels that may be the same. Each is held in an array of its own before they are compared.
 fn same_held(s: &[u8], a: usize, m: usize, t: &[u8], b: usize, n: usize) -> bool
     requires { ⌜ (m ≤ 255) × (n ≤ 255) ⌝ }
     ensures { λ r. ⌜ r ≡ sameBytes (take m (drop a (now (s .entry)))) (take n (drop b (now (t .entry)))) ⌝ }
@@ -114,7 +109,7 @@ fn same_held(s: &[u8], a: usize, m: usize, t: &[u8], b: usize, n: usize) -> bool
     same(&x[..i], &y[..j])
 }
 
-// Whether two labels of i bytes have the same bytes at the end and at the front. Most labels that differ are told apart by these.
+// Whether two labels of i bytes have the same bytes at the end and at the front, where they have four or more.
 fn look_alike(s: &[u8], a: usize, t: &[u8], b: usize, i: usize) -> bool
     requires { ⌜ (0 < i) × ((a + i ≤ length (now s)) × (b + i ≤ length (now t))) ⌝ }
     ensures { λ r. ⌜ (r ≡ false → false ≡ sameBytes (take i (drop a (now (s .entry)))) (take i (drop b (now (t .entry))))) ⌝ }
@@ -131,13 +126,22 @@ fn look_alike(s: &[u8], a: usize, t: &[u8], b: usize, i: usize) -> bool
         }
         return quad_at(s, a) == quad_at(t, b);
     }
-    if s[a + i - 1] != t[b + i - 1] {
-        return false;
-    }
-    s[a] == t[b]
+    true
 }
 
-// Whether the m bytes of s from a on are the n bytes of t from b on.
+// The comparison of labels of i bytes whose last bytes are the same. Few that differ are held in arrays.
+fn same_close(s: &[u8], a: usize, m: usize, t: &[u8], b: usize, n: usize, i: usize) -> bool
+    requires { ⌜ ((m ≤ 255) × (n ≤ 255)) × ((0 < i) × ((i ≡ Prim.Native.Nat.min m (length (now s) - a)) × (i ≡ Prim.Native.Nat.min n (length (now t) - b)))) ⌝ }
+    ensures { λ r. ⌜ r ≡ sameBytes (take m (drop a (now (s .entry)))) (take n (drop b (now (t .entry)))) ⌝ }
+{
+    if look_alike(s, a, t, b, i) {
+        same_held(s, a, m, t, b, n)
+    } else {
+        false
+    }
+}
+
+// Whether the m bytes of s from a on are the n bytes of t from b on. Most labels differ in length or in the last two bytes, and are told apart by these.
 pub fn same_label(s: &[u8], a: usize, m: usize, t: &[u8], b: usize, n: usize) -> bool
     requires { ⌜ (m ≤ 255) × (n ≤ 255) ⌝ }
     ensures { λ r. ⌜ r ≡ sameBytes (take m (drop a (now (s .entry)))) (take n (drop b (now (t .entry)))) ⌝ }
@@ -149,11 +153,17 @@ pub fn same_label(s: &[u8], a: usize, m: usize, t: &[u8], b: usize, n: usize) ->
     if i == 0 {
         return true;
     }
-    if look_alike(s, a, t, b, i) {
-        same_held(s, a, m, t, b, n)
-    } else {
-        false
+    let k = i - 1;
+    if s[a + k] != t[b + k] {
+        return false;
     }
+    if 0 < k {
+        if s[a + k - 1] != t[b + k - 1] {
+            return false;
+        }
+        return same_close(s, a, m, t, b, n, i);
+    }
+    same_close(s, a, m, t, b, n, i)
 }
 
 // Four bytes, or one, stirred into a number of 32 bits.

@@ -9,7 +9,7 @@ use lib.Seq.{length-take-le, take-all, take-length}
 use borrow.Author.Tests.{eq-eqb, ne-eqb, le-leb, lt-leb, lt-ltb, le-ltb}
 use Rattle.sheet.specs.Head.{headAt, headFrom}
 use Rattle.sheet.specs.Names.{sameBytes}
-use Rattle.sheet.proofs.Bytewise.{same-lengths, same-next, same-differ, same-done, cut-part, fill-none, fill-all}
+use Rattle.sheet.proofs.Bytewise.{same-lengths, same-done, cut-part, fill-none, fill-all}
 use Rattle.sheet.proofs.Heads.{head-inside}
 use borrow.Author.Needs.{needs}
 use Rattle.sheet.proofs.record.head_at.Statement.{statement}
