@@ -2,14 +2,12 @@
 use mathlib.Core.Path.{_≡_, refl, sym, _∙_, ap, ap₂}
 use mathlib.Core.Bool.{Bool, true, false, _&&_}
 use mathlib.Core.List.{List, [], _∷_, _++_}
-use Prim.Native.Nat.{ℕ, zero, suc, _+_, _*_, _-_, _<_, _≤_, min}
-use native.Mathlib.Numerals.{add-one}
+use Prim.Native.Nat.{ℕ, suc, _+_, _-_, _<_, _≤_, min}
 use native.Mathlib.Omega.{arith}
 use lib.Dec.{eqb}
 use lib.ListN.{length, getD, take, drop, drop-of-length-le, length-take, length-drop, length-append}
-use lib.Seq.{drop-cons, take-all, take-length, take-at, take-nil, length-front, getD-take, getD-drop}
-use borrow.Author.Tests.{eq-eqb, ne-eqb, eqb-true}
-use Rattle.sheet.specs.Read.{labelAt}
+use lib.Seq.{take-all, take-length, take-at, take-nil, getD-take, getD-drop}
+use borrow.Author.Tests.{eq-eqb, eqb-true}
 use Rattle.sheet.specs.Names.{sameBytes}
 use Rattle.sheet.specs.Bounds.{Filled}
 use Rattle.sheet.proofs.Tests.{and-fst, and-snd, never}

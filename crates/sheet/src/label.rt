@@ -142,6 +142,7 @@ fn same_close(s: &[u8], a: usize, m: usize, t: &[u8], b: usize, n: usize, i: usi
 }
 
 // Whether the m bytes of s from a on are the n bytes of t from b on. Most labels differ in length or in the last two bytes, and are told apart by these.
+// The longer comparison is called at two places, which keeps it out of line and these tests in the loops that ask them.
 pub fn same_label(s: &[u8], a: usize, m: usize, t: &[u8], b: usize, n: usize) -> bool
     requires { ⌜ (m ≤ 255) × (n ≤ 255) ⌝ }
     ensures { λ r. ⌜ r ≡ sameBytes (take m (drop a (now (s .entry)))) (take n (drop b (now (t .entry)))) ⌝ }

@@ -1,6 +1,5 @@
-use mathlib.Core.Path.{_≡_, sym, _∙_, ap₂}
-use mathlib.Core.Bool.{false, true}
-use Prim.Native.Nat.{ℕ, _+_, _-_}
+use mathlib.Core.Path.{sym, _∙_}
+use Prim.Native.Nat.{_-_}
 use native.Mathlib.Omega.{arith}
 use borrow.Author.Tests.{eqb-false}
 use Rattle.sheet.proofs.Tests.{never}

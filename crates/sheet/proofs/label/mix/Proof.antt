@@ -1,7 +1,7 @@
 use mathlib.Core.Path.{_≡_, refl, sym, _∙_, ap, subst}
 use Prim.Native.Nat.{ℕ, _+_, _-_, _<_, _≤_}
 use native.Mathlib.Omega.{arith}
-use lib.ListN.{length, drop, getD}
+use lib.ListN.{length, drop}
 use Rattle.sheet.specs.Names.{stir, mixed}
 use Rattle.sheet.proofs.Mixing.{mixed-four, mixed-one, mixed-done}
 use borrow.Author.Needs.{needs}

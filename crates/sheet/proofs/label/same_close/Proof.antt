@@ -1,4 +1,4 @@
-use mathlib.Core.Path.{_≡_, sym, _∙_, ap₂}
+use mathlib.Core.Path.{_∙_, ap₂}
 use Rattle.sheet.specs.Names.{sameBytes}
 use Rattle.sheet.proofs.Agreeing.{part-whole}
 use borrow.Author.Needs.{needs}
