@@ -14,7 +14,8 @@ use Rattle.sheet.specs.Holds.{Plain}
 use Rattle.sheet.specs.Refusals.{numberOf}
 use Rattle.sheet.specs.Refusals as Sheet
 use Rattle.sheet.specs.declared.Refusal.{Refusal}
-use Rattle.refusals.proofs.Verdicts.{checked-number, number-some}
+use Rattle.sheet.specs.declared.Refusal.the-variants.{Torn}
+use Rattle.refusals.proofs.Verdicts.{says-torn, checked-number, number-some}
 use Rattle.sheet.proofs.Tests.{or-fst, or-snd}
 use Rattle.sheet.proofs.Accepted.{accepted-carried}
 use Rattle.sheet.proofs.Chains.{encode-length}
@@ -44,6 +45,9 @@ pub refused-sheet : (c : Call) (r : Refusal) (k : ℕ) → record { number = num
 refused-sheet c r k h e =
     let z : Sheet.refusal (c .sheet) ≡ numberOf r = checked-number (c .sheet) (numberOf r) 0 0 h in
     refused-outcome c k (λ x. number-some r (sym e ∙ x)) (sheet-refusal c (λ x. number-some r (sym z ∙ x)) ∙ z ∙ sym e)
+
+pub torn-call : (c : Call) → Sheet.torn (c .sheet) ≡ true → record { reply = refused 1; output = c .output; work = c .work } ≡ outcome c
+torn-call c h = refused-sheet c Torn 1 (says-torn (c .sheet) h) refl
 
 module _ (c : Call) (space : Space) (measured : Measured (c .sheet) space) (k : ℕ)
     (e : k ≡ laterRefusal (c .question) (c .sheet) (c .mask) (length (c .output)) (length (c .work))) where

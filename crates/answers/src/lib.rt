@@ -3,8 +3,10 @@ mod emit;
 mod refuse;
 
 ghost use mathlib.Core.Path.{_≡_};
+ghost use mathlib.Core.Bool.{false};
 ghost use Prim.Native.Nat.{_*_, _≤_};
 ghost use lib.ListN.{length};
+ghost use Rattle.sheet.specs.Refusals.{torn};
 ghost use Rattle.coercion.specs.Data as Data;
 ghost use Rattle.buffers.specs.Region.{Room, Inside};
 ghost use Rattle.answers.specs.Call.{settled, answer, outcome, nothing};
@@ -15,7 +17,8 @@ use buffers::Space;
 use buffers::Spot;
 use emit::clear;
 use emit::write_type;
-use refusals::check;
+use refusals::check_whole;
+use refusals::header::is_torn;
 use refuse::number_of;
 use refuse::refused;
 use sheet::Checked;
@@ -31,6 +34,9 @@ pub enum Answer {
 pub fn type_union_resolution(sheet: &[u8], mask: u64, output: &mut [u8], work: &mut [u8]) -> Answer
     ensures { λ o. ⌜ record { reply = replyOf o; output = now (output .exit); work = now (work .exit) } ≡ outcome (record { question = Data.list; sheet = now (sheet .entry); mask = mask; output = now (output .entry); work = now (work .entry) }) ⌝ }
 {
+    if is_torn(sheet) {
+        return Answer::Refused(1);
+    }
     call(Question::List, sheet, mask, output, work)
 }
 
@@ -38,6 +44,9 @@ pub fn type_union_resolution(sheet: &[u8], mask: u64, output: &mut [u8], work: &
 pub fn type_union_coercion(sheet: &[u8], mask: u64, output: &mut [u8], work: &mut [u8]) -> Answer
     ensures { λ o. ⌜ record { reply = replyOf o; output = now (output .exit); work = now (work .exit) } ≡ outcome (record { question = Data.union; sheet = now (sheet .entry); mask = mask; output = now (output .entry); work = now (work .entry) }) ⌝ }
 {
+    if is_torn(sheet) {
+        return Answer::Refused(1);
+    }
     call(Question::Union, sheet, mask, output, work)
 }
 
@@ -45,14 +54,18 @@ pub fn type_union_coercion(sheet: &[u8], mask: u64, output: &mut [u8], work: &mu
 pub fn comparison_coercion(sheet: &[u8], mask: u64, output: &mut [u8], work: &mut [u8]) -> Answer
     ensures { λ o. ⌜ record { reply = replyOf o; output = now (output .exit); work = now (work .exit) } ≡ outcome (record { question = Data.compare; sheet = now (sheet .entry); mask = mask; output = now (output .entry); work = now (work .entry) }) ⌝ }
 {
+    if is_torn(sheet) {
+        return Answer::Refused(1);
+    }
     call(Question::Compare, sheet, mask, output, work)
 }
 
-// A call, whatever it asks.
+// A call on a sheet that is not torn, whatever it asks. It has three callers, so that it is not inlined: a torn sheet is refused in a small frame.
 fn call(question: Question, sheet: &[u8], mask: u64, output: &mut [u8], work: &mut [u8]) -> Answer
+    requires { ⌜ torn (now sheet) ≡ false ⌝ }
     ensures { λ o. ⌜ seen o (now (output .exit)) (now (work .exit)) ≡ outcome (callOf question (now (sheet .entry)) mask (now (output .entry)) (now (work .entry))) ⌝ }
 {
-    match check(sheet) {
+    match check_whole(sheet) {
         Checked::Refused(r) => Answer::Refused(number_of(r)),
         Checked::Accepted(n, m) => {
             let space = Space {

@@ -8,11 +8,11 @@ use Rattle.answers.proofs.call.Reads as reads
 use Rattle.answers.proofs.call.Lts as lts
 use Rattle.answers.proofs.call_accepted.Reads as call-accepted-reads
 use Rattle.answers.proofs.refuse.number_of.Reads as number-of-reads
-use Rattle.refusals.proofs.check.Reads as check-reads
+use Rattle.refusals.proofs.check_whole.Reads as check-whole-reads
 
 -- src/lib.rt:55:11
-check-requires : tie.Need-check-requires
-check-requires c κs = search needs
+check-whole-requires : tie.Need-check-whole-requires
+check-whole-requires c κs = search needs
 
 -- src/lib.rt:56:26
 enum-known-r : tie.Need-enum-known-r
@@ -29,12 +29,12 @@ enum-known-n c = search needs
 -- src/lib.rt:63:13
 call-accepted-requires : tie.Need-call-accepted-requires
 call-accepted-requires c κs =
-    checked-accepted _ _ _ (rw (c .before .before .before .n .given .1) at (c .before .before .before .before .before .check .ensures))
+    checked-accepted _ _ _ (rw (c .before .before .before .n .given .1) at (c .before .before .before .before .before .check-whole .ensures))
 
 -- src/lib.rt:52:1
 returns : tie.Need-returns
 returns c =
-    refused-sheet (callOf (c .before .before .before .before .before .before .before .before .args .question) (c .before .before .before .before .before .before .before .before .args .sheet .now) (c .before .before .before .before .before .before .before .before .args .mask) (c .before .before .before .before .before .before .before .before .args .output .now) (c .before .before .before .before .before .before .before .before .args .work .now)) (c .before .before .r .given .0 .0) _ (rw (c .before .before .r .given .1) at (c .before .before .before .before .check .ensures)) (c .number-of .ensures)
+    refused-sheet (callOf (c .before .before .before .before .before .before .before .before .args .question) (c .before .before .before .before .before .before .before .before .args .sheet .now) (c .before .before .before .before .before .before .before .before .args .mask) (c .before .before .before .before .before .before .before .before .args .output .now) (c .before .before .before .before .before .before .before .before .args .work .now)) (c .before .before .r .given .0 .0) _ (rw (c .before .before .r .given .1) at (c .before .before .before .before .check-whole .ensures)) (c .number-of .ensures)
 
 -- src/lib.rt:52:1
 same-length : tie.Need-same-length
@@ -52,7 +52,7 @@ pub call-spec : {M : Type 1} → statement M
 call-spec =
     tie.close
     (tie.spec
-    check-requires
+    check-whole-requires
     enum-known-r
     number-of-requires
     enum-known-n
