@@ -1,20 +1,25 @@
-// The walk over a sheet in which nothing is wrong. It carries numbers alone, and leaves to `walk` what it does not know at a glance.
+// The walk over a sheet in which nothing is wrong. It carries numbers alone, and leaves to `walk` a sheet in which something is.
 ghost use mathlib.Core.Path.{_≡_};
 ghost use mathlib.Core.Bool.{true, false};
 ghost use Prim.Native.Nat.{ℕ, _+_, _*_, _/_, _%_, _<_, _≤_};
 ghost use lib.ListN.{length};
 ghost use Rattle.sheet.specs.Kind.{namesParts};
 ghost use Rattle.sheet.specs.Head.{headFrom, byQuads};
+ghost use Rattle.sheet.specs.Bounds.{Bounded};
 ghost use Rattle.refusals.specs.Walk.{Ready, Walks};
 ghost use Rattle.refusals.specs.Found.{outset};
 ghost use Rattle.refusals.specs.Sound.{clean, light, usualDecimal, plain, Passes, Row, Tells};
 use crate::Progress;
 use crate::Walked;
 use crate::walk::walk;
+use sheet::Head;
 use sheet::figure::figure_right;
 use sheet::figure::is_decimal;
+use sheet::figure::label_bytes;
+use sheet::figure::label_right;
 use sheet::figure::names_parts;
 use sheet::figure::parts_right;
+use sheet::figure::record_right;
 use sheet::record::head_from;
 use sheet::record::quad_at;
 
@@ -68,17 +73,29 @@ fn light_labels(a: usize, d: usize, up: u8, o: usize) -> usize
     511
 }
 
+// The same of a record with a zone, a size or an order.
+fn other_labels(h: Head, up: u8, o: usize) -> usize
+    requires { ⌜ (o < 1000000) × Bounded h ⌝ }
+    ensures { λ r. ⌜ Passes h up o r ⌝ }
+{
+    if record_right(h, up) {
+        if label_right(h, up, o) {
+            return label_bytes(h);
+        }
+    }
+    511
+}
+
 // The same of any record, which begins at byte i.
-fn pass_light(s: &[u8], i: usize, up: u8, o: usize) -> usize
-    requires { ⌜ i + 16 ≤ length (now s) ⌝ }
+fn pass_record(s: &[u8], i: usize, up: u8, o: usize) -> usize
+    requires { ⌜ (i + 16 ≤ length (now s)) × (o < 1000000) ⌝ }
     ensures { λ r. ⌜ Passes (headFrom (now (s .entry)) i) up o r ⌝ }
 {
     let a = quad_at(s, i);
     if is_light(a, quad_at(s, i + 4)) {
-        light_labels(a, quad_at(s, i + 12), up, o)
-    } else {
-        511
+        return light_labels(a, quad_at(s, i + 12), up, o);
     }
+    other_labels(head_from(s, i), up, o)
 }
 
 // Whether a kind with no flags, a precision and a scale are those of a Decimal128 as it is mostly written.
@@ -178,7 +195,7 @@ fn sound_walk(s: &[u8], n: usize, up: u8, link: usize, due: usize, at: usize) ->
             return 0;
         }
         let i = 16 * due;
-        let labels = pass_light(s, i, up, at);
+        let labels = pass_record(s, i, up, at);
         if 511 <= labels {
             return 0;
         }

@@ -16,7 +16,7 @@ use Rattle.refusals.proofs.sound.+sound_chain+sound_walk.Lts-sound_chai
 use Rattle.refusals.proofs.sound.sound_walk.Reads as sound-walk
 use Rattle.refusals.proofs.sound.sound_walk.Kinds as sound-walk-kinds
 use Rattle.refusals.proofs.sound.+sound_chain+sound_walk.Lts-sound_walk as sound-walk-lts
-use Rattle.refusals.proofs.sound.pass_light.Reads as pass-light-reads
+use Rattle.refusals.proofs.sound.pass_record.Reads as pass-record-reads
 use Rattle.refusals.proofs.sound.row_walk.Reads as row-walk-reads
 use Rattle.sheet.proofs.figure.parts_right.Reads as parts-right-reads
 use Rattle.sheet.proofs.record.head_from.Reads as head-from-reads
@@ -53,7 +53,7 @@ sound-chain-calls t =
 
 abbrev sound-walk-calls : ℕ → sound-walk-lts.Claims
 sound-walk-calls t =
-    (pass-light-reads.Asked, pass-light-reads.Learnt, head-from-reads.Asked, head-from-reads.Learnt, parts-right-reads.Asked, parts-right-reads.Learnt, sound-chain-below t, sound-chain.Post)
+    (pass-record-reads.Asked, pass-record-reads.Learnt, head-from-reads.Asked, head-from-reads.Learnt, parts-right-reads.Asked, parts-right-reads.Learnt, sound-chain-below t, sound-chain.Post)
 
 -- src/sound.rt:157:9
 sound-chain-row-walk-requires : (t : ℕ) → sound-chain-lts.Need-row-walk-requires (sound-chain-calls t) (sound-chain-at t) sound-chain.Post
@@ -104,9 +104,9 @@ sound-walk-mul-i t c =
     omega (arith, (c .before .before .before .before .before .pre .1 .0), (c .if2 .left))
 
 -- src/sound.rt:181:13
-sound-walk-pass-light-requires : (t : ℕ) → sound-walk-lts.Need-pass-light-requires (sound-walk-calls t) (sound-walk-at t) sound-walk.Post sound-walk-Inv-loop sound-walk-μ-loop
-sound-walk-pass-light-requires t c κs =
-    omega (arith, (c .before .before .before .before .before .pre .1 .0), (c .if2 .left))
+sound-walk-pass-record-requires : (t : ℕ) → sound-walk-lts.Need-pass-record-requires (sound-walk-calls t) (sound-walk-at t) sound-walk.Post sound-walk-Inv-loop sound-walk-μ-loop
+sound-walk-pass-record-requires t c κs =
+    (omega (arith, (c .before .before .before .before .before .pre .1 .0), (c .if2 .left)), omega (arith, (c .before .before .before .loop .inv .0)))
 
 -- src/sound.rt:183:13
 sound-walk-returns-3 : (t : ℕ) → sound-walk-lts.Need-returns-3 (sound-walk-calls t) (sound-walk-at t) sound-walk.Post sound-walk-Inv-loop sound-walk-μ-loop
@@ -146,7 +146,7 @@ sound-walk-loop-less t c =
 -- src/sound.rt:173:5
 sound-walk-loop-again : (t : ℕ) → sound-walk-lts.Need-loop-again (sound-walk-calls t) (sound-walk-at t) sound-walk.Post sound-walk-Inv-loop sound-walk-μ-loop
 sound-walk-loop-again t c =
-    (sound-ready (c .before .before .before .before .before .before .before .before .before .before .before .before .args .s .now) _ _ _ _ _ _ (c .before .before .before .before .before .before .before .before .before .before .before .before .pre .1 .0) (c .before .before .before .before .before .before .before .before .if1 .left) (c .before .before .before .before .before .before .before .if2 .left) _ (c .before .before .before .before .head-from .ensures .0) _ (c .before .before .before .before .before .before .pass-light .ensures) (c .before .before .before .before .before .if3 .left) (c .before .before .before .before .before .before .before .before .before .before .loop .inv .0) _ (omega arith), (omega (arith, (c .before .before .before .before .before .before .before .before .before .before .loop .inv .1 .0)), λ o v. (c .before .before .before .before .before .before .before .before .before .before .loop .inv .1 .1) o (sound-leaf (c .before .before .before .before .before .before .before .before .before .before .before .before .args .s .now) _ _ _ _ _ _ (c .before .before .before .before .before .before .before .before .before .before .before .before .pre .1 .0) (c .before .before .before .before .before .before .before .before .if1 .left) (c .before .before .before .before .before .before .before .if2 .left) _ (c .before .before .before .before .head-from .ensures .0) _ (c .before .before .before .before .before .before .pass-light .ensures) (c .before .before .before .before .before .if3 .left) (c .before .before .before .before .before .before .before .before .before .before .loop .inv .0) (c .before .before .if4 .taken) (sym (c .before .parts-right .ensures) ∙ (c .if5 .taken)) o v)))
+    (sound-ready (c .before .before .before .before .before .before .before .before .before .before .before .before .args .s .now) _ _ _ _ _ _ (c .before .before .before .before .before .before .before .before .before .before .before .before .pre .1 .0) (c .before .before .before .before .before .before .before .before .if1 .left) (c .before .before .before .before .before .before .before .if2 .left) _ (c .before .before .before .before .head-from .ensures .0) _ (c .before .before .before .before .before .before .pass-record .ensures) (c .before .before .before .before .before .if3 .left) (c .before .before .before .before .before .before .before .before .before .before .loop .inv .0) _ (omega arith), (omega (arith, (c .before .before .before .before .before .before .before .before .before .before .loop .inv .1 .0)), λ o v. (c .before .before .before .before .before .before .before .before .before .before .loop .inv .1 .1) o (sound-leaf (c .before .before .before .before .before .before .before .before .before .before .before .before .args .s .now) _ _ _ _ _ _ (c .before .before .before .before .before .before .before .before .before .before .before .before .pre .1 .0) (c .before .before .before .before .before .before .before .before .if1 .left) (c .before .before .before .before .before .before .before .if2 .left) _ (c .before .before .before .before .head-from .ensures .0) _ (c .before .before .before .before .before .before .pass-record .ensures) (c .before .before .before .before .before .if3 .left) (c .before .before .before .before .before .before .before .before .before .before .loop .inv .0) (c .before .before .if4 .taken) (sym (c .before .parts-right .ensures) ∙ (c .if5 .taken)) o v)))
 
 -- src/sound.rt:194:13
 sound-walk-returns-4 : (t : ℕ) → sound-walk-lts.Need-returns-4 (sound-walk-calls t) (sound-walk-at t) sound-walk.Post sound-walk-Inv-loop sound-walk-μ-loop
@@ -156,7 +156,7 @@ sound-walk-returns-4 t c =
 -- src/sound.rt:196:13
 sound-walk-sound-chain-requires : (t : ℕ) → sound-walk-lts.Need-sound-chain-requires (sound-walk-calls t) (sound-walk-at t) sound-walk.Post sound-walk-Inv-loop sound-walk-μ-loop
 sound-walk-sound-chain-requires t c κs =
-    (omega (arith, (c .before .before .before .before .before .before .before .before .before .before .pre .0), (c .before .before .before .before .before .if2 .left), (c .before .before .before .before .before .before .before .before .loop .inv .1 .0)), ((c .before .before .before .before .before .before .before .before .before .before .pre .1 .0), sound-ready (c .before .before .before .before .before .before .before .before .before .before .args .s .now) _ _ _ _ _ _ (c .before .before .before .before .before .before .before .before .before .before .pre .1 .0) (c .before .before .before .before .before .before .if1 .left) (c .before .before .before .before .before .if2 .left) _ (c .before .before .head-from .ensures .0) _ (c .before .before .before .before .pass-light .ensures) (c .before .before .before .if3 .left) (c .before .before .before .before .before .before .before .before .loop .inv .0) 0 (omega arith)))
+    (omega (arith, (c .before .before .before .before .before .before .before .before .before .before .pre .0), (c .before .before .before .before .before .if2 .left), (c .before .before .before .before .before .before .before .before .loop .inv .1 .0)), ((c .before .before .before .before .before .before .before .before .before .before .pre .1 .0), sound-ready (c .before .before .before .before .before .before .before .before .before .before .args .s .now) _ _ _ _ _ _ (c .before .before .before .before .before .before .before .before .before .before .pre .1 .0) (c .before .before .before .before .before .before .if1 .left) (c .before .before .before .before .before .if2 .left) _ (c .before .before .head-from .ensures .0) _ (c .before .before .before .before .pass-record .ensures) (c .before .before .before .if3 .left) (c .before .before .before .before .before .before .before .before .loop .inv .0) 0 (omega arith)))
 
 -- src/sound.rt:198:13
 sound-walk-returns-5 : (t : ℕ) → sound-walk-lts.Need-returns-5 (sound-walk-calls t) (sound-walk-at t) sound-walk.Post sound-walk-Inv-loop sound-walk-μ-loop
@@ -171,14 +171,14 @@ sound-walk-parts-right-requires-2 t c κs =
 -- src/sound.rt:173:5
 sound-walk-loop-less-2 : (t : ℕ) → sound-walk-lts.Need-loop-less-2 (sound-walk-calls t) (sound-walk-at t) sound-walk.Post sound-walk-Inv-loop sound-walk-μ-loop
 sound-walk-loop-less-2 t c =
-    let w = sound-farther (c .before .before .before .before .before .before .before .before .before .before .before .before .before .before .args .s .now) _ _ _ _ _ _ (c .before .before .before .before .before .before .before .before .before .before .before .before .before .before .pre .1 .0) (c .before .before .before .before .before .before .before .before .before .before .if1 .left) (c .before .before .before .before .before .before .before .before .before .if2 .left) _ (c .before .before .before .before .before .before .head-from .ensures .0) _ (c .before .before .before .before .before .before .before .before .pass-light .ensures) (c .before .before .before .before .before .before .before .if3 .left) (c .before .before .before .before .before .before .before .before .before .before .before .before .loop .inv .0) _ (c .before .before .if6 .left) (c .before .before .before .sound-chain .ensures) in
+    let w = sound-farther (c .before .before .before .before .before .before .before .before .before .before .before .before .before .before .args .s .now) _ _ _ _ _ _ (c .before .before .before .before .before .before .before .before .before .before .before .before .before .before .pre .1 .0) (c .before .before .before .before .before .before .before .before .before .before .if1 .left) (c .before .before .before .before .before .before .before .before .before .if2 .left) _ (c .before .before .before .before .before .before .head-from .ensures .0) _ (c .before .before .before .before .before .before .before .before .pass-record .ensures) (c .before .before .before .before .before .before .before .if3 .left) (c .before .before .before .before .before .before .before .before .before .before .before .before .loop .inv .0) _ (c .before .before .if6 .left) (c .before .before .before .sound-chain .ensures) in
     omega (arith, (c .before .before .before .before .before .before .before .before .before .if2 .left), w)
 
 -- src/sound.rt:173:5
 sound-walk-loop-again-2 : (t : ℕ) → sound-walk-lts.Need-loop-again-2 (sound-walk-calls t) (sound-walk-at t) sound-walk.Post sound-walk-Inv-loop sound-walk-μ-loop
 sound-walk-loop-again-2 t c =
-    let w = sound-farther (c .before .before .before .before .before .before .before .before .before .before .before .before .before .before .args .s .now) _ _ _ _ _ _ (c .before .before .before .before .before .before .before .before .before .before .before .before .before .before .pre .1 .0) (c .before .before .before .before .before .before .before .before .before .before .if1 .left) (c .before .before .before .before .before .before .before .before .before .if2 .left) _ (c .before .before .before .before .before .before .head-from .ensures .0) _ (c .before .before .before .before .before .before .before .before .pass-light .ensures) (c .before .before .before .before .before .before .before .if3 .left) (c .before .before .before .before .before .before .before .before .before .before .before .before .loop .inv .0) _ (c .before .before .if6 .left) (c .before .before .before .sound-chain .ensures) in
-    (sound-came (c .before .before .before .before .before .before .before .before .before .before .before .before .before .before .args .s .now) _ _ _ _ _ _ (c .before .before .before .before .before .before .before .before .before .before .before .before .before .before .pre .1 .0) (c .before .before .before .before .before .before .before .before .before .before .if1 .left) (c .before .before .before .before .before .before .before .before .before .if2 .left) _ (c .before .before .before .before .before .before .head-from .ensures .0) _ (c .before .before .before .before .before .before .before .before .pass-light .ensures) (c .before .before .before .before .before .before .before .if3 .left) (c .before .before .before .before .before .before .before .before .before .before .before .before .loop .inv .0) _ (c .before .before .if6 .left) (c .before .before .before .sound-chain .ensures), (omega (arith, (c .before .before .before .before .before .before .before .before .before .before .before .before .loop .inv .1 .0), w), λ o v. (c .before .before .before .before .before .before .before .before .before .before .before .before .loop .inv .1 .1) o (sound-parts (c .before .before .before .before .before .before .before .before .before .before .before .before .before .before .args .s .now) _ _ _ _ _ _ (c .before .before .before .before .before .before .before .before .before .before .before .before .before .before .pre .1 .0) (c .before .before .before .before .before .before .before .before .before .before .if1 .left) (c .before .before .before .before .before .before .before .before .before .if2 .left) _ (c .before .before .before .before .before .before .head-from .ensures .0) _ (c .before .before .before .before .before .before .before .before .pass-light .ensures) (c .before .before .before .before .before .before .before .if3 .left) (c .before .before .before .before .before .before .before .before .before .before .before .before .loop .inv .0) _ (c .before .before .if6 .left) (c .before .before .before .sound-chain .ensures) (sym (c .before .parts-right2 .ensures) ∙ (c .if7 .taken)) o v)))
+    let w = sound-farther (c .before .before .before .before .before .before .before .before .before .before .before .before .before .before .args .s .now) _ _ _ _ _ _ (c .before .before .before .before .before .before .before .before .before .before .before .before .before .before .pre .1 .0) (c .before .before .before .before .before .before .before .before .before .before .if1 .left) (c .before .before .before .before .before .before .before .before .before .if2 .left) _ (c .before .before .before .before .before .before .head-from .ensures .0) _ (c .before .before .before .before .before .before .before .before .pass-record .ensures) (c .before .before .before .before .before .before .before .if3 .left) (c .before .before .before .before .before .before .before .before .before .before .before .before .loop .inv .0) _ (c .before .before .if6 .left) (c .before .before .before .sound-chain .ensures) in
+    (sound-came (c .before .before .before .before .before .before .before .before .before .before .before .before .before .before .args .s .now) _ _ _ _ _ _ (c .before .before .before .before .before .before .before .before .before .before .before .before .before .before .pre .1 .0) (c .before .before .before .before .before .before .before .before .before .before .if1 .left) (c .before .before .before .before .before .before .before .before .before .if2 .left) _ (c .before .before .before .before .before .before .head-from .ensures .0) _ (c .before .before .before .before .before .before .before .before .pass-record .ensures) (c .before .before .before .before .before .before .before .if3 .left) (c .before .before .before .before .before .before .before .before .before .before .before .before .loop .inv .0) _ (c .before .before .if6 .left) (c .before .before .before .sound-chain .ensures), (omega (arith, (c .before .before .before .before .before .before .before .before .before .before .before .before .loop .inv .1 .0), w), λ o v. (c .before .before .before .before .before .before .before .before .before .before .before .before .loop .inv .1 .1) o (sound-parts (c .before .before .before .before .before .before .before .before .before .before .before .before .before .before .args .s .now) _ _ _ _ _ _ (c .before .before .before .before .before .before .before .before .before .before .before .before .before .before .pre .1 .0) (c .before .before .before .before .before .before .before .before .before .before .if1 .left) (c .before .before .before .before .before .before .before .before .before .if2 .left) _ (c .before .before .before .before .before .before .head-from .ensures .0) _ (c .before .before .before .before .before .before .before .before .pass-record .ensures) (c .before .before .before .before .before .before .before .if3 .left) (c .before .before .before .before .before .before .before .before .before .before .before .before .loop .inv .0) _ (c .before .before .if6 .left) (c .before .before .before .sound-chain .ensures) (sym (c .before .parts-right2 .ensures) ∙ (c .if7 .taken)) o v)))
 
 -- src/sound.rt:204:13
 sound-walk-returns-6 : (t : ℕ) → sound-walk-lts.Need-returns-6 (sound-walk-calls t) (sound-walk-at t) sound-walk.Post sound-walk-Inv-loop sound-walk-μ-loop
@@ -227,7 +227,7 @@ pub +sound-chain+sound-walk-spec : {M : Type 1} → statement M
     (sound-walk-returns t)
     (sound-walk-returns-2 t)
     (sound-walk-mul-i t)
-    (sound-walk-pass-light-requires t)
+    (sound-walk-pass-record-requires t)
     (sound-walk-returns-3 t)
     (sound-walk-head-from-requires t)
     (sound-walk-add-at t)

@@ -5,12 +5,12 @@ use Rattle.sheet.specs.Head.{quadAt, byQuads}
 use Rattle.sheet.specs.declared.Head.{Head}
 use Rattle.sheet.proofs.Heads.{by-quads}
 use Rattle.refusals.specs.Sound.{light, Passes}
-use Rattle.refusals.proofs.Light.{light-quad, passes-open, passes-linked}
+use Rattle.refusals.proofs.Light.{light-quad, passes-linked}
 use borrow.Author.Needs.{needs}
-use Rattle.refusals.proofs.sound.pass_light.Statement.{statement}
-use Rattle.refusals.proofs.sound.pass_light.Tie as tie
-use Rattle.refusals.proofs.sound.pass_light.Reads as reads
-use Rattle.refusals.proofs.sound.pass_light.Lts as lts
+use Rattle.refusals.proofs.sound.pass_record.Statement.{statement}
+use Rattle.refusals.proofs.sound.pass_record.Tie as tie
+use Rattle.refusals.proofs.sound.pass_record.Reads as reads
+use Rattle.refusals.proofs.sound.pass_record.Lts as lts
 use Rattle.refusals.proofs.sound.is_light.Reads as is-light-reads
 use Rattle.refusals.proofs.sound.light_labels.Reads as light-labels-reads
 use Rattle.sheet.proofs.record.quad_at.Reads as quad-at-reads
@@ -53,13 +53,18 @@ returns c =
     (by-quads (c .before .before .before .before .before .before .before .args .s .now) (c .before .before .before .before .before .before .before .args .i) (λ j. (c .before .before .before .before .before .before .shared-slice-known .given) j .fits) _ _ (quadAt (c .before .before .before .before .before .before .before .args .s .now) ((c .before .before .before .before .before .before .before .args .i) + 8)) _ (c .before .before .before .before .before .quad-at .ensures .0) (c .before .before .before .before .quad-at2 .ensures .0) refl (c .before .quad-at3 .ensures .0))
     (passes-linked _ _ _ _ _ _ _ (light-quad (c .before .before .before .before .before .quad-at .result) (c .before .before .before .before .quad-at2 .result) l) (c .light-labels .ensures))
 
--- src/sound.rt:72:1
+head-from-requires : tie.Need-head-from-requires
+head-from-requires c κs = search needs
+
+other-labels-requires : tie.Need-other-labels-requires
+other-labels-requires c κs = ((c .before .before .before .before .before .before .pre .1), (c .head-from .ensures .1))
+
 returns-2 : tie.Need-returns-2
 returns-2 c =
-    passes-open _ _ _
+    subst (λ (h : Head). Passes h (c .before .before .before .before .before .before .before .args .up) (c .before .before .before .before .before .before .before .args .o) (c .other-labels .result)) (c .before .head-from .ensures .0) (c .other-labels .ensures)
 
-pub pass-light-spec : {M : Type 1} → statement M
-pass-light-spec =
+pub pass-record-spec : {M : Type 1} → statement M
+pass-record-spec =
     tie.close
     (tie.spec
     quad-at-requires
@@ -70,4 +75,6 @@ pass-light-spec =
     quad-at-requires-3
     light-labels-requires
     returns
+    head-from-requires
+    other-labels-requires
     returns-2)
