@@ -20,7 +20,7 @@ fn is_rest_zero(s: &[u8]) -> bool
     quad_at(s, 4) + quad_at(s, 8) + quad_at(s, 12) == 0
 }
 
-// Whether a sheet is torn: refusal 1.
+// Whether a sheet is torn: refusal 1. A wrong length is what is met most.
 pub fn is_torn(s: &[u8]) -> bool
     ensures { λ r. ⌜ r ≡ torn (now (s .entry)) ⌝ }
 {
@@ -29,6 +29,9 @@ pub fn is_torn(s: &[u8]) -> bool
     }
     let n = word_at(s, 0);
     let m = word_at(s, 2);
+    if s.len() != 16 * n + m {
+        return true;
+    }
     if n < 1 {
         return true;
     }
@@ -36,9 +39,6 @@ pub fn is_torn(s: &[u8]) -> bool
         return true;
     }
     if 16384 < m {
-        return true;
-    }
-    if s.len() != 16 * n + m {
         return true;
     }
     if is_rest_zero(s) { false } else { true }
