@@ -1,10 +1,10 @@
-use mathlib.Core.Path.{_≡_, sym, _∙_, subst}
-use Prim.Native.Nat.{ℕ, _-_, _≤_}
+use mathlib.Core.Path.{_≡_}
+use Prim.Native.Nat.{_-_}
 use native.Mathlib.Omega.{arith}
 use borrow.Author.Needs.{needs}
 use Rattle.sheet.specs.Types.{Fields}
 use Rattle.buffers.specs.Typed.{Chain}
-use Rattle.buffers.specs.Naming.{Guess, Guides, Indexed}
+use Rattle.buffers.specs.Naming.{Guess, Indexed}
 use Rattle.buffers.specs.declared.Space.{Space}
 use Rattle.buffers.proofs.Naming.{guess-first, guess-next, guides-set}
 use Rattle.buffers.proofs.names.index.Statement.{statement}

@@ -1,4 +1,4 @@
-use mathlib.Core.Path.{_≡_, sym, subst}
+use mathlib.Core.Path.{sym, subst}
 use Prim.Native.Nat.{ℕ}
 use Rattle.buffers.specs.Naming.{Guess}
 use Rattle.buffers.proofs.Naming.{chain-held}
