@@ -1,4 +1,4 @@
-// The coercion rules of the source on types: the plain rules, which look at kinds and figures alone.
+// The types that the plain rules of the source take and give. The rules themselves stand in crates of their own, their definitions in specs/.
 
 // What the rules for plain types look at: a kind, a decimal's precision or a unit, and a scale as it is stored.
 pub struct Figures {

@@ -1,4 +1,4 @@
--- A link and the chain that it leads to: the end of it, and its first record. Assumes nothing.
+-- A link and the chain that it leads to: its first record. Assumes nothing.
 use mathlib.Core.Path.{_≡_, refl, ap, ap₂, sym, subst, _∙_}
 use mathlib.Core.Bool.{Bool, true, false, not, _||_, _&&_}
 use mathlib.Core.List.{List, [], _∷_, _++_}
@@ -13,18 +13,6 @@ use Rattle.sheet.specs.Holds.{Span, Stands, Holds, Leads}
 use Rattle.sheet.specs.declared.Head.{Head}
 use Rattle.sheet.proofs.Spans.{span-left}
 use Rattle.sheet.proofs.Reading.{label-back}
-
--- a chain whose link does not lead past floor is empty; F is what is asked of a chain, a what it is of an empty one
-pub low-end : (F : Fields → Bool) (a : Bool) → a ≡ F end → (s : List ℕ) (n floor link : ℕ) → link ≤ floor
-    → (r o : ℕ) (t : Fields) → Leads s n floor link r o t → a ≡ F t
-low-end F a e s n floor link h r o end l = e
-low-end F a e s n floor link h r o (field name nullable shape parts rest) l = absurd (omega (arith, l .is, l .above))
-
-pub high-end : (F : Fields → Bool) (a : Bool) → (s : List ℕ) (n floor link : ℕ) → floor < link → n ≤ link
-    → (r o : ℕ) (t : Fields) → Leads s n floor link r o t → a ≡ F t
-unfolding count
-high-end F a s n floor link lo hi r o end l = absurd (omega (arith, l .is))
-high-end F a s n floor link lo hi r o (field name nullable shape parts rest) l = absurd (omega (arith, l .is, l .inside))
 
 -- a record that a link leads to: its parts and the rest are led to by its own links
 module _ (s : List ℕ) (n floor link r o : ℕ) (name : List ℕ) (nullable : Bool) (shape : Shape) (parts rest : Fields)
