@@ -4,6 +4,7 @@ pub mod Scans
 pub mod Verdicts
 pub mod Bare
 pub mod Light
+pub mod Stamps
 pub mod Sounding
 pub mod Rows
 pub mod Naming

@@ -19,6 +19,17 @@ clean due at = record { due = due; at = at; figure = false; label = false }
 unfoldable pub light : Head → Bool
 light h = eqb (h .quad) 0 && (ltb (h .flags) 2 && figureRight (h .kind) (h .figure) (h .scale))
 
+-- a Timestamp with a zone, without a name and not nullable, of a right unit and with no other figure
+pub record Stamped (h : Head) : Type 0 where
+  pub kind : h .kind ≡ 22
+  pub flags : h .flags ≡ 4
+  pub unit : h .figure ≤ 3
+  pub scale : h .scale ≡ 0
+  pub nameless : h .name ≡ 0
+  pub short : h .nlen ≡ 0
+  pub last : h .last ≡ 0
+  pub zone : h .quad < 16777216
+
 -- a number of label bytes, which says that nothing is wrong with a record; 511 leaves that open
 pub record Passes (h : Head) (up o r : ℕ) : Type 0 where
   pub few : r ≤ 511

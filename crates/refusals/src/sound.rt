@@ -6,9 +6,10 @@ ghost use lib.ListN.{length};
 ghost use Rattle.sheet.specs.Kind.{namesParts};
 ghost use Rattle.sheet.specs.Head.{headFrom, byQuads};
 ghost use Rattle.sheet.specs.Bounds.{Bounded};
+ghost use Rattle.sheet.specs.declared.Head as Declared;
 ghost use Rattle.refusals.specs.Walk.{Ready, Walks};
 ghost use Rattle.refusals.specs.Found.{outset};
-ghost use Rattle.refusals.specs.Sound.{clean, light, usualDecimal, plain, Passes, Row, Tells};
+ghost use Rattle.refusals.specs.Sound.{clean, light, usualDecimal, plain, Stamped, Passes, Row, Tells};
 use crate::Progress;
 use crate::Walked;
 use crate::walk::walk;
@@ -73,11 +74,65 @@ fn light_labels(a: usize, d: usize, up: u8, o: usize) -> usize
     511
 }
 
+// Whether a record is a Timestamp with a zone that has no name and is not nullable, and its unit and its unused bytes are right.
+fn is_stamped(h: Head) -> bool
+    ensures { λ b. ⌜ (b ≡ true → Stamped h) ⌝ }
+{
+    if h.kind != 22 {
+        return false;
+    }
+    if h.flags != 4 {
+        return false;
+    }
+    if 3 < h.figure {
+        return false;
+    }
+    if h.scale != 0 {
+        return false;
+    }
+    if h.name != 0 {
+        return false;
+    }
+    if h.nlen != 0 {
+        return false;
+    }
+    if h.last != 0 {
+        return false;
+    }
+    if 16777216 <= h.quad {
+        return false;
+    }
+    true
+}
+
+// How many label bytes such a record has, by its bytes 4 to 7.
+fn zone_labels(quad: usize, o: usize) -> usize
+    ensures { λ r. ⌜ ((h : Declared.Head) (up : ℕ) → Stamped h → h .quad ≡ quad → Passes h up o r) ⌝ }
+{
+    let at = quad % 65536;
+    let len = quad / 65536;
+    if len == 0 {
+        if at == 0 {
+            return 0;
+        }
+        return 511;
+    }
+    if at == o {
+        if len < 256 {
+            return len;
+        }
+    }
+    511
+}
+
 // The same of a record with a zone, a size or an order.
 fn other_labels(h: Head, up: u8, o: usize) -> usize
     requires { ⌜ (o < 1000000) × Bounded h ⌝ }
     ensures { λ r. ⌜ Passes h up o r ⌝ }
 {
+    if is_stamped(h) {
+        return zone_labels(h.quad, o);
+    }
     if record_right(h, up) {
         if label_right(h, up, o) {
             return label_bytes(h);
