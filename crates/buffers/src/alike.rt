@@ -65,7 +65,7 @@ fn same_figures(g: Head, h: Head) -> bool
 }
 
 // Whether the shapes of two records are the same.
-pub(crate) fn same_shape(a: &[u8], n: usize, g: Head, b: &[u8], m: usize, h: Head) -> bool
+pub fn same_shape(a: &[u8], n: usize, g: Head, b: &[u8], m: usize, h: Head) -> bool
     requires { ⌜ (n < 65536) × (m < 65536) ⌝ }
     ensures { λ r. ⌜ r ≡ sameShape (shapeOf (now (a .entry)) n g) (shapeOf (now (b .entry)) m h) ⌝ }
 {

@@ -1,6 +1,6 @@
 -- Types without parts, zone or order, by value. Assumes nothing.
 use mathlib.Core.Path.{_≡_, refl, ap, ap₂, sym, subst, _∙_}
-use mathlib.Core.Bool.{Bool, true, false, cond, and-true}
+use mathlib.Core.Bool.{Bool, true, false, cond, _&&_, and-true}
 use mathlib.Core.List.{List, [], _∷_}
 use mathlib.Core.Option.{Option, none, some}
 use Prim.Native.Nat.{ℕ, _+_, _<_, _≤_}
@@ -57,6 +57,9 @@ no-parts k p h f =
     rw (lt-leb 32 k h, ne-eqb k 36 (λ e. omega arith), lt-leb 37 k (omega arith), ne-eqb k 35 (λ e. omega arith)) at f in
     end-is p (eqb-true (arity p) 0 g)
 
+partless : {space : Space} {s : List ℕ} {link : ℕ} {t : DataType} (h : Head) → h .kind < 32 → h ≡ headAt s link → Typed space s link t → t .parts ≡ end
+partless {t = t} h p e a = no-parts (t .shape .kind) (t .parts) (omega (arith, p, typed-kind h e a)) (typed-right t a .0 .0 .filled)
+
 -- the type of a plain head
 module _ (h : Head) (p : isPlain h ≡ true) where
   plain-kind : h .kind < 32
@@ -72,8 +75,7 @@ module _ (h : Head) (p : isPlain h ≡ true) where
   plain-valued {space} {s} {t = t} ex e a =
       let right = typed-right t a .0 in
       let es : t .shape ≡ leafType (leafOf h) .shape = sym (read-shape (a .chain .held .source) h e) ∙ plain-shape s (space .n) in
-      let low : t .shape .kind < 32 = omega (arith, plain-kind, typed-kind h e a) in
-      let ep : t .parts ≡ end = no-parts (t .shape .kind) (t .parts) low (right .0 .filled) in
+      let ep : t .parts ≡ end = partless h plain-kind e a in
       subst (λ (k : Leaf). Valued k t) (sym ex) (record { is = λ i. record { shape = es i; parts = ep i }; low = plain-kind; right = right })
 
 valued-figured : {x : Leaf} {t : DataType} → Valued x t → Figured (figuresIn x) t
@@ -118,6 +120,15 @@ pub plain-equal : (named : Bool) {space : Space} {s : List ℕ} {link other : �
 plain-equal named h k p q eh ek ex ey same u t a c =
     same named
     ∙ sym (ap₂ (sameType named) (plain-valued h p ex eh a .is) (plain-valued k q ey ek c .is))
+
+-- two types without parts whose shapes were compared
+pub low-equal : (named : Bool) {space : Space} {s : List ℕ} {link other : ℕ} (h k : Head) {b : Bool} → h .kind < 32 → k .kind < 32 → h ≡ headAt s link → k ≡ headAt s other
+    → b ≡ sameShape (shapeOf s (space .n) h) (shapeOf s (space .n) k) → (u t : DataType) → Typed space s link u → Typed space s other t → b ≡ sameType named u t
+unfolding sameType sameFields
+low-equal named h k p q eh ek same u t a c =
+    same
+    ∙ ap₂ sameShape (read-shape (a .chain .held .source) h eh) (read-shape (c .chain .held .source) k ek)
+    ∙ sym (ap₂ (λ (x y : Fields). sameShape (u .shape) (t .shape) && sameFields named x y) (partless h p eh a) (partless k q ek c) ∙ and-true (sameShape (u .shape) (t .shape)))
 
 -- what a step says of two values
 module _ {step : Step} {x y : Leaf} where

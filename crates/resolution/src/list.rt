@@ -14,6 +14,7 @@ use crate::value::is_plain;
 use crate::value::is_same;
 use crate::value::leaf_of;
 use buffers::Space;
+use buffers::alike::same_shape;
 use buffers::alike::same_type;
 use rules::category::core_kind;
 use rules::category::is_mixed;
@@ -21,7 +22,7 @@ use rules::category::is_supported;
 use rules::category::with_category;
 use sheet::record::head_at;
 
-// Whether the type at a link is that of record `first`. Types without parts are compared by value.
+// Whether the type at a link is that of record `first`. Types without parts are compared by their heads.
 fn is_equal(sheet: &[u8], space: Space, link: usize, first: usize) -> bool
     requires { ⌜ space .n ≤ 1024 ⌝ }
     ensures { λ b. ⌜ ((u t : DataType) → Typed space (now (sheet .entry)) link u → Typed space (now (sheet .entry)) first t → b ≡ equal u t) ⌝ }
@@ -31,6 +32,11 @@ fn is_equal(sheet: &[u8], space: Space, link: usize, first: usize) -> bool
     if is_plain(x) {
         if is_plain(y) {
             return is_same(leaf_of(x), leaf_of(y));
+        }
+    }
+    if x.kind < 32 {
+        if y.kind < 32 {
+            return same_shape(sheet, space.n, x, sheet, space.n, y);
         }
     }
     same_type(sheet, space.n, link, sheet, space.n, first, true)

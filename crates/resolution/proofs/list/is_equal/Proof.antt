@@ -1,12 +1,13 @@
 use mathlib.Core.Path.{sym, _∙_}
 use mathlib.Core.Bool.{true}
 use Rattle.merge.proofs.Merging.{typed-same}
-use Rattle.resolution.proofs.Valuing.{plain-equal}
+use Rattle.resolution.proofs.Valuing.{plain-equal, low-equal}
 use borrow.Author.Needs.{needs}
 use Rattle.resolution.proofs.list.is_equal.Statement.{statement}
 use Rattle.resolution.proofs.list.is_equal.Tie as tie
 use Rattle.resolution.proofs.list.is_equal.Reads as reads
 use Rattle.resolution.proofs.list.is_equal.Lts as lts
+use Rattle.buffers.proofs.alike.same_shape.Reads as same-shape-reads
 use Rattle.buffers.proofs.alike.same_type.Reads as same-type-reads
 use Rattle.resolution.proofs.value.is_plain.Reads as is-plain-reads
 use Rattle.resolution.proofs.value.is_same.Reads as is-same-reads
@@ -46,13 +47,18 @@ returns : tie.Need-returns
 returns c =
     plain-equal true (c .before .before .before .before .before .before .before .before .head-at .result) (c .before .before .before .before .before .before .before .head-at2 .result) (sym (c .before .before .before .before .before .before .is-plain .ensures) ∙ (c .before .before .before .before .before .if1 .taken)) (sym (c .before .before .before .before .is-plain2 .ensures) ∙ (c .before .before .before .if2 .taken)) (c .before .before .before .before .before .before .before .before .head-at .ensures .0) (c .before .before .before .before .before .before .before .head-at2 .ensures .0) (c .before .before .leaf-of .ensures .0) (c .before .leaf-of2 .ensures .0) (c .is-same .ensures)
 
--- src/list.rt:36:5
+same-shape-requires : tie.Need-same-shape-requires
+same-shape-requires c κs = search needs
+
+returns-2 : tie.Need-returns-2
+returns-2 c =
+    low-equal true (c .before .before .before .before .before .before .before .before .head-at .result) (c .before .before .before .before .before .before .before .head-at2 .result) (c .before .before .before .if3 .taken) (c .before .if4 .taken) (c .before .before .before .before .before .before .before .before .head-at .ensures .0) (c .before .before .before .before .before .before .before .head-at2 .ensures .0) (c .same-shape .ensures)
+
 same-type-requires : tie.Need-same-type-requires
 same-type-requires c κs = search needs
 
--- src/list.rt:25:1
-returns-2 : tie.Need-returns-2
-returns-2 c =
+returns-3 : tie.Need-returns-3
+returns-3 c =
     λ u t a b. typed-same true (c .same-type .ensures) a b
 
 pub is-equal-spec : {M : Type 1} → statement M
@@ -67,5 +73,7 @@ is-equal-spec =
     leaf-of-requires-2
     is-same-requires
     returns
+    same-shape-requires
+    returns-2
     same-type-requires
-    returns-2)
+    returns-3)
