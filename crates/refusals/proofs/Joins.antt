@@ -9,7 +9,3 @@ or-assoc false b c = refl
 pub or-end : (b : Bool) → b ≡ (b || false)
 or-end true = refl
 or-end false = refl
-
-pub or-true : (a : Bool) → (a || true) ≡ true
-or-true true = refl
-or-true false = refl

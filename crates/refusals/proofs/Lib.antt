@@ -6,7 +6,3 @@ pub mod Bare
 pub mod Light
 pub mod Stamps
 pub mod Sounding
-pub mod Rows
-pub mod Naming
-pub mod Sieving
-pub mod Ordering

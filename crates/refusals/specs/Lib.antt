@@ -2,4 +2,3 @@ pub mod Limits
 pub mod Found
 pub mod Walk
 pub mod Sound
-pub mod Twins

@@ -1,10 +1,6 @@
 // The check of a sheet, which gives refusals 1 to 5.
 pub mod header;
-mod names;
-mod order;
-mod sieve;
 mod sound;
-mod twins;
 mod walk;
 
 ghost use mathlib.Core.Path.{_≡_};
@@ -16,11 +12,11 @@ ghost use Rattle.refusals.specs.Limits.{Fits};
 ghost use Rattle.refusals.specs.Found.{Found};
 use header::is_torn;
 use header::odd_kind;
+use names::twins::twins;
 use sheet::Checked;
 use sheet::Refusal;
 use sheet::record::word_at;
 use sound::walk_all;
-use twins::twins;
 
 // What a walk has found so far: the next record, the next label, and whether a figure or a label is wrong.
 struct Progress {
@@ -34,13 +30,6 @@ struct Progress {
 enum Walked {
     Came(Progress, usize),
     Lost,
-}
-
-// Two equal ones among several, by their places; or that all differ; or neither is known.
-enum Pair {
-    At(usize, usize),
-    Nothing,
-    Unsure,
 }
 
 // Checks a sheet: the refusal of the lowest number that applies, or the header's n and m.

@@ -7,7 +7,7 @@ use Rattle.refusals.proofs.check_found.Statement.{statement}
 use Rattle.refusals.proofs.check_found.Tie as tie
 use Rattle.refusals.proofs.check_found.Reads as reads
 use Rattle.refusals.proofs.check_found.Lts as lts
-use Rattle.refusals.proofs.twins.twins.Reads as twins-reads
+use Rattle.names.proofs.twins.twins.Reads as twins-reads
 
 -- src/lib.rt:83:9
 returns : tie.Need-returns

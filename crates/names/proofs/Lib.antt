@@ -1,0 +1,4 @@
+pub mod Rows
+pub mod Naming
+pub mod Marking
+pub mod Ordering
