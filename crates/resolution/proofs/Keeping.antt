@@ -1,7 +1,7 @@
 -- A candidate that stays as it is, by its core. Assumes nothing.
-use mathlib.Core.Path.{_≡_, refl, ap, sym, subst, _∙_}
-use mathlib.Core.Bool.{Bool, true, false, cond, not, _&&_, _||_}
-use mathlib.Core.List.{List}
+use mathlib.Core.Path.{_≡_, refl, ap, ap₂, sym, subst, _∙_}
+use mathlib.Core.Bool.{Bool, true, false, cond, not, _&&_, _||_, or-false}
+use mathlib.Core.List.{List, []}
 use mathlib.Core.Logic.{_⊎_, inl, inr}
 use mathlib.Core.Option.{Option, none, some, Option·some-inj}
 use Prim.Native.Nat.{ℕ, _-_, _/_, _%_, _<_, _≤_}
@@ -10,17 +10,20 @@ use borrow.Author.Tests.{eq-eqb, ne-eqb, eqb-true, ltb-true, lt-leb}
 use lib.Dec.{eqb, ltb}
 use lib.ListN.{length, take, length-drop}
 use lib.Seq.{take-all}
-use Rattle.sheet.specs.Kind.{partsRight, namesParts}
+use Rattle.sheet.specs.Kind.{isDecimal, sized, lastUnit, partsRight, namesParts}
 use Rattle.sheet.specs.Tests.{between}
-use Rattle.sheet.specs.Types.{Shape, Fields, end, field, arity}
-use Rattle.sheet.specs.Carried.{FieldsRight}
-use Rattle.sheet.specs.Read.{shapeOf}
-use Rattle.sheet.specs.Head.{headAt}
+use Rattle.sheet.specs.Types.{Zone, present, Shape, Fields, end, field, arity}
+use Rattle.sheet.specs.Refusals.{figureRight, sizeRight, figuresRight}
+use Rattle.sheet.specs.Carried.{isZoned, FieldRight, FieldsRight}
+use Rattle.sheet.specs.Read.{labelAt, zoneOf, shapeOf}
+use Rattle.sheet.specs.Head.{headAt, zonedIn, zoneAt, zoneLen}
 use Rattle.sheet.specs.declared.Head.{Head}
-use Rattle.sheet.proofs.Tests.{never, and-fst, and-snd}
-use Rattle.coercion.specs.Data.{DataType, Rules}
+use Rattle.sheet.proofs.Tests.{never, and-fst, and-snd, all-at}
+use Rattle.kinds.proofs.Chain.{first}
+use Rattle.coercion.specs.Data.{DataType, Rules, figuresOf, ofUnit, zoned}
 use Rattle.coercion.specs.Data as Data
 use Rattle.coercion.specs.Same.{equal}
+use Rattle.coercion.specs.Times.{timeunitCoercion, zoneCoercion, temporalCoercionNonstrictTimezone}
 use Rattle.coercion.specs.Wrappers.{valueIn}
 use Rattle.coercion.specs.Answers.{coercion, ask, wrapped, keepDictionary, runEndsOf}
 use Rattle.coercion.specs.declared.Figures.{Figures}
@@ -30,7 +33,7 @@ use Rattle.buffers.specs.Goal.{typeOf}
 use Rattle.buffers.specs.Region.{Room, region, Held, Inside}
 use Rattle.buffers.specs.Plain.{rulesOf, plainRules}
 use Rattle.buffers.specs.Source.{SameTypes}
-use Rattle.buffers.specs.Steps.{Reads, stepOf}
+use Rattle.buffers.specs.Steps.{Reads, Figured, stepOf}
 use Rattle.buffers.specs.Typed.{Typed}
 use Rattle.buffers.specs.declared.Question.the-variants as Question
 use Rattle.buffers.specs.declared.Step.{Step}
@@ -40,6 +43,7 @@ use Rattle.buffers.specs.declared.Spot.{Spot}
 use Rattle.buffers.proofs.Sources.{link-inside, read-shape}
 use Rattle.buffers.proofs.Chained.{held-first, held-next}
 use Rattle.buffers.proofs.Fielding.{typed-reads}
+use Rattle.buffers.proofs.Turns.{turns, spoken}
 use Rattle.wrappers.specs.Ways.{isWrapper}
 use Rattle.wrappers.proofs.Cores.{missing, wrapper-is, two-parts}
 use Rattle.wrappers.proofs.Values.{Two, typed-two, value-of}
@@ -47,9 +51,11 @@ use Rattle.merge.proofs.Merging.{typed-same}
 use Rattle.merge.proofs.Orders.{ask-turns, plain-turns}
 use Rattle.merge.proofs.Rewrapping.{end-is}
 use Rattle.resolution.specs.Reached.{Candidate}
-use Rattle.resolution.specs.Keeps.{coreOf, CoreAt, CoreIf, bareType, figuresAt, Bare, isBare, hasFigures}
+use Rattle.resolution.specs.Keeps.{coreOf, CoreAt, CoreIf, bareType, figuresAt, Bare, isBare, hasFigures, staysZoned}
 use Rattle.resolution.proofs.Shifting.{candidate-stands}
-use Rattle.resolution.proofs.Folding.{plain-field}
+use Rattle.resolution.proofs.Listing.{unnot}
+use Rattle.resolution.proofs.Folding.{typed-right, plain-field}
+use Rattle.resolution.proofs.Valuing.{no-parts}
 
 by-test : {A : Type 0} (b : Bool) → (b ≡ true → A) → (b ≡ false → A) → A
 by-test true f g = f refl
@@ -175,6 +181,22 @@ pub says-right : (left : Bool) → not left ≡ true → (l r : DataType) → st
 says-right true z l r = never z
 says-right false z l r = refl
 
+-- a Timestamp is its unit and its zone
+module _ (t : DataType) (h : FieldRight 0 [] false (t .shape) (t .parts)) (e : t .shape .kind ≡ 22) where
+  stamp-is : t ≡ zoned (ofUnit 22 (t .shape .figure)) (t .shape .zone)
+  unfolding figuresRight figureRight isDecimal between lastUnit sizeRight sized
+  stamp-is =
+      let f : figuresRight 22 (t .shape .figure) (t .shape .scale) (t .shape .size) (t .shape .sorted) (isZoned (t .shape .zone)) ≡ true =
+      subst (λ (k : ℕ). figuresRight k (t .shape .figure) (t .shape .scale) (t .shape .size) (t .shape .sorted) (isZoned (t .shape .zone)) ≡ true) e (h .figures) in
+      let scale = eqb-true (t .shape .scale) 0 (all-at _ 1 (all-at _ 0 f)) in
+      let size = eqb-true (t .shape .size) 0 (all-at _ 1 f) in
+      let sorted : t .shape .sorted ≡ false = unnot (t .shape .sorted) (sym (or-false (not (t .shape .sorted))) ∙ all-at _ 2 f) in
+      let parts = no-parts (t .shape .kind) (t .parts) (omega (arith, e)) (h .filled) in
+      λ i. record { shape = record { kind = e i; figure = t .shape .figure; scale = scale i; size = size i; sorted = sorted i; zone = t .shape .zone }; parts = parts i }
+
+  own-figured : Figured (figuresOf t) t
+  own-figured = record { kind = refl; figure = refl; scale = refl; known = h .known; bare = λ q. never (sym q ∙ eq-eqb (t .shape .kind) 22 e) }
+
 module _ (mask : ℕ) where
   abbrev rules : Rules
   rules = rulesOf Question.List mask
@@ -287,29 +309,68 @@ module _ (mask : ℕ) where
         (both .0, λ w. both .1))
         (λ e. (rw e at k, λ w. never (sym e ∙ w)))
 
+  -- a Timestamp with a zone keeps it, to the left of a Timestamp
+  stamp-stays : (l r : DataType) (z : List ℕ) → FieldRight 0 [] false (l .shape) (l .parts) → FieldRight 0 [] false (r .shape) (r .parts) → l .shape .kind ≡ 22 → r .shape .kind ≡ 22
+      → l .shape .zone ≡ present z → timeunitCoercion (l .shape .figure) (r .shape .figure) ≡ l .shape .figure → coercion rules l r ≡ some l
+  unfolding temporalCoercionNonstrictTimezone between
+  stamp-stays l r z p q el er ez eu =
+      plain-is l r l (omega (arith, el)) (omega (arith, er)) (λ e. refl)
+      (sym (spoken rules l r (own-figured l p el) (own-figured r q er) 1 (ap₂ (λ (k j : ℕ). first 6 (turns k j)) el er) refl) ∙ told ∙ ap (λ (t : DataType). some t) (sym (stamp-is l p el)))
+    where
+      told : temporalCoercionNonstrictTimezone l r ≡ some (zoned (ofUnit 22 (l .shape .figure)) (l .shape .zone))
+      told =
+          rw (eq-eqb (l .shape .kind) 22 el, eq-eqb (r .shape .kind) 22 er)
+          (ap₂ (λ (u : ℕ) (k : Zone). some (zoned (ofUnit 22 u) k)) eu (ap (λ (k : Zone). zoneCoercion k (r .shape .zone)) ez ∙ sym ez))
+
   -- the types that stand at a link and at the front of the second half
-  module _ {space : Space} {s u : List ℕ} {link core : ℕ} (x v h : Head) (ex : x ≡ headAt s link) (ev : v ≡ headAt u core) (eh : h ≡ headAt u 1) (b : isBare x && isBare v ≡ true)
+  module _ {space : Space} {s u : List ℕ} {link core : ℕ} (x v h : Head) (ex : x ≡ headAt s link) (ev : v ≡ headAt u core) (eh : h ≡ headAt u 1)
       (at : CoreAt space u 1 core) (t c : DataType) (a : Typed space s link t) (d : Typed space u 1 c) where
-    new-bare : Bare x t
-    new-bare = typed-bare x (and-fst _ _ b) ex a
+    abbrev inner : DataType
+    inner = coreOf (c .shape) (c .parts)
 
-    core-told : Bare v (coreOf (c .shape) (c .parts))
-    core-told = typed-bare v (and-snd (isBare x) _ b) ev (at .is c d)
+    core-typed : Typed space u core inner
+    core-typed = at .is c d
 
-    -- a candidate that is no wrapper
-    pub keeps-alone : h .kind < 32 → ((l r : DataType) → Bare x l → Bare v r → coercion rules l r ≡ some r) → coercion rules t c ≡ some c
-    keeps-alone low f = f t c new-bare (subst (Bare v) (core-bare (c .shape) (c .parts) bare) core-told)
-      where
-        bare : isWrapper (c .shape .kind) ≡ false
-        bare = let e = typed-reads d eh .kind in rw (ne-eqb (c .shape .kind) 37 (λ q. omega arith), ne-eqb (c .shape .kind) 38 (λ q. omega arith)) refl
-
-    -- one that is
-    pub keeps-under : 32 ≤ h .kind → (v .kind ≡ 27 → ⊥) → ((l r : DataType) → Bare v l → Bare x r → coercion rules l r ≡ some l) → coercion rules t c ≡ some c
-    keeps-under high n f =
+    -- a wrapper whose core stays
+    keeps-core : 32 ≤ h .kind → x .kind < 32 → v .kind < 32 → (v .kind ≡ 27 → ⊥) → coercion rules inner t ≡ some inner → coercion rules t c ≡ some c
+    keeps-core high low bare n f =
         by-test (isWrapper (c .shape .kind))
         (λ e.
-        core-stays t (omega (arith, new-bare .reads .kind, new-bare .low)) (d .chain .up) (d .name) (d .nullable) (c .shape) (c .parts) (d .rest) (d .chain .held .source .right) (λ q. n (sym (core-told .reads .kind) ∙ q))
-        (f (coreOf (c .shape) (c .parts)) t core-told new-bare) .1 e)
+        core-stays t (omega (arith, typed-reads a ex .kind)) (d .chain .up) (d .name) (d .nullable) (c .shape) (c .parts) (d .rest) (d .chain .held .source .right)
+        (λ q. n (sym (typed-reads core-typed ev .kind) ∙ q)) f .1 e)
         (λ e.
         let k = ap (λ (y : DataType). y .shape .kind) (core-bare (c .shape) (c .parts) e) in
-        absurd (omega (arith, k, core-told .reads .kind, core-told .low, typed-reads d eh .kind)))
+        absurd (omega (arith, k, typed-reads core-typed ev .kind, typed-reads d eh .kind)))
+
+    -- around a Timestamp with a zone
+    pub keeps-zoned : 32 ≤ h .kind → staysZoned v x ≡ true → coercion rules t c ≡ some c
+    keeps-zoned high b =
+        let l = and-fst (eqb (v .kind) 22 && zonedIn v) _ b in
+        let r = and-snd (eqb (v .kind) 22 && zonedIn v) _ b in
+        let kv = eqb-true (v .kind) 22 (and-fst _ _ l) in
+        let kx = eqb-true (x .kind) 22 (and-fst _ _ r) in
+        let rv = typed-reads core-typed ev in
+        let rx = typed-reads a ex in
+        let there : zoneOf u (space .n) v ≡ present (labelAt u (space .n) (zoneAt v) (zoneLen v)) = rw (and-snd (eqb (v .kind) 22) _ l) in
+        let zone = sym (ap (λ (k : Shape). k .zone) (read-shape (core-typed .chain .held .source) v ev)) ∙ there in
+        let unit = ap₂ timeunitCoercion (rv .figure) (rx .figure) ∙ eqb-true _ (v .figure) (and-snd (eqb (x .kind) 22) _ r) ∙ sym (rv .figure) in
+        keeps-core high (omega (arith, kx)) (omega (arith, kv)) (λ q. omega (arith, kv, q))
+        (stamp-stays inner t _ (typed-right inner core-typed .0 .0) (typed-right t a .0 .0) (rv .kind ∙ kv) (rx .kind ∙ kx) zone unit)
+
+    module _ (b : isBare x && isBare v ≡ true) where
+      new-bare : Bare x t
+      new-bare = typed-bare x (and-fst _ _ b) ex a
+
+      core-told : Bare v inner
+      core-told = typed-bare v (and-snd (isBare x) _ b) ev core-typed
+
+      -- a candidate that is no wrapper
+      pub keeps-alone : h .kind < 32 → ((l r : DataType) → Bare x l → Bare v r → coercion rules l r ≡ some r) → coercion rules t c ≡ some c
+      keeps-alone low f = f t c new-bare (subst (Bare v) (core-bare (c .shape) (c .parts) bare) core-told)
+        where
+          bare : isWrapper (c .shape .kind) ≡ false
+          bare = let e = typed-reads d eh .kind in rw (ne-eqb (c .shape .kind) 37 (λ q. omega arith), ne-eqb (c .shape .kind) 38 (λ q. omega arith)) refl
+
+      -- one that is
+      pub keeps-under : 32 ≤ h .kind → (v .kind ≡ 27 → ⊥) → ((l r : DataType) → Bare v l → Bare x r → coercion rules l r ≡ some l) → coercion rules t c ≡ some c
+      keeps-under high n f = keeps-core high (new-bare .low) (core-told .low) n (f inner t core-told new-bare)

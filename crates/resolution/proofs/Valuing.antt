@@ -50,7 +50,7 @@ use Rattle.resolution.proofs.Low.{Low, plain-low}
 use Rattle.resolution.proofs.Folding.{foremost, typed-right, within-self, within-trans, within-kept, some-listed, fits-few, fits-short, next-fits}
 
 -- a kind below 32 has no parts
-no-parts : (k : ℕ) (p : Fields) → k < 32 → partsRight k (arity p) ≡ true → p ≡ end
+pub no-parts : (k : ℕ) (p : Fields) → k < 32 → partsRight k (arity p) ≡ true → p ≡ end
 unfolding partsRight between
 no-parts k p h f =
     let g : eqb (arity p) 0 ≡ true =

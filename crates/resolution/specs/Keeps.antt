@@ -5,8 +5,11 @@ use mathlib.Core.Bool.{Bool, false, cond, _&&_}
 use mathlib.Core.List.{List}
 use lib.Dec.{eqb, ltb}
 use Rattle.sheet.specs.Types.{absent, Shape, Fields, end, field}
+use Rattle.sheet.specs.Kind as Kind
+use Rattle.sheet.specs.Head.{zonedIn}
 use Rattle.sheet.specs.declared.Head.{Head}
 use Rattle.coercion.specs.Data.{DataType}
+use Rattle.coercion.specs.Times.{timeunitCoercion}
 use Rattle.coercion.specs.declared.Figures.{Figures}
 use Rattle.buffers.specs.Goal.{typeOf}
 use Rattle.buffers.specs.Steps.{Reads}
@@ -53,3 +56,7 @@ isBare h = ltb (h .kind) 32 && ltb (h .flags) 2
 -- whether it has figures and a size
 abbrev pub hasFigures : Head → Figures → ℕ → Bool
 hasFigures h f size = (eqb (h .kind) (f .kind) && eqb (h .figure) (f .figure)) && (eqb (h .scale) (f .scale) && eqb (h .quad) size)
+
+-- whether a Timestamp with a zone stays as it is to the left of a Timestamp
+abbrev pub staysZoned : Head → Head → Bool
+staysZoned x y = (eqb (x .kind) Kind.timestamp && zonedIn x) && (eqb (y .kind) Kind.timestamp && eqb (timeunitCoercion (x .figure) (y .figure)) (x .figure))

@@ -8,7 +8,7 @@ ghost use Rattle.coercion.specs.Answers.{coercion};
 ghost use Rattle.buffers.specs.Plain.{rulesOf};
 ghost use Rattle.buffers.specs.Steps.{stepOf};
 ghost use Rattle.buffers.specs.Typed.{Typed};
-ghost use Rattle.resolution.specs.Keeps.{CoreAt, CoreIf, Bare, figuresAt, isBare, hasFigures};
+ghost use Rattle.resolution.specs.Keeps.{CoreAt, CoreIf, Bare, figuresAt, isBare, hasFigures, staysZoned};
 use buffers::Question;
 use buffers::Space;
 use buffers::Step;
@@ -17,6 +17,7 @@ use buffers::plain::plain;
 use coercion::Figures;
 use kinds::tests::both;
 use kinds::tests::either;
+use rules::times::timeunit_coercion;
 use sheet::Head;
 use sheet::record::head_at;
 
@@ -109,8 +110,21 @@ fn stays_right(mask: u64, x: Head, y: Head) -> bool
     says(plain(Question::List, mask, x, y), y, false)
 }
 
-// Whether the candidate at record 1 of the second half, whose core is at a record, stays as it is under the type at a link of the sheet. Types that their
-// heads do not tell whole are only compared. Below a wrapper the core goes left, and a Dictionary of Utf8View gives way to Utf8View.
+// Whether a Timestamp with a zone stays as it is to the left of a Timestamp: the zone is the left's, and the unit where it is no coarser.
+fn stays_zoned(x: Head, y: Head) -> bool
+    ensures { λ b. ⌜ b ≡ staysZoned x y ⌝ }
+{
+    both(
+        both(x.kind == 22, x.flags / 4 % 2 == 1),
+        both(
+            y.kind == 22,
+            timeunit_coercion(x.figure, y.figure) == x.figure,
+        ),
+    )
+}
+
+// Whether the candidate at record 1 of the second half, whose core is at a record, stays as it is under the type at a link of the sheet. Below a wrapper the
+// core goes left, and a Dictionary of Utf8View gives way to Utf8View. Other types that their heads do not tell whole are only compared.
 pub(crate) fn keeps(
     sheet: &[u8],
     second: &[u8],
@@ -124,14 +138,18 @@ pub(crate) fn keeps(
 {
     let x = head_at(sheet, link);
     let v = head_at(second, core);
-    if !both(is_bare(x), is_bare(v)) {
-        return same_type(sheet, space.n, link, second, space.n, 1, true);
+    let wrapped = 32 <= head_at(second, 1).kind;
+    if both(is_bare(x), is_bare(v)) {
+        if !wrapped {
+            return stays_right(mask, x, v);
+        }
+        if v.kind == 27 {
+            return false;
+        }
+        return stays_left(mask, v, x);
     }
-    if head_at(second, 1).kind < 32 {
-        return stays_right(mask, x, v);
+    if both(wrapped, stays_zoned(v, x)) {
+        return true;
     }
-    if v.kind == 27 {
-        return false;
-    }
-    stays_left(mask, v, x)
+    same_type(sheet, space.n, link, second, space.n, 1, true)
 }

@@ -1,8 +1,10 @@
 use mathlib.Core.Path.{ap₂, sym, _∙_}
 use mathlib.Core.Bool.{_&&_}
-use Rattle.sheet.proofs.Tests.{never}
+use lib.Dec.{leb}
+use borrow.Author.Tests.{leb-true, leb-false}
+use Rattle.sheet.proofs.Tests.{never, and-fst, and-snd}
 use Rattle.resolution.proofs.Listing.{unnot}
-use Rattle.resolution.proofs.Keeping.{keeps-same, keeps-alone, keeps-under}
+use Rattle.resolution.proofs.Keeping.{keeps-same, keeps-alone, keeps-under, keeps-zoned}
 use borrow.Author.Needs.{needs}
 use Rattle.resolution.proofs.keep.keeps.Statement.{statement}
 use Rattle.resolution.proofs.keep.keeps.Tie as tie
@@ -13,63 +15,77 @@ use Rattle.kinds.proofs.tests.both.Reads as both-reads
 use Rattle.resolution.proofs.keep.is_bare.Reads as is-bare-reads
 use Rattle.resolution.proofs.keep.stays_left.Reads as stays-left-reads
 use Rattle.resolution.proofs.keep.stays_right.Reads as stays-right-reads
+use Rattle.resolution.proofs.keep.stays_zoned.Reads as stays-zoned-reads
 use Rattle.sheet.proofs.record.head_at.Reads as head-at-reads
 
--- src/keep.rt:125:9
+-- src/keep.rt:136:9
 head-at-requires : tie.Need-head-at-requires
 head-at-requires c κs = search needs
 
--- src/keep.rt:126:9
+-- src/keep.rt:137:9
 head-at-requires-2 : tie.Need-head-at-requires-2
 head-at-requires-2 c κs = search needs
 
--- src/keep.rt:127:14
-is-bare-requires : tie.Need-is-bare-requires
-is-bare-requires c κs = search needs
-
--- src/keep.rt:127:26
-is-bare-requires-2 : tie.Need-is-bare-requires-2
-is-bare-requires-2 c κs = search needs
-
--- src/keep.rt:127:9
-both-requires : tie.Need-both-requires
-both-requires c κs = search needs
-
--- src/keep.rt:128:9
-same-type-requires : tie.Need-same-type-requires
-same-type-requires c κs = search needs
-
--- src/keep.rt:128:9
-returns : tie.Need-returns
-returns c =
-    λ z at. keeps-same (c .before .before .before .before .before .before .before .before .before .args .mask) (c .same-type .ensures) z
-
--- src/keep.rt:130:8
+-- src/keep.rt:138:25
 head-at-requires-3 : tie.Need-head-at-requires-3
 head-at-requires-3 c κs = search needs
 
--- src/keep.rt:131:9
+-- src/keep.rt:139:13
+is-bare-requires : tie.Need-is-bare-requires
+is-bare-requires c κs = search needs
+
+-- src/keep.rt:139:25
+is-bare-requires-2 : tie.Need-is-bare-requires-2
+is-bare-requires-2 c κs = search needs
+
+-- src/keep.rt:139:8
+both-requires : tie.Need-both-requires
+both-requires c κs = search needs
+
+-- src/keep.rt:141:13
 stays-right-requires : tie.Need-stays-right-requires
 stays-right-requires c κs = search needs
 
--- src/keep.rt:131:9
+-- src/keep.rt:141:13
+returns : tie.Need-returns
+returns c =
+    λ z at t y a d. keeps-alone (c .before .before .before .before .before .before .before .before .before .before .before .before .args .mask) _ _ _ (c .before .before .before .before .before .before .before .before .before .head-at .ensures .0) (c .before .before .before .before .before .before .before .before .head-at2 .ensures .0) (c .before .before .before .before .before .before .before .head-at3 .ensures .0) at t y a d (sym ((c .before .before .before .both .ensures) ∙ ap₂ _&&_ (c .before .before .before .before .before .is-bare .ensures) (c .before .before .before .before .is-bare2 .ensures)) ∙ (c .before .before .if1 .taken)) (leb-false 32 _ (unnot _ (c .before .if2 .taken))) ((c .stays-right .ensures) z)
+
+-- src/keep.rt:144:13
 returns-2 : tie.Need-returns-2
 returns-2 c =
-    λ z at t y a d. keeps-alone (c .before .before .before .before .before .before .before .before .before .before .before .before .args .mask) _ _ _ (c .before .before .before .before .before .before .before .before .before .head-at .ensures .0) (c .before .before .before .before .before .before .before .before .head-at2 .ensures .0) (c .before .before .before .head-at3 .ensures .0) (sym ((c .before .before .before .before .before .both .ensures) ∙ ap₂ _&&_ (c .before .before .before .before .before .before .before .is-bare .ensures) (c .before .before .before .before .before .before .is-bare2 .ensures)) ∙ unnot _ (c .before .before .before .before .if1 .left)) at t y a d (c .before .if2 .taken) ((c .stays-right .ensures) z)
-
--- src/keep.rt:134:9
-returns-3 : tie.Need-returns-3
-returns-3 c =
     λ z. never z
 
--- src/keep.rt:136:5
+-- src/keep.rt:146:9
 stays-left-requires : tie.Need-stays-left-requires
 stays-left-requires c κs = search needs
 
--- src/keep.rt:114:1
+-- src/keep.rt:146:9
+returns-3 : tie.Need-returns-3
+returns-3 c =
+    λ z at t y a d. keeps-under (c .before .before .before .before .before .before .before .before .before .before .before .before .before .before .args .mask) _ _ _ (c .before .before .before .before .before .before .before .before .before .before .before .head-at .ensures .0) (c .before .before .before .before .before .before .before .before .before .before .head-at2 .ensures .0) (c .before .before .before .before .before .before .before .before .before .head-at3 .ensures .0) at t y a d (sym ((c .before .before .before .before .before .both .ensures) ∙ ap₂ _&&_ (c .before .before .before .before .before .before .before .is-bare .ensures) (c .before .before .before .before .before .before .is-bare2 .ensures)) ∙ (c .before .before .before .before .if1 .taken)) (leb-true 32 _ (unnot _ (c .before .before .before .if2 .left))) (c .before .if3 .left) ((c .stays-left .ensures) z)
+
+-- src/keep.rt:148:22
+stays-zoned-requires : tie.Need-stays-zoned-requires
+stays-zoned-requires c κs = search needs
+
+-- src/keep.rt:148:8
+both-requires-2 : tie.Need-both-requires-2
+both-requires-2 c κs = search needs
+
+-- src/keep.rt:149:9
 returns-4 : tie.Need-returns-4
 returns-4 c =
-    λ z at t y a d. keeps-under (c .before .before .before .before .before .before .before .before .before .before .before .before .before .before .args .mask) _ _ _ (c .before .before .before .before .before .before .before .before .before .before .before .head-at .ensures .0) (c .before .before .before .before .before .before .before .before .before .before .head-at2 .ensures .0) (c .before .before .before .before .before .head-at3 .ensures .0) (sym ((c .before .before .before .before .before .before .before .both .ensures) ∙ ap₂ _&&_ (c .before .before .before .before .before .before .before .before .before .is-bare .ensures) (c .before .before .before .before .before .before .before .before .is-bare2 .ensures)) ∙ unnot _ (c .before .before .before .before .before .before .if1 .left)) at t y a d (c .before .before .before .if2 .left) (c .before .if3 .left) ((c .stays-left .ensures) z)
+    λ z at t y a d. let b = sym (c .before .both2 .ensures) ∙ (c .if4 .taken) in keeps-zoned (c .before .before .before .before .before .before .before .before .before .before .before .before .before .args .mask) _ _ _ (c .before .before .before .before .before .before .before .before .before .before .head-at .ensures .0) (c .before .before .before .before .before .before .before .before .before .head-at2 .ensures .0) (c .before .before .before .before .before .before .before .before .head-at3 .ensures .0) at t y a d (leb-true 32 _ (and-fst (leb 32 ((c .before .before .before .before .before .before .before .before .head-at3 .result .kind))) _ b)) (sym (c .before .before .stays-zoned .ensures) ∙ and-snd (leb 32 ((c .before .before .before .before .before .before .before .before .head-at3 .result .kind))) _ b)
+
+-- src/keep.rt:151:5
+same-type-requires : tie.Need-same-type-requires
+same-type-requires c κs = search needs
+
+-- src/keep.rt:125:1
+returns-5 : tie.Need-returns-5
+returns-5 c =
+    λ z at. keeps-same (c .before .before .before .before .before .before .before .before .before .before .before .before .before .before .args .mask) (c .same-type .ensures) z
 
 pub keeps-spec : {M : Type 1} → statement M
 keeps-spec =
@@ -77,14 +93,17 @@ keeps-spec =
     (tie.spec
     head-at-requires
     head-at-requires-2
+    head-at-requires-3
     is-bare-requires
     is-bare-requires-2
     both-requires
-    same-type-requires
-    returns
-    head-at-requires-3
     stays-right-requires
+    returns
     returns-2
-    returns-3
     stays-left-requires
-    returns-4)
+    returns-3
+    stays-zoned-requires
+    both-requires-2
+    returns-4
+    same-type-requires
+    returns-5)
