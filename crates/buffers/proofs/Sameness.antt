@@ -14,7 +14,7 @@ use Rattle.sheet.specs.Names.{sameBytes}
 use Rattle.sheet.specs.declared.Head.{Head}
 use Rattle.sheet.proofs.Tests.{and-true, all-not}
 use Rattle.coercion.specs.Same.{sameZone, sameShape, sameFields, sameType}
-use Rattle.buffers.specs.Source.{Source, SameTypes, SameChains, Apart, typeIn}
+use Rattle.buffers.specs.Source.{Source, SameTypes, SameChains, Apart}
 use Rattle.buffers.specs.Records.{sameFigures, sameContent}
 use Rattle.buffers.proofs.Sources.{link-inside, read-name, read-nullable, read-shape, source-first, source-next, source-lower}
 

@@ -11,6 +11,7 @@ use Rattle.sheet.specs.Head.{headAt}
 use Rattle.sheet.specs.Holds.{Stands}
 use Rattle.sheet.specs.declared.Head.{Head}
 use Rattle.coercion.specs.Data.{DataType, size}
+pub use Rattle.buffers.specs.Source.{typeOf}
 use Rattle.buffers.specs.Region.{region, Kept, Held, Inside, Wrote, Named, Passes}
 use Rattle.buffers.specs.declared.Space.{Space}
 use Rattle.buffers.specs.declared.Spot.{Spot}
@@ -51,9 +52,6 @@ pub record Writes (space : Space) (w v : List ℕ) (g : Goal) (o : Out) : Type 0
 pub record Laid (space : Space) (w v : List ℕ) (g : Goal) (shape : Shape) (first : ℕ) : Type 0 where
   pub kept : Kept space w v (g .at) (g .label + g .nlen)
   pub stands : (name : List ℕ) → Named space w g name → Stands (region space v) (space .n) (g .at) (g .label) name (g .nullable) shape first 0
-
-abbrev pub typeOf : Shape → Fields → DataType
-typeOf shape parts = record { shape = shape; parts = parts }
 
 -- a plain type, of whatever kind and figures, that was written at a goal
 pub record LaidPlain (space : Space) (w v : List ℕ) (g : Goal) (shape : Shape) (o : Out) : Type 0 where

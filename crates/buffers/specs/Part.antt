@@ -9,7 +9,7 @@ use Rattle.sheet.specs.Types.{Shape, Fields, end, field, arity}
 use Rattle.sheet.specs.Names.{sameBytes}
 use Rattle.coercion.specs.Data.{DataType}
 use Rattle.coercion.specs.Same.{sameShape, sameType}
-use Rattle.buffers.specs.Source.{Source, typeIn}
+use Rattle.buffers.specs.Source.{Source, typeOf}
 
 -- two chains have a field each, and the two are the same but for their types
 unfoldable pub sameLone : Bool → Fields → Fields → Bool
@@ -26,7 +26,7 @@ sameButPart named l r = sameShape (l .shape) (r .shape) && sameLone named (l .pa
 unfoldable pub sameFirst : Bool → Fields → Fields → Bool
 sameFirst named end r = false
 sameFirst named (field name nullable shape parts rest) end = false
-sameFirst named (field name nullable shape parts rest) (field name′ nullable′ shape′ parts′ rest′) = sameType named (typeIn shape parts) (typeIn shape′ parts′)
+sameFirst named (field name nullable shape parts rest) (field name′ nullable′ shape′ parts′ rest′) = sameType named (typeOf shape parts) (typeOf shape′ parts′)
 
 -- what the test of two chains says of whatever chains two links lead to
 abbrev pub LoneFields : List ℕ → ℕ → ℕ → List ℕ → ℕ → ℕ → Bool → Bool → Type 0
@@ -39,4 +39,4 @@ LoneParts s n i t m j named e =
     (r o up : ℕ) (name : List ℕ) (nullable : Bool) (shape : Shape) (parts rest : Fields)
     (r′ o′ up′ : ℕ) (name′ : List ℕ) (nullable′ : Bool) (shape′ : Shape) (parts′ rest′ : Fields)
     → Source s n 0 i r o up (field name nullable shape parts rest) → Source t m 0 j r′ o′ up′ (field name′ nullable′ shape′ parts′ rest′)
-    → e ≡ sameButPart named (typeIn shape parts) (typeIn shape′ parts′)
+    → e ≡ sameButPart named (typeOf shape parts) (typeOf shape′ parts′)

@@ -16,9 +16,9 @@ pub record Source (s : List ℕ) (n floor link r o up : ℕ) (t : Fields) : Type
   pub right : FieldsRight up t
   pub short : o + length (labels t) < 65536
 
--- the first type of a chain that a source has
-abbrev pub typeIn : Shape → Fields → DataType
-typeIn shape parts = record { shape = shape; parts = parts }
+-- the type of a field
+abbrev pub typeOf : Shape → Fields → DataType
+typeOf shape parts = record { shape = shape; parts = parts }
 
 -- what the test for sameness of two types says of whatever types stand at i and j
 abbrev pub SameTypes : List ℕ → ℕ → ℕ → List ℕ → ℕ → ℕ → Bool → Bool → Type 0
@@ -26,7 +26,7 @@ SameTypes s n i t m j named e =
     (r o up : ℕ) (name : List ℕ) (nullable : Bool) (shape : Shape) (parts rest : Fields)
     (r′ o′ up′ : ℕ) (name′ : List ℕ) (nullable′ : Bool) (shape′ : Shape) (parts′ rest′ : Fields)
     → Source s n 0 i r o up (field name nullable shape parts rest) → Source t m 0 j r′ o′ up′ (field name′ nullable′ shape′ parts′ rest′)
-    → e ≡ sameType named (typeIn shape parts) (typeIn shape′ parts′)
+    → e ≡ sameType named (typeOf shape parts) (typeOf shape′ parts′)
 
 -- what the test for sameness of two chains says of whatever chains two links lead to
 abbrev pub SameChains : List ℕ → ℕ → ℕ → ℕ → List ℕ → ℕ → ℕ → Bool → Bool → Type 0

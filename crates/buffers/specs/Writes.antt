@@ -1,16 +1,11 @@
 -- What is written into the work space, and what stays.
 use mathlib.Core.Path.{_≡_}
-use Prim.Native.Nat.{ℕ, _+_, _*_, _-_, _<_, _≤_}
-use mathlib.Core.Bool.{Bool, true, false, cond, _&&_}
-use mathlib.Core.List.{List, [], _∷_}
-use lib.ListN.{length, getD, take, drop}
-use lib.Dec.{ltb, eqb}
+use Prim.Native.Nat.{ℕ, _+_, _<_, _≤_}
+use mathlib.Core.List.{List}
+use lib.ListN.{length, getD}
 use Rattle.sheet.specs.Holds.{Span}
-
 -- the buffer that a side is read from: the candidate stands in the work space, the other type in the sheet
-abbrev pub side : Bool → List ℕ → List ℕ → List ℕ
-side true sheet work = work
-side false sheet work = sheet
+pub use Rattle.rules.specs.Zones.{side}
 
 -- u was put at i: it stands there in v, and nothing else of w has changed
 pub record Put (w v : List ℕ) (i : ℕ) (u : List ℕ) : Type 0 where

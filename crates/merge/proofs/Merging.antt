@@ -31,7 +31,7 @@ use Rattle.buffers.specs.declared.Out.the-variants.{Done, No, Full}
 use Rattle.buffers.proofs.Sources.{source-lower, read-nullable}
 use Rattle.buffers.proofs.Frames.{kept-self}
 use Rattle.buffers.proofs.Copying.{held-side}
-use Rattle.buffers.proofs.Laying.{no-record}
+use Rattle.buffers.proofs.Laying.{no-record, named-kept}
 use Rattle.buffers.proofs.Fielding.{typed-reads}
 use Rattle.buffers.proofs.Stamping.{means-more}
 use Rattle.buffers.proofs.Parting.{part-differ}
@@ -76,6 +76,14 @@ parts-differ known named f {x} {y} a b d k =
 pub means-for : (space : Space) (w v : List ℕ) (g : Goal) {z y : ℕ} (z′ y′ : ℕ) (o : Out) {m m′ : Option DataType} → z ≤ z′ → y ≤ y′ → m ≡ m′ → Means space w v g z y o m
     → Means space w v g z′ y′ o m′
 means-for space w v g {z} {y} z′ y′ o {m} p q e a = subst (Means space w v g z′ y′ o) e (means-more space w v g z y z′ y′ o m p q a)
+
+-- what is said of a goal after something else was written at it: the name there stood there before
+pub means-after : (space : Space) (w v u : List ℕ) (g : Goal) (z y : ℕ) (o : Out) (m : Option DataType) → Kept space w v (g .at) (g .label + g .nlen) → Means space v u g z y o m → Means space w u g z y o m
+means-after space w v u g z y (Done d) none k a = absurd a
+means-after space w v u g z y (Done d) (some t) k a = λ name nm. a name (named-kept space w v (g .at) (g .label + g .nlen) g (omega arith) k nm)
+means-after space w v u g z y No none k a = tt
+means-after space w v u g z y No (some t) k a = absurd a
+means-after space w v u g z y Full m k a = a
 
 -- two types of which something may be known, and of which nothing is
 pub any-known : (known : Bool) {named : Bool} {A : DataType → DataType → Option DataType} {space : Space} {left : ℕ} (swap : Bool) {s w v : List ℕ} {l r : ℕ} {g : Goal} {o : Out}

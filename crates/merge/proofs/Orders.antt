@@ -26,6 +26,7 @@ use Rattle.coercion.proofs.Ranked.{kind-from}
 use Rattle.rules.proofs.Moments.{above}
 use Rattle.coercion.proofs.Words.{or-none, rulesFor}
 use Rattle.buffers.specs.Plain.{isListQuestion, stringTime, plainRules}
+use Rattle.wrappers.proofs.Unwrapping.{wrapper-none}
 use Rattle.merge.specs.Turns.{structRule, nestedOf, eitherWrapped, resolved, unwrapped, turnsFor, turnsOf}
 
 -- answers with others between them that are none
@@ -211,16 +212,12 @@ module _ (c : DataType → DataType → Option DataType) (l r : DataType) where
           (first-among
           (keep (keep (keep (skip (list-none x) (keep (keep (keep (keep (skip (struct-none y) (skip (map-none z) done)))))))))))
 
-  wrapper-none : (k : ℕ) → isOf k l ≡ false → isOf k r ≡ false → wrapperCoercion k c l r ≡ none
-  unfolding wrapperCoercion
-  wrapper-none k x y = rw (x, y)
-
   -- a number is no wrapper
   numbers-bare : isNumeric (l .shape .kind) && isNumeric (r .shape .kind) ≡ true → (k : ℕ) → 17 < k → wrapperCoercion k c l r ≡ none
   numbers-bare h k b =
       let p = kind-from 3 17 (l .shape .kind) (and-fst _ _ h) in
       let q = kind-from 3 17 (r .shape .kind) (and-snd (isNumeric (l .shape .kind)) (isNumeric (r .shape .kind)) h) in
-      wrapper-none k (ne-eqb (l .shape .kind) k (λ e. omega arith)) (ne-eqb (r .shape .kind) k (λ e. omega arith))
+      wrapper-none k c l r (ne-eqb (l .shape .kind) k (λ e. omega arith)) (ne-eqb (r .shape .kind) k (λ e. omega arith))
 
   -- either the rule for numbers is none, or those for wrappers are
   numbers-apart : (asType (binaryNumericCoercion (figuresOf l) (figuresOf r)) ≡ none) ⊎ ((wrapperCoercion 37 c l r ≡ none) × (wrapperCoercion 38 c l r ≡ none))

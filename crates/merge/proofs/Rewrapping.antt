@@ -10,8 +10,8 @@ use lib.ListN.{length, length-append}
 use lib.Dec.{eqb, leb}
 use borrow.Author.Tests.{eq-eqb, ne-eqb, eqb-true, leb-true}
 use Rattle.sheet.specs.Kind.{isDecimal, sized, lastUnit, partsRight, namesParts}
-use Rattle.sheet.specs.Tests.{between, implies}
-use Rattle.sheet.specs.Types.{Zone, absent, present, Shape, Fields, end, field, arity, count, zoneBytes, labels}
+use Rattle.sheet.specs.Tests.{between}
+use Rattle.sheet.specs.Types.{Zone, absent, Shape, Fields, end, field, arity, count, zoneBytes, labels}
 use Rattle.sheet.specs.Head.{headAt}
 use Rattle.sheet.specs.Refusals.{figureRight, sizeRight, figuresRight}
 use Rattle.sheet.specs.Carried.{isNamed, isZoned, FieldRight, FieldsRight}
@@ -36,27 +36,17 @@ use Rattle.buffers.specs.declared.Out.{Out}
 use Rattle.buffers.specs.declared.Out.the-variants.{Done, No, Full}
 use Rattle.buffers.proofs.Frames.{kept-trans, kept-wider, wrote-frame}
 use Rattle.buffers.proofs.Chained.{labels-sum}
-use Rattle.buffers.proofs.Laying.{named-kept}
 use Rattle.buffers.proofs.Tying.{tied-kept, chain-tied}
-use Rattle.merge.proofs.Merging.{chain-side, typed-side, typed-kind, means-for}
+use Rattle.merge.proofs.Merging.{chain-side, typed-side, typed-kind, means-for, means-after}
 use Rattle.buffers.proofs.Rows.{chain-next}
 use Rattle.wrappers.specs.Ways.{isWrapper}
-use Rattle.wrappers.proofs.Cores.{wrapper-is, two-parts}
+use Rattle.wrappers.proofs.Cores.{implies-no, absent-is, wrapper-is, two-parts}
 use Rattle.wrappers.proofs.Values.{chain-first}
 use Rattle.merge.proofs.Parents.{Parent, parent-copied, parent-wrote, kept-on, writes-on}
-
--- what a test rules out
-implies-no : (b : Bool) → implies b false ≡ true → b ≡ false
-implies-no true e = never e
-implies-no false e = refl
 
 unnamed-is : (name : List ℕ) → isNamed name ≡ false → name ≡ []
 unnamed-is [] e = refl
 unnamed-is (b ∷ bs) e = never (sym e)
-
-absent-is : (z : Zone) → isZoned z ≡ false → z ≡ absent
-absent-is absent e = refl
-absent-is (present z) e = never (sym e)
 
 pub end-is : (t : Fields) → arity t ≡ 0 → t ≡ end
 unfolding arity
@@ -147,15 +137,6 @@ wrapper-letters : (z : Two)
 wrapper-letters z =
     omega
     (arith, labels-sum (z .name₁) (z .null₁) (z .shape₁) (z .parts₁) (behind z), labels-sum (z .name₂) (z .null₂) (z .shape₂) (z .parts₂) (z .rest), length-append (z .name₁) (zoneBytes (z .shape₁ .zone)), length-append (z .name₂) (zoneBytes (z .shape₂ .zone)))
-
--- the name at a goal stood there before
-means-before : (space : Space) (w v u : List ℕ) (g : Goal) (z y : ℕ) (o : Out) (m : Option DataType) → Kept space w v (g .at) (g .label + g .nlen) → Means space v u g z y o m
-    → Means space w u g z y o m
-means-before space w v u g z y (Done d) none k a = absurd a
-means-before space w v u g z y (Done d) (some t) k a = λ name nm. a name (named-kept space w v (g .at) (g .label + g .nlen) g (omega arith) k nm)
-means-before space w v u g z y No none k a = tt
-means-before space w v u g z y No (some t) k a = absurd a
-means-before space w v u g z y Full m k a = a
 
 module _ (rules : Rules) (space : Space) (left : ℕ) (swap : Bool) (s w : List ℕ) (k l r : ℕ) (g : Goal) (room : Room w space) (is : isWrapper k ≡ true)
     (h : Head) (eh : h ≡ headAt (side swap s w) l) (ek : headAt (side swap s w) l .kind ≡ k) (j : Head) (ej : j ≡ headAt (side swap s w) (h .first)) where
@@ -314,7 +295,7 @@ module _ (rules : Rules) (space : Space) (left : ℕ) (swap : Bool) (s w : List 
             let p = and-fst (eqb k 37) (eqb (headAt (region space v₄) (b .at) .kind) 27) q in
             let n = ap (λ (x : ℕ). eqb x 27) (sym (value-kind z i t c)) ∙ and-snd (eqb k 37) (eqb (headAt (region space v₄) (b .at) .kind) 27) q in
             means-for space w v₅ g z₁ y₁ o le (omega arith) (ap (λ (x : DataType). some x) (sym (view-plain t sound (eqb-true (t .shape .kind) 27 n))) ∙ sym (rewrap-view k z t p n))
-            (means-before space w v₄ v₅ g 1 0 o (some (typeOf (shapeFor 27 0 0 0 false) end)) kept-all (vw .view q .means))
+            (means-after space w v₄ v₅ g 1 0 o (some (typeOf (shapeFor 27 0 0 0 false) end)) kept-all (vw .view q .means))
 
         both : (z : Two) → Pair z → (z₀ y₀ z₁ y₁ : ℕ) → 1 ≤ z₁ → (m : Option DataType) → If Sound m → ChainIs space v₃ b z₀ y₀ (Done e) (fieldOf (z .name₂) (z .null₂) m)
             → Means space w v₅ g z₁ y₁ o (andThen m (λ t. rewrap k (wrapperOf z) t))

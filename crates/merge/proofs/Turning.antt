@@ -35,8 +35,7 @@ use Rattle.buffers.specs.declared.Out.{Out}
 use Rattle.buffers.specs.declared.Out.the-variants.{Done, No, Full}
 use Rattle.buffers.specs.declared.Feed.the-variants as Feed
 use Rattle.buffers.proofs.Frames.{kept-trans}
-use Rattle.buffers.proofs.Laying.{named-kept}
-use Rattle.merge.proofs.Merging.{typed-side, typed-same, parts-differ, means-for, merges-within, merges-as, known-as, as-known, merges-swapped, merges-left, merges-right, merges-none}
+use Rattle.merge.proofs.Merging.{typed-side, typed-same, parts-differ, means-for, means-after, merges-within, merges-as, known-as, as-known, merges-swapped, merges-left, merges-right, merges-none}
 use Rattle.wrappers.specs.Ways.{isWrapper}
 use Rattle.wrappers.specs.Walks.{Way}
 use Rattle.wrappers.proofs.Choosing.{typed-whole, way-rule}
@@ -48,13 +47,6 @@ pub and-are : {a b p q r : Bool} → p ≡ a → q ≡ b → r ≡ (p && q) → 
 and-are e f h = sym (h ∙ ap₂ _&&_ e f)
 
 -- what was merged after something else was written at the same goal
-means-after : (space : Space) (w v u : List ℕ) (g : Goal) (z y : ℕ) (o : Out) (m : Option DataType) → Kept space w v (g .at) (g .label + g .nlen) → Means space v u g z y o m → Means space w u g z y o m
-means-after space w v u g z y (Done d) none k a = absurd a
-means-after space w v u g z y (Done d) (some t) k a = λ name nm. a name (named-kept space w v (g .at) (g .label + g .nlen) g (omega arith) k nm)
-means-after space w v u g z y No none k a = tt
-means-after space w v u g z y No (some t) k a = absurd a
-means-after space w v u g z y Full m k a = a
-
 pub merges-after : {A : DataType → DataType → Option DataType} {space : Space} {left : ℕ} (swap : Bool) {s w v u : List ℕ} {l r : ℕ} {g : Goal} {o : Out} → Room w space
     → Kept space w v (g .at) (g .label + g .nlen) → Merges A space left swap s v u l r g o → Merges A space left swap s w u l r g o
 merges-after {A} {space} {left} swap {s} {w} {v} {u} {l} {r} {g} {o} room k m =

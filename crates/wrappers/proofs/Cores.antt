@@ -18,13 +18,20 @@ use Rattle.sheet.proofs.Tests.{never, and-snd, all-at}
 use Rattle.coercion.specs.Data.{DataType, ofKind, plain}
 use Rattle.coercion.specs.Same.{sameShape, sameFields, sameType, alike}
 use Rattle.coercion.specs.Wrappers.{valueIn}
+use Rattle.buffers.specs.Goal.{typeOf}
 use Rattle.wrappers.specs.Ways.{isWrapper, wrappersOf, coreKind}
 
 pub missing : {A : Type 0} {t : DataType} → none ≡ some t → A
 missing {t} e = absurd (Option·some-ne-none t (sym e))
 
-abbrev pub typeOf : Shape → Fields → DataType
-typeOf s p = record { shape = s; parts = p }
+-- what a test rules out
+pub implies-no : (b : Bool) → implies b false ≡ true → b ≡ false
+implies-no true e = never e
+implies-no false e = refl
+
+pub absent-is : (z : Zone) → isZoned z ≡ false → z ≡ absent
+absent-is absent e = refl
+absent-is (present z) e = never (sym e)
 
 -- each wrapper on the way down has a value, and a Null at the end is the one that a sheet may carry
 pub data Whole : Shape → Fields → Type 0 where
@@ -80,17 +87,9 @@ module _ (s : Shape) (e : s .kind ≡ Kind.null) (p : Fields) (filled : partsRig
         let f : s .figure ≡ 0 = omega (arith, leb-true (s .figure) 0 (all-at own 0 (all-at tests 0 null-figures))) in
         let c : s .scale ≡ 0 = eqb-true (s .scale) 0 (all-at own 1 (all-at tests 0 null-figures)) in
         let z : s .size ≡ 0 = eqb-true (s .size) 0 (all-at tests 1 null-figures) in
-        let o = unsorted (s .sorted) (all-at tests 2 null-figures) in
-        let g = unzoned (s .zone) (all-at tests 3 null-figures) in
+        let o = implies-no (s .sorted) (all-at tests 2 null-figures) in
+        let g = absent-is (s .zone) (implies-no (isZoned (s .zone)) (all-at tests 3 null-figures)) in
         λ i. record { shape = record { kind = e i; figure = f i; scale = c i; size = z i; sorted = o i; zone = g i }; parts = no-parts i }
-      where
-        unsorted : (b : Bool) → implies b false ≡ true → b ≡ false
-        unsorted true h = never h
-        unsorted false h = refl
-
-        unzoned : (z : Zone) → implies (isZoned z) false ≡ true → z ≡ absent
-        unzoned absent h = refl
-        unzoned (present z) h = never h
 
 pub two-parts : (k n : ℕ) → isWrapper k ≡ true → partsRight k n ≡ true → n ≡ 2
 unfolding partsRight between

@@ -15,10 +15,11 @@ use Rattle.coercion.specs.Wrappers.{valueIn, isOf, wrapperCoercion}
 use Rattle.coercion.specs.Answers.{coercion}
 use Rattle.coercion.proofs.Sameness.{equal-self}
 use Rattle.coercion.proofs.Words.{equal-left, or-none}
+use Rattle.buffers.specs.Goal.{typeOf}
 use Rattle.buffers.specs.Plain.{isListQuestion}
 use Rattle.wrappers.specs.Ways.{isWrapper, wrappersOf, coreKind, meets, mayMerge, dictionaryMay}
 use Rattle.wrappers.proofs.Meeting.{judged, judged-same, judged-cross, judged-bare, judged-core, judged-refused, judged-spent}
-use Rattle.wrappers.proofs.Cores.{typeOf, Whole, bare, wrap, coreIn, wrapper-is, bare-wrappers, bare-core, wrap-wrappers, wrap-core, core-kind, inner}
+use Rattle.wrappers.proofs.Cores.{Whole, bare, wrap, coreIn, wrapper-is, bare-wrappers, bare-core, wrap-wrappers, wrap-core, core-kind, inner}
 use Rattle.wrappers.proofs.Unwrapping.{given, given-none, Kinds, dictionaryFirst, runEndsFirst, wrapper-none, has, way-left, way-right, both-has, cross-has, left-has, right-has, null-left-has, null-right-has}
 
 -- the other kind of wrapper
