@@ -14,7 +14,7 @@ use Rattle.sheet.specs.Types.{Fields, end, field, arity, count, labels}
 use Rattle.sheet.specs.Head.{bytesOf}
 use Rattle.sheet.specs.Encode.{linkTo, headOf, header, records, encode}
 use Rattle.sheet.specs.Names.{repeats, namesDiffer}
-use Rattle.sheet.specs.Carried.{Label, FieldsRight, Carried}
+use Rattle.sheet.specs.Carried.{FieldsRight, Carried}
 use Rattle.sheet.specs.Holds.{Plain}
 use Rattle.sheet.specs.Refusals as Sheet
 use Rattle.sheet.proofs.Tests.{and-snd, all-cons, all-nil}
@@ -26,6 +26,7 @@ use Rattle.coercion.specs.Families.{Family, AllIn, SomeIn}
 use Rattle.coercion.proofs.Joins.{all, in-front, in-back, in-cut}
 use Rattle.coercion.proofs.Commons.{Settled, settled}
 use Rattle.coercion.proofs.Fitting.{Fits, in-fits}
+use Rattle.coercion.proofs.PlainRight.{empty-label}
 use Rattle.answers.specs.Call.{Call, badMask, badPair, refusal}
 use Rattle.answers.proofs.Demanded.{full-rest, stretch-answers}
 use Rattle.answers.specs.Demand.{Asks, Calls, call, NonEmpty}
@@ -75,9 +76,6 @@ unfolding labels
 chain-labels [] = refl
 chain-labels (g ∷ gs) = chain-labels gs
 
-no-label : Label []
-no-label = record { short = omega arith; plain = λ i. omega arith }
-
 chain-right : (gs : List Figures) → AllFit gs → FieldsRight 0 (chain gs)
 unfolding arity
 chain-right [] a = tt
@@ -89,8 +87,8 @@ chain-right (g ∷ gs) a = (
     byte = a .0 .scale;
     mayBeNull = refl;
     mayBeNamed = refl;
-    ownName = no-label;
-    ownZone = no-label;
+    ownName = empty-label;
+    ownZone = empty-label;
   },
   (tt, chain-right gs (a .1)),
 )

@@ -29,6 +29,7 @@ use Rattle.coercion.specs.Wrappers as Wrappers
 use Rattle.coercion.specs.Nested as Nested
 use Rattle.coercion.specs.Answers as Answers
 use Rattle.answers.specs.Call.{Call, badMask, badPair, badSpace, refusal, refused, nothing, written, Outcome, outcome, cleared, atFront, settled, answer}
+use Rattle.answers.proofs.Asking.{listed}
 
 -- the sixteen bytes of a header of n records without labels, and of a record of a kind, with bytes 2 and 3 and the link to the next record
 abbrev pub top : ℕ → List ℕ
@@ -280,17 +281,13 @@ words =
     ∷ pair list (structOf (item 97 true (item 98 false end))) (structOf (item 98 false (item 97 false end))) (some (structOf (item 98 true (item 97 false end))))
     ∷ []))))))))
 
--- types as a chain, and a line of that table in bytes
-abbrev pub chainOf : List DataType → Fields
-chainOf [] = end
-chainOf (t ∷ ts) = field [] false (t .shape) (t .parts) (chainOf ts)
-
+-- a line of that table in bytes
 abbrev pub sheetOf : Option DataType → Option (List ℕ)
 sheetOf none = none
 sheetOf (some t) = some (encode (single t))
 
 abbrev pub spell : Words → Entry
-spell w = entry (w .question) (encode (chainOf (w .types))) (sheetOf (w .answer))
+spell w = entry (w .question) (encode (listed (w .types))) (sheetOf (w .answer))
 
 pub spelled : map spell words ≡ table
 unfolding count labels records encode
