@@ -1,4 +1,3 @@
-pub mod Joins
 pub mod Walking
 pub mod Scans
 pub mod Verdicts

@@ -1,6 +1,6 @@
 -- What `check` answers, from what it found. Assumes nothing.
 use mathlib.Core.Path.{_≡_, refl, ap, ap₂, sym, subst, _∙_}
-use mathlib.Core.Bool.{Bool, true, false, cond, not, _||_, _&&_}
+use mathlib.Core.Bool.{Bool, true, false, cond, not, _||_, _&&_, or-assoc, or-false}
 use mathlib.Core.List.{List, [], _∷_, _++_}
 use Prim.Native.Nat.{ℕ, zero, suc, _+_, _*_, _-_, _<_, _≤_}
 use native.Mathlib.Omega.{arith}
@@ -24,7 +24,6 @@ use Rattle.sheet.specs.declared.Refusal.the-variants as Refusal
 use Rattle.refusals.specs.declared.Walked.{Walked}
 use Rattle.refusals.specs.declared.Walked.the-variants.{Came, Lost}
 use Rattle.sheet.proofs.Tests.{all-not, all-cons, all-nil, one-is, one-cons, one-nil, not-of}
-use Rattle.refusals.proofs.Joins.{or-assoc, or-end}
 use Rattle.refusals.proofs.Walking.{pass-due, met-length}
 use Rattle.sheet.proofs.Accepted.{Sound, sound-holds}
 
@@ -35,7 +34,7 @@ odd-kinds s n e h k = ap (λ (j : ℕ). anyFrom (λ r. not (isKind (headAt s r .
 
 pass-figure : (s : List ℕ) (p : Progress) (ms : List Met) → passAll s p ms .figure ≡ (p .figure || anyWrong s ms)
 unfolding anyWrong
-pass-figure s p [] = or-end (p .figure)
+pass-figure s p [] = sym (or-false (p .figure))
 pass-figure s p (x ∷ xs) =
     pass-figure s (passHead (headAt s (x .number)) (x .up) p) xs ∙ or-assoc (p .figure) (not (recordRight (headAt s (x .number)) (x .up))) (anyWrong s xs)
 
