@@ -2,14 +2,14 @@
 use mathlib.Core.Path.{_≡_, refl, ap, sym, subst, _∙_}
 use mathlib.Core.Bool.{Bool, true, false, not, _&&_}
 use mathlib.Core.List.{List, [], _∷_}
-use Prim.Native.Nat.{ℕ, zero, suc, _+_, _*_, _<_, _≤_}
+use Prim.Native.Nat.{ℕ, _+_, _*_, _<_, _≤_}
 use native.Mathlib.Omega.{arith}
 use native.Mathlib.Decide.{decLt}
 use lib.ListN.{length, getD}
 use lib.Dec.{eqb}
 use borrow.Author.Tests.{eq-eqb, ne-eqb}
 use Rattle.sheet.specs.Tests.{allOf}
-use Rattle.sheet.specs.Types.{Shape, Fields, end, field, count, ownLabels, labels}
+use Rattle.sheet.specs.Types.{Shape, Fields, end, field, count}
 use Rattle.sheet.specs.Head.{headAt}
 use Rattle.sheet.specs.Names.{repeats, namesDiffer}
 use Rattle.sheet.specs.Holds.{Holds, Leads}
