@@ -4,40 +4,37 @@ use mathlib.Core.Bool.{Bool, true, false, cond, not, _&&_, _||_, or-false}
 use mathlib.Core.List.{List, []}
 use mathlib.Core.Logic.{_⊎_, inl, inr}
 use mathlib.Core.Option.{Option, none, some, Option·some-inj}
-use Prim.Native.Nat.{ℕ, _-_, _/_, _%_, _<_, _≤_}
+use Prim.Native.Nat.{ℕ, _-_, _<_, _≤_}
 use native.Mathlib.Omega.{arith}
-use borrow.Author.Tests.{eq-eqb, ne-eqb, eqb-true, ltb-true, lt-leb}
-use lib.Dec.{eqb, ltb}
+use borrow.Author.Tests.{eq-eqb, ne-eqb, eqb-true}
+use lib.Dec.{eqb}
 use lib.ListN.{length, take, length-drop}
 use lib.Seq.{take-all}
-use Rattle.sheet.specs.Kind.{isDecimal, sized, lastUnit, partsRight, namesParts}
+use Rattle.sheet.specs.Kind.{isDecimal, sized, lastUnit, namesParts}
 use Rattle.sheet.specs.Tests.{between}
 use Rattle.sheet.specs.Types.{Zone, present, Shape, Fields, end, field, arity}
 use Rattle.sheet.specs.Refusals.{figureRight, sizeRight, figuresRight}
 use Rattle.sheet.specs.Carried.{isZoned, FieldRight, FieldsRight}
-use Rattle.sheet.specs.Read.{labelAt, zoneOf, shapeOf}
+use Rattle.sheet.specs.Read.{labelAt, zoneOf}
 use Rattle.sheet.specs.Head.{headAt, zonedIn, zoneAt, zoneLen}
 use Rattle.sheet.specs.declared.Head.{Head}
 use Rattle.sheet.proofs.Tests.{never, and-fst, and-snd, all-at}
 use Rattle.kinds.proofs.Chain.{first}
 use Rattle.coercion.specs.Data.{DataType, Rules, figuresOf, ofUnit, zoned}
 use Rattle.coercion.specs.Data as Data
-use Rattle.coercion.specs.Same.{equal}
+use Rattle.coercion.specs.Same.{equal, sameType}
 use Rattle.coercion.specs.Times.{timeunitCoercion, zoneCoercion, temporalCoercionNonstrictTimezone}
 use Rattle.coercion.specs.Wrappers.{valueIn}
 use Rattle.coercion.specs.Answers.{coercion, ask, wrapped, keepDictionary, runEndsOf}
-use Rattle.coercion.specs.declared.Figures.{Figures}
 use Rattle.coercion.proofs.Fuel.{coercion-asks}
 use Rattle.coercion.proofs.Sameness.{equal-same, equal-self}
 use Rattle.buffers.specs.Goal.{typeOf}
 use Rattle.buffers.specs.Region.{Room, region, Held, Inside}
-use Rattle.buffers.specs.Plain.{rulesOf, plainRules}
+use Rattle.buffers.specs.Plain.{rulesOf}
 use Rattle.buffers.specs.Source.{SameTypes}
-use Rattle.buffers.specs.Steps.{Reads, Figured, stepOf}
+use Rattle.buffers.specs.Steps.{Figured}
 use Rattle.buffers.specs.Typed.{Typed}
 use Rattle.buffers.specs.declared.Question.the-variants as Question
-use Rattle.buffers.specs.declared.Step.{Step}
-use Rattle.buffers.specs.declared.Step.the-variants as Step
 use Rattle.buffers.specs.declared.Space.{Space}
 use Rattle.buffers.specs.declared.Spot.{Spot}
 use Rattle.buffers.proofs.Sources.{link-inside, read-shape}
@@ -48,18 +45,24 @@ use Rattle.wrappers.specs.Ways.{isWrapper}
 use Rattle.wrappers.proofs.Cores.{missing, wrapper-is, two-parts}
 use Rattle.wrappers.proofs.Values.{Two, typed-two, value-of}
 use Rattle.merge.proofs.Merging.{typed-same}
-use Rattle.merge.proofs.Orders.{ask-turns, plain-turns}
-use Rattle.merge.proofs.Rewrapping.{end-is}
 use Rattle.resolution.specs.Reached.{Candidate}
-use Rattle.resolution.specs.Keeps.{coreOf, CoreAt, CoreIf, bareType, figuresAt, Bare, isBare, hasFigures, staysZoned}
+use Rattle.resolution.specs.declared.value.Leaf.{Leaf}
+use Rattle.resolution.specs.declared.value.Joint.{Joint}
+use Rattle.resolution.specs.declared.value.Joint.the-variants as Joint
+use Rattle.resolution.specs.Value.{isPlain, leafOf, leafType, Valued, JointIs, Joins}
+use Rattle.resolution.specs.Keeps.{coreOf, CoreAt, CoreIf, staysZoned}
 use Rattle.resolution.proofs.Shifting.{candidate-stands}
 use Rattle.resolution.proofs.Listing.{unnot}
 use Rattle.resolution.proofs.Folding.{typed-right, plain-field}
-use Rattle.resolution.proofs.Valuing.{no-parts}
+use Rattle.resolution.proofs.Valuing.{no-parts, leaf-low, plain-valued, plain-coercion}
 
 by-test : {A : Type 0} (b : Bool) → (b ≡ true → A) → (b ≡ false → A) → A
 by-test true f g = f refl
 by-test false f g = g refl
+
+cond-self : {A : Type 0} (b : Bool) (a : A) → cond b a a ≡ a
+cond-self true a = refl
+cond-self false a = refl
 
 -- the core of a type that is no wrapper, and of one that is
 core-bare : (s : Shape) (p : Fields) → isWrapper (s .kind) ≡ false → coreOf s p ≡ typeOf s p
@@ -128,59 +131,6 @@ module _ (space : Space) (w : List ℕ) where
       f (subst (λ (u : List ℕ). CoreAt space u 1 k) (sym second-half) at) x c a
       (subst (λ (u : List ℕ). Typed space u 1 c) (sym second-half) (candidate-stands space w d c room inside b))
 
--- a head that tells its type whole
-module _ (h : Head) (b : isBare h ≡ true) where
-  bare-kind : h .kind < 32
-  bare-kind = ltb-true (h .kind) 32 (and-fst _ _ b)
-
-  bare-flags : h .flags < 2
-  bare-flags = ltb-true (h .flags) 2 (and-snd (ltb (h .kind) 32) _ b)
-
-  bare-shape : (s : List ℕ) (n : ℕ) → shapeOf s n h ≡ bareType (figuresAt h) (h .quad) .shape
-  bare-shape s n =
-      let f = bare-flags in
-      rw (ne-eqb (h .flags / 2 % 2) 1 (λ e. omega arith), ne-eqb (h .flags / 4 % 2) 1 (λ e. omega arith)) refl
-
-  -- kinds below 32 have no parts
-  bare-parts : (p : Fields) → partsRight (h .kind) (arity p) ≡ true → p ≡ end
-  unfolding partsRight between
-  bare-parts p q =
-      let k = bare-kind in
-      end-is p
-      (eqb-true (arity p) 0
-      (rw (lt-leb 32 (h .kind) bare-kind, lt-leb 37 (h .kind) (omega arith), ne-eqb (h .kind) 36 (λ e. omega arith), ne-eqb (h .kind) 35 (λ e. omega arith)) at q))
-
-  typed-bare : {space : Space} {s : List ℕ} {link : ℕ} {t : DataType} → h ≡ headAt s link → Typed space s link t → Bare h t
-  typed-bare {space} {s} {t = t} e a =
-      let r = typed-reads a e in
-      let source = a .chain .held .source in
-      let shape = sym (read-shape source h e) ∙ bare-shape s (space .n) in
-      let parts = bare-parts (t .parts) (subst (λ (k : ℕ). partsRight k (arity (t .parts)) ≡ true) (r .kind) (source .right .0 .filled)) in
-      record { reads = r; low = bare-kind; is = λ i. record { shape = shape i; parts = parts i } }
-
-figured : (h : Head) (f : Figures) (size : ℕ) → hasFigures h f size ≡ true → bareType (figuresAt h) (h .quad) ≡ bareType f size
-figured h f size q =
-    let a = and-fst (eqb (h .kind) (f .kind) && eqb (h .figure) (f .figure)) _ q in
-    let b = and-snd (eqb (h .kind) (f .kind) && eqb (h .figure) (f .figure)) _ q in
-    let e₀ = eqb-true (h .kind) (f .kind) (and-fst _ _ a) in
-    let e₁ = eqb-true (h .figure) (f .figure) (and-snd (eqb (h .kind) (f .kind)) _ a) in
-    let e₂ = eqb-true (h .scale) (f .scale) (and-fst _ _ b) in
-    let e₃ = eqb-true (h .quad) size (and-snd (eqb (h .scale) (f .scale)) _ b) in
-    λ i. bareType (record { kind = e₀ i; figure = e₁ i; scale = e₂ i }) (e₃ i)
-
--- what a step says of the kept type
-pub says-figures : (h : Head) (left : Bool) (f : Figures) {b : Bool} → b ≡ hasFigures h f 0 → b ≡ true → (l r : DataType) → Bare h (cond left l r)
-    → stepOf (Step.Lay f) l r ≡ some (cond left l r)
-says-figures h left f e z l r a = ap (λ (t : DataType). some t) (sym (a .is ∙ figured h f 0 (sym e ∙ z)))
-
-pub says-left : (left : Bool) → left ≡ true → (l r : DataType) → stepOf Step.Left l r ≡ some (cond left l r)
-says-left true z l r = refl
-says-left false z l r = never z
-
-pub says-right : (left : Bool) → not left ≡ true → (l r : DataType) → stepOf Step.Right l r ≡ some (cond left l r)
-says-right true z l r = never z
-says-right false z l r = refl
-
 -- a Timestamp is its unit and its zone
 module _ (t : DataType) (h : FieldRight 0 [] false (t .shape) (t .parts)) (e : t .shape .kind ≡ 22) where
   stamp-is : t ≡ zoned (ofUnit 22 (t .shape .figure)) (t .shape .zone)
@@ -201,15 +151,6 @@ module _ (mask : ℕ) where
   abbrev rules : Rules
   rules = rulesOf Question.List mask
 
-  -- two types without parts
-  plain-is : (l r t : DataType) → l .shape .kind < 32 → r .shape .kind < 32 → (equal l r ≡ true → l ≡ t) → plainRules rules l r ≡ some t → coercion rules l r ≡ some t
-  plain-is l r t h g e p =
-      coercion-asks rules l r ∙ ask-turns rules (coercion rules) l r ∙ ap (cond (equal l r) (some l)) (sym (plain-turns rules (coercion rules) l r h g) ∙ p) ∙ go (equal l r) refl
-    where
-      go : (b : Bool) → equal l r ≡ b → cond b (some l) (some t) ≡ some t
-      go true q = ap (λ (u : DataType). some u) (e q)
-      go false q = refl
-
   same-is : (l r : DataType) → l ≡ r → coercion rules l r ≡ some l
   same-is l r e = coercion-asks rules l r ∙ rw (ap (λ (t : DataType). equal l t) (sym e) ∙ equal-self l) refl
 
@@ -219,26 +160,14 @@ module _ (mask : ℕ) where
   keeps-same f z t c a d =
       let q = equal-same t c (sym (typed-same true f a d) ∙ z) in same-is t c q ∙ ap (λ (y : DataType). some y) q
 
-  module _ (x y : Head) where
-    bares-same : {b : Bool} → b ≡ hasFigures x (figuresAt y) (y .quad) → b ≡ true → (l r : DataType) → Bare x l → Bare y r → l ≡ r
-    bares-same e z l r a d = a .is ∙ figured x (figuresAt y) (y .quad) (sym e ∙ z) ∙ sym (d .is)
-
-    pub same-left : {b : Bool} → b ≡ hasFigures x (figuresAt y) (y .quad) → b ≡ true → (l r : DataType) → Bare x l → Bare y r → coercion rules l r ≡ some l
-    same-left e z l r a d = same-is l r (bares-same e z l r a d)
-
-    pub same-right : {b : Bool} → b ≡ hasFigures x (figuresAt y) (y .quad) → b ≡ true → (l r : DataType) → Bare x l → Bare y r → coercion rules l r ≡ some r
-    same-right e z l r a d = same-left e z l r a d ∙ ap (λ (t : DataType). some t) (bares-same e z l r a d)
-
-    module _ (o : Step) (p : (l r : DataType) → Reads x l → Reads y r → stepOf o l r ≡ plainRules rules l r) where
-      plain-says : (l r t : DataType) → Bare x l → Bare y r → (equal l r ≡ true → l ≡ t) → stepOf o l r ≡ some t → coercion rules l r ≡ some t
-      plain-says l r t a d e q =
-          plain-is l r t (omega (arith, a .reads .kind, a .low)) (omega (arith, d .reads .kind, d .low)) e (sym (p l r (a .reads) (d .reads)) ∙ q)
-
-      pub plain-left : ((l r : DataType) → Bare x l → stepOf o l r ≡ some l) → (l r : DataType) → Bare x l → Bare y r → coercion rules l r ≡ some l
-      plain-left s l r a d = plain-says l r l a d (λ e. refl) (s l r a)
-
-      pub plain-right : ((l r : DataType) → Bare y r → stepOf o l r ≡ some r) → (l r : DataType) → Bare x l → Bare y r → coercion rules l r ≡ some r
-      plain-right s l r a d = plain-says l r r a d (λ e. equal-same l r e) (s l r d)
+  -- two types without parts whose common type is a third
+  pub common-is : {x y z c : Leaf} {b : Bool} {o : Joint} → o ≡ Joint.Of c → Joins (coercion rules) x y o → ((named : Bool) → b ≡ sameType named (leafType c) (leafType z)) → b ≡ true
+      → (l r t : DataType) → Valued x l → Valued y r → Valued z t → coercion rules l r ≡ some t
+  common-is {x} {y} {z} {c} eo j same e l r t p q k = go (coercion rules l r) (subst (λ (o : Joint). JointIs Valued o (coercion rules l r)) eo (j .means l r p q))
+    where
+      go : (m : Option DataType) → JointIs Valued (Joint.Of c) m → m ≡ some t
+      go none a = absurd a
+      go (some u) a = ap (λ (v : DataType). some v) (a .is ∙ equal-same (leafType c) (leafType z) (sym (same true) ∙ e) ∙ sym (k .is))
 
   -- a wrapper and a type that is none, whichever stands left
   module _ (x : DataType) (low : x .shape .kind < 32) where
@@ -253,12 +182,8 @@ module _ (mask : ℕ) where
         → ask Data.list rules (coercion rules) x d ≡ cond (equal x d) (some x) m → Both d
     unfolding Both
     both-orders d m e p q =
-        (coercion-asks rules d x ∙ p ∙ ap (cond (equal d x) (some d)) e ∙ left (equal d x), coercion-asks rules x d ∙ q ∙ ap (cond (equal x d) (some x)) e ∙ right (equal x d) refl)
+        (coercion-asks rules d x ∙ p ∙ ap (cond (equal d x) (some d)) e ∙ cond-self (equal d x) (some d), coercion-asks rules x d ∙ q ∙ ap (cond (equal x d) (some x)) e ∙ right (equal x d) refl)
       where
-        left : (b : Bool) → cond b (some d) (some d) ≡ some d
-        left true = refl
-        left false = refl
-
         right : (b : Bool) → equal x d ≡ b → cond b (some x) (some d) ≡ some d
         right true h = ap (λ (t : DataType). some t) (equal-same x d h)
         right false h = refl
@@ -314,8 +239,10 @@ module _ (mask : ℕ) where
       → l .shape .zone ≡ present z → timeunitCoercion (l .shape .figure) (r .shape .figure) ≡ l .shape .figure → coercion rules l r ≡ some l
   unfolding temporalCoercionNonstrictTimezone between
   stamp-stays l r z p q el er ez eu =
-      plain-is l r l (omega (arith, el)) (omega (arith, er)) (λ e. refl)
+      plain-coercion rules l r (omega (arith, el)) (omega (arith, er))
+      ∙ ap (cond (equal l r) (some l))
       (sym (spoken rules l r (own-figured l p el) (own-figured r q er) 1 (ap₂ (λ (k j : ℕ). first 6 (turns k j)) el er) refl) ∙ told ∙ ap (λ (t : DataType). some t) (sym (stamp-is l p el)))
+      ∙ cond-self (equal l r) (some l)
     where
       told : temporalCoercionNonstrictTimezone l r ≡ some (zoned (ofUnit 22 (l .shape .figure)) (l .shape .zone))
       told =
@@ -357,20 +284,21 @@ module _ (mask : ℕ) where
         keeps-core high (omega (arith, kx)) (omega (arith, kv)) (λ q. omega (arith, kv, q))
         (stamp-stays inner t _ (typed-right inner core-typed .0 .0) (typed-right t a .0 .0) (rv .kind ∙ kv) (rx .kind ∙ kx) zone unit)
 
-    module _ (b : isBare x && isBare v ≡ true) where
-      new-bare : Bare x t
-      new-bare = typed-bare x (and-fst _ _ b) ex a
+    module _ (b : isPlain x && isPlain v ≡ true) {new old : Leaf} (en : new ≡ leafOf x) (eo : old ≡ leafOf v) where
+      new-valued : Valued new t
+      new-valued = plain-valued x (and-fst _ _ b) en ex a
 
-      core-told : Bare v inner
-      core-told = typed-bare v (and-snd (isBare x) _ b) ev core-typed
+      core-valued : Valued old inner
+      core-valued = plain-valued v (and-snd (isPlain x) _ b) eo ev core-typed
 
       -- a candidate that is no wrapper
-      pub keeps-alone : h .kind < 32 → ((l r : DataType) → Bare x l → Bare v r → coercion rules l r ≡ some r) → coercion rules t c ≡ some c
-      keeps-alone low f = f t c new-bare (subst (Bare v) (core-bare (c .shape) (c .parts) bare) core-told)
+      pub keeps-alone : h .kind < 32 → ((l r u : DataType) → Valued new l → Valued old r → Valued old u → coercion rules l r ≡ some u) → coercion rules t c ≡ some c
+      keeps-alone low f = subst (λ (k : DataType). coercion rules t k ≡ some k) (core-bare (c .shape) (c .parts) bare) (f t inner inner new-valued core-valued core-valued)
         where
           bare : isWrapper (c .shape .kind) ≡ false
           bare = let e = typed-reads d eh .kind in rw (ne-eqb (c .shape .kind) 37 (λ q. omega arith), ne-eqb (c .shape .kind) 38 (λ q. omega arith)) refl
 
       -- one that is
-      pub keeps-under : 32 ≤ h .kind → (v .kind ≡ 27 → ⊥) → ((l r : DataType) → Bare v l → Bare x r → coercion rules l r ≡ some l) → coercion rules t c ≡ some c
-      keeps-under high n f = keeps-core high (new-bare .low) (core-told .low) n (f inner t core-told new-bare)
+      pub keeps-under : 32 ≤ h .kind → (v .kind ≡ 27 → ⊥) → ((l r u : DataType) → Valued old l → Valued new r → Valued old u → coercion rules l r ≡ some u) → coercion rules t c ≡ some c
+      keeps-under high n f =
+          keeps-core high (leaf-low x (and-fst _ _ b) refl) (leaf-low v (and-snd (isPlain x) _ b) refl) n (f inner t inner core-valued new-valued core-valued)

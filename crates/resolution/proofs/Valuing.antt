@@ -3,7 +3,7 @@ use mathlib.Core.Path.{_≡_, refl, ap, ap₂, sym, subst, _∙_}
 use mathlib.Core.Bool.{Bool, true, false, cond, _&&_, and-true}
 use mathlib.Core.List.{List, [], _∷_}
 use mathlib.Core.Option.{Option, none, some}
-use Prim.Native.Nat.{ℕ, _+_, _<_, _≤_}
+use Prim.Native.Nat.{ℕ, _+_, _/_, _%_, _<_, _≤_}
 use native.Mathlib.Omega.{arith}
 use lib.ListN.{length, getD}
 use lib.Dec.{ltb, eqb}
@@ -63,13 +63,15 @@ partless {t = t} h p e a = no-parts (t .shape .kind) (t .parts) (omega (arith, p
 -- the type of a plain head
 module _ (h : Head) (p : isPlain h ≡ true) where
   plain-kind : h .kind < 32
-  plain-kind = ltb-true (h .kind) 32 (and-fst (ltb (h .kind) 32) (eqb (h .flags) 0) p)
+  plain-kind = ltb-true (h .kind) 32 (and-fst (ltb (h .kind) 32) (ltb (h .flags) 2) p)
 
   pub leaf-low : {x : Leaf} → x ≡ leafOf h → x .kind < 32
   leaf-low e = omega (arith, plain-kind, ap (λ (k : Leaf). k .kind) e)
 
   plain-shape : (s : List ℕ) (n : ℕ) → shapeOf s n h ≡ leafType (leafOf h) .shape
-  plain-shape s n = rw (eqb-true (h .flags) 0 (and-snd (ltb (h .kind) 32) (eqb (h .flags) 0) p))
+  plain-shape s n =
+      let f = ltb-true (h .flags) 2 (and-snd (ltb (h .kind) 32) (ltb (h .flags) 2) p) in
+      rw (ne-eqb (h .flags / 2 % 2) 1 (λ e. omega arith), ne-eqb (h .flags / 4 % 2) 1 (λ e. omega arith)) refl
 
   pub plain-valued : {space : Space} {s : List ℕ} {link : ℕ} {x : Leaf} {t : DataType} → x ≡ leafOf h → h ≡ headAt s link → Typed space s link t → Valued x t
   plain-valued {space} {s} {t = t} ex e a =
@@ -151,7 +153,7 @@ module _ {step : Step} {x y : Leaf} where
   says-nothing e = subst (λ (k : Step). Says k x y Joint.Nothing) (sym e) (record { holdable = tt; means = tt })
 
 -- the common type of two types without parts: the test for sameness, and then their rules
-plain-coercion : (rules : Rules) (l r : DataType) → Low l → Low r
+pub plain-coercion : (rules : Rules) (l r : DataType) → Low l → Low r
     → coercion rules l r ≡ cond (sameType (isListQuestion (rules .question)) l r) (some l) (plainRules rules l r)
 plain-coercion rules l r h g =
     coercion-asks rules l r ∙ ask-turns rules (coercion rules) l r

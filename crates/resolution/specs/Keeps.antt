@@ -1,18 +1,16 @@
--- The core of a candidate, and types that their heads tell whole.
+-- The core of a candidate, and when a Timestamp with a zone stays as it is.
 use mathlib.Core.Path.{_≡_}
-use Prim.Native.Nat.{ℕ, _<_}
-use mathlib.Core.Bool.{Bool, false, cond, _&&_}
+use Prim.Native.Nat.{ℕ}
+use mathlib.Core.Bool.{Bool, cond, _&&_}
 use mathlib.Core.List.{List}
-use lib.Dec.{eqb, ltb}
-use Rattle.sheet.specs.Types.{absent, Shape, Fields, end, field}
+use lib.Dec.{eqb}
 use Rattle.sheet.specs.Kind as Kind
+use Rattle.sheet.specs.Types.{Shape, Fields, end, field}
 use Rattle.sheet.specs.Head.{zonedIn}
 use Rattle.sheet.specs.declared.Head.{Head}
 use Rattle.coercion.specs.Data.{DataType}
 use Rattle.coercion.specs.Times.{timeunitCoercion}
-use Rattle.coercion.specs.declared.Figures.{Figures}
 use Rattle.buffers.specs.Goal.{typeOf}
-use Rattle.buffers.specs.Steps.{Reads}
 use Rattle.buffers.specs.Typed.{Typed}
 use Rattle.buffers.specs.declared.Space.{Space}
 use Rattle.wrappers.specs.Ways.{isWrapper}
@@ -31,31 +29,6 @@ pub record CoreAt (space : Space) (s : List ℕ) (r k : ℕ) : Type 0 where
 -- so does the core of the type of record 1, where k is not 0
 abbrev pub CoreIf : Space → List ℕ → ℕ → Type 0
 CoreIf space s k = ¬ (k ≡ 0) → CoreAt space s 1 k
-
--- a type without parts, sorted bit or zone
-abbrev pub bareType : Figures → ℕ → DataType
-bareType f size =
-    record {
-      shape = record { kind = f .kind; figure = f .figure; scale = f .scale; size = size; sorted = false; zone = absent };
-      parts = end;
-    }
-
-abbrev pub figuresAt : Head → Figures
-figuresAt h = record { kind = h .kind; figure = h .figure; scale = h .scale }
-
--- a head tells such a type whole
-pub record Bare (h : Head) (t : DataType) : Type 0 where
-  pub reads : Reads h t
-  pub low : h .kind < 32
-  pub is : t ≡ bareType (figuresAt h) (h .quad)
-
--- whether a head does: only kinds from 32 on have parts, and the flags above the lowest are the sorted bit and the zone's
-abbrev pub isBare : Head → Bool
-isBare h = ltb (h .kind) 32 && ltb (h .flags) 2
-
--- whether it has figures and a size
-abbrev pub hasFigures : Head → Figures → ℕ → Bool
-hasFigures h f size = (eqb (h .kind) (f .kind) && eqb (h .figure) (f .figure)) && (eqb (h .scale) (f .scale) && eqb (h .quad) size)
 
 -- whether a Timestamp with a zone stays as it is to the left of a Timestamp
 abbrev pub staysZoned : Head → Head → Bool

@@ -4,7 +4,7 @@ use Prim.Native.Nat.{ℕ, _<_}
 use mathlib.Core.Bool.{Bool, false, _&&_}
 use mathlib.Core.List.{List}
 use mathlib.Core.Option.{Option, none, some}
-use lib.Dec.{ltb, eqb}
+use lib.Dec.{ltb}
 use Rattle.sheet.specs.Types.{end}
 use Rattle.sheet.specs.Carried.{FieldsRight}
 use Rattle.sheet.specs.declared.Head.{Head}
@@ -22,9 +22,9 @@ use Rattle.resolution.specs.declared.value.Joint.the-variants as Joint
 use Rattle.buffers.specs.declared.Out.{Out}
 use Rattle.resolution.specs.Reached.{AnswerIs, Enclosed, Within, Candidate}
 
--- a head of a kind without parts that is neither nullable nor sorted nor zoned
+-- a head of a kind without parts that is neither sorted nor zoned
 abbrev pub isPlain : Head → Bool
-isPlain h = ltb (h .kind) 32 && eqb (h .flags) 0
+isPlain h = ltb (h .kind) 32 && ltb (h .flags) 2
 
 -- the value that such a head holds
 abbrev pub leafOf : Head → Leaf

@@ -1,20 +1,23 @@
 // Whether a candidate stays as it is when it meets a new type. Below wrappers that hangs on its core alone.
 ghost use mathlib.Core.Path.{_≡_};
-ghost use mathlib.Core.Bool.{true, cond};
+ghost use mathlib.Core.Bool.{true};
 ghost use mathlib.Core.Option.{some};
-ghost use Prim.Native.Nat.{_≤_};
+ghost use Prim.Native.Nat.{_<_, _≤_};
 ghost use Rattle.coercion.specs.Data.{DataType};
 ghost use Rattle.coercion.specs.Answers.{coercion};
 ghost use Rattle.buffers.specs.Plain.{rulesOf};
-ghost use Rattle.buffers.specs.Steps.{stepOf};
 ghost use Rattle.buffers.specs.Typed.{Typed};
-ghost use Rattle.resolution.specs.Keeps.{CoreAt, CoreIf, Bare, figuresAt, isBare, hasFigures, staysZoned};
+ghost use Rattle.resolution.specs.Value.{Valued};
+ghost use Rattle.resolution.specs.Keeps.{CoreAt, CoreIf, staysZoned};
+use crate::value::Joint;
+use crate::value::Leaf;
+use crate::value::common_type;
+use crate::value::is_plain;
+use crate::value::is_same;
+use crate::value::leaf_of;
 use buffers::Question;
 use buffers::Space;
-use buffers::Step;
 use buffers::alike::same_type;
-use buffers::plain::plain;
-use coercion::Figures;
 use kinds::tests::both;
 use kinds::tests::either;
 use rules::times::timeunit_coercion;
@@ -50,64 +53,15 @@ pub(crate) fn core_of(second: &[u8], space: Space, core: usize) -> usize
     core
 }
 
-fn is_bare(h: Head) -> bool
-    ensures { λ b. ⌜ b ≡ isBare h ⌝ }
+// Whether the common type of two types without parts, in a list, is a third.
+fn is_common(mask: u64, x: Leaf, y: Leaf, z: Leaf) -> bool
+    requires { ⌜ (x .size < 4294967296) × (y .size < 4294967296) ⌝ }
+    ensures { λ b. ⌜ (b ≡ true → (l r t : DataType) → Valued x l → Valued y r → Valued z t → coercion (rulesOf Question.List mask) l r ≡ some t) ⌝ }
 {
-    both(h.kind < 32, h.flags < 2)
-}
-
-fn has_figures(h: Head, f: Figures, size: usize) -> bool
-    ensures { λ b. ⌜ b ≡ hasFigures h f size ⌝ }
-{
-    both(
-        both(h.kind == f.kind, h.figure == f.figure),
-        both(h.scale == f.scale, h.quad == size),
-    )
-}
-
-// Whether two heads that tell their types whole tell one type.
-fn are_same(x: Head, y: Head) -> bool
-    ensures { λ b. ⌜ b ≡ hasFigures x (figuresAt y) (y .quad) ⌝ }
-{
-    let f = Figures {
-        kind: y.kind,
-        figure: y.figure,
-        scale: y.scale,
-    };
-    has_figures(x, f, y.quad)
-}
-
-// Whether a step says the type of a head, which is the left or the right of two.
-fn says(s: Step, h: Head, left: bool) -> bool
-    ensures { λ b. ⌜ (b ≡ true → (l r : DataType) → Bare h (cond left l r) → stepOf s l r ≡ some (cond left l r)) ⌝ }
-{
-    match s {
-        Step::Lay(f) => has_figures(h, f, 0),
-        Step::Stamp(_) => false,
-        Step::Left => left,
-        Step::Right => !left,
-        Step::Nothing => false,
+    match common_type(Question::List, mask, x, y) {
+        Joint::Of(c) => is_same(c, z),
+        Joint::Nothing => false,
     }
-}
-
-// Whether the common type of two is the left.
-fn stays_left(mask: u64, x: Head, y: Head) -> bool
-    ensures { λ b. ⌜ (b ≡ true → (l r : DataType) → Bare x l → Bare y r → coercion (rulesOf Question.List mask) l r ≡ some l) ⌝ }
-{
-    if are_same(x, y) {
-        return true;
-    }
-    says(plain(Question::List, mask, x, y), x, true)
-}
-
-// Whether it is the right.
-fn stays_right(mask: u64, x: Head, y: Head) -> bool
-    ensures { λ b. ⌜ (b ≡ true → (l r : DataType) → Bare x l → Bare y r → coercion (rulesOf Question.List mask) l r ≡ some r) ⌝ }
-{
-    if are_same(x, y) {
-        return true;
-    }
-    says(plain(Question::List, mask, x, y), y, false)
 }
 
 // Whether a Timestamp with a zone stays as it is to the left of a Timestamp: the zone is the left's, and the unit where it is no coarser.
@@ -124,7 +78,7 @@ fn stays_zoned(x: Head, y: Head) -> bool
 }
 
 // Whether the candidate at record 1 of the second half, whose core is at a record, stays as it is under the type at a link of the sheet. Below a wrapper the
-// core goes left, and a Dictionary of Utf8View gives way to Utf8View. Other types that their heads do not tell whole are only compared.
+// core goes left, and a Dictionary of Utf8View gives way to Utf8View. Other types with parts, zone or order are only compared.
 pub(crate) fn keeps(
     sheet: &[u8],
     second: &[u8],
@@ -139,14 +93,16 @@ pub(crate) fn keeps(
     let x = head_at(sheet, link);
     let v = head_at(second, core);
     let wrapped = 32 <= head_at(second, 1).kind;
-    if both(is_bare(x), is_bare(v)) {
+    if both(is_plain(x), is_plain(v)) {
+        let new = leaf_of(x);
+        let old = leaf_of(v);
         if !wrapped {
-            return stays_right(mask, x, v);
+            return is_common(mask, new, old, old);
         }
         if v.kind == 27 {
             return false;
         }
-        return stays_left(mask, v, x);
+        return is_common(mask, old, new, old);
     }
     if both(wrapped, stays_zoned(v, x)) {
         return true;

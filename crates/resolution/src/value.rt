@@ -33,11 +33,11 @@ pub enum Joint {
     Nothing,
 }
 
-// Whether a head is that of such a type.
+// Whether a head is that of such a type. The lowest flag is the field's: whether it is nullable.
 pub(crate) fn is_plain(h: Head) -> bool
     ensures { λ b. ⌜ b ≡ isPlain h ⌝ }
 {
-    if h.kind < 32 { h.flags == 0 } else { false }
+    if h.kind < 32 { h.flags < 2 } else { false }
 }
 
 // The type of such a head.
