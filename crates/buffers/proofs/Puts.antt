@@ -3,10 +3,11 @@ use mathlib.Core.Path.{_≡_, refl, ap, ap₂, sym, subst, _∙_}
 use mathlib.Core.Bool.{Bool, true, false, not}
 use mathlib.Core.List.{List, [], _∷_, _++_, append-nil}
 use Prim.Native.Nat.{ℕ, zero, suc, _+_, _*_, _-_, _/_, _%_, _<_, _≤_}
+use native.Mathlib.Decide.{ℕ-discrete}
 use native.Mathlib.Omega.{arith}
-use lib.ListN.{length, getD, take, drop, length-append, length-take, length-drop, drop-of-length-le, List·getD-append}
+use lib.ListN.{length, getD, set, take, drop, length-set, length-append, length-take, length-drop, drop-of-length-le, List·getD-append}
 use lib.Dec.{ltb}
-use lib.Seq.{getD-append-add, getD-take, getD-drop, take-length, take-all, take-add, drop-drop, length-take-le}
+use lib.Seq.{getD-set-same, getD-set-other, getD-append-add, getD-take, getD-drop, take-length, take-all, take-add, drop-drop, length-take-le}
 use borrow.Author.Tests.{ltb-true, ltb-false}
 use Rattle.sheet.specs.Read.{labelAt}
 use Rattle.sheet.specs.Holds.{Span}
@@ -101,3 +102,55 @@ put-pieces s from len i h n p q =
     put-same
     (ap (λ (l : List ℕ). a ++ take (len - 16) l) (sym (drop-drop 16 from s)) ∙ sym (take-add 16 (len - 16) (drop from s)) ∙ ap (λ (k : ℕ). take k (drop from s)) all)
     (put-two a b (omega arith) (λ z. omega arith) (omega arith) p q)
+
+-- a label of w that lies inside it: its length and its bytes
+label-long : (w : List ℕ) (from i : ℕ) → from + i ≤ length w → length (take i (drop from w)) ≡ i
+label-long w from i h = length-take-le i (drop from w) (omega (arith, length-drop from w))
+
+label-byte : (w : List ℕ) (from i j : ℕ) → j < i → getD (take i (drop from w)) j 0 ≡ getD w (from + j) 0
+label-byte w from i j h = getD-take i (drop from w) j 0 h ∙ getD-drop from w j 0
+
+-- a label that is put behind itself, byte by byte
+pub put-none : (w : List ℕ) (from at : ℕ) → from ≤ at → at ≤ length w → Put w w at (take 0 (drop from w))
+put-none w from at h g =
+    let l = label-long w from 0 (omega arith) in
+    record {
+      long = refl;
+      below = λ j q. refl;
+      above = λ j q. refl;
+      span = at-span w at (take 0 (drop from w)) (omega (arith, l)) (λ j q. absurd (omega (arith, l)));
+    }
+
+pub put-on : (w v : List ℕ) (from at i : ℕ) → from + i < at → at + i < length w → Put w v at (take i (drop from w))
+    → Put w (set v (at + i) (getD v (from + i) 0)) at (take (i + 1) (drop from w))
+put-on w v from at i h g p =
+    record {
+      long = length-set v (at + i) (getD v (from + i) 0) ∙ p .long;
+      below = λ j q. miss j (λ e. omega arith) ∙ p .below j q;
+      above = λ j q. miss j (λ e. omega (arith, l)) ∙ p .above j (omega (arith, l, k));
+      span =
+          at-span (set v (at + i) (getD v (from + i) 0)) at (take (i + 1) (drop from w))
+          (omega (arith, l, p .long, length-set v (at + i) (getD v (from + i) 0)))
+          (λ j q. byte j (omega (arith, l)) (ℕ-discrete j i) ∙ sym (label-byte w from (i + 1) j (omega (arith, l))));
+    }
+  where
+    k : length (take i (drop from w)) ≡ i
+    k = label-long w from i (omega arith)
+
+    l : length (take (i + 1) (drop from w)) ≡ i + 1
+    l = label-long w from (i + 1) (omega arith)
+
+    miss : (j : ℕ) → (j ≡ at + i → ⊥) → getD (set v (at + i) (getD v (from + i) 0)) j 0 ≡ getD v j 0
+    miss j q = getD-set-other v (at + i) j (getD v (from + i) 0) 0 q
+
+    byte : (j : ℕ) → j < i + 1 → Dec (j ≡ i) → getD (set v (at + i) (getD v (from + i) 0)) (at + j) 0 ≡ getD w (from + j) 0
+    byte j q (yes e) =
+        at-eq (set v (at + i) (getD v (from + i) 0)) {i = at + j} {j = at + i} (omega arith)
+        ∙ getD-set-same v (at + i) (getD v (from + i) 0) 0 (omega (arith, p .long))
+        ∙ p .below (from + i) (omega arith)
+        ∙ at-eq w {i = from + i} {j = from + j} (omega arith)
+    byte j q (no e) =
+        miss (at + j) (λ x. e (omega arith)) ∙ span-at j (omega (arith, e, k)) (p .span) ∙ label-byte w from i j (omega (arith, e))
+
+pub put-all : {w v : List ℕ} (from : ℕ) {at : ℕ} (i len : ℕ) → i ≤ len → len ≤ i → Put w v at (take i (drop from w)) → Put w v at (take len (drop from w))
+put-all {w} {v} from {at} i len h g p = subst (λ (k : ℕ). Put w v at (take k (drop from w))) {x = i} {y = len} (omega arith) p

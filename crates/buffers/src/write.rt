@@ -76,11 +76,26 @@ pub(crate) fn put_head(work: &mut [u8], at: usize, h: Head)
     put(work, at, &bytes)
 }
 
+// Puts a label of the work space behind it.
+fn put_behind(work: &mut [u8], from: usize, len: usize, at: usize)
+    requires { ⌜ (from + len ≤ at) × (at + len ≤ length (now work)) ⌝ }
+    ensures { λ _. ⌜ Put (now (work .entry)) (now (work .exit)) at (take len (drop from (now (work .entry)))) ⌝ }
+{
+    let mut i = 0;
+    while i < len {
+        work[at + i] = work[from + i];
+        i += 1;
+    }
+}
+
 // Puts a label of the work space at another place of it, sixteen bytes at a time. All are read before one is written.
 fn put_own(work: &mut [u8], from: usize, len: usize, at: usize)
     requires { ⌜ (from + len < 4294967296) × (at + len ≤ length (now work)) ⌝ }
     ensures { λ _. ⌜ Put (now (work .entry)) (now (work .exit)) at (take len (drop from (now (work .entry)))) ⌝ }
 {
+    if from + len <= at {
+        return put_behind(work, from, len, at);
+    }
     let mut buf = [0u8; 16];
     if len <= 16 {
         let k = fill(&*work, from, len, &mut buf);
