@@ -104,7 +104,7 @@ fn before(number: u32, four: u32) -> u32 {
 }
 
 /// The number that the check makes of a name of whole fours of bytes. The names of one Struct are
-/// sifted by its upper 13 bits.
+/// told apart by its upper 13 bits, as far as these differ.
 fn number(name: &[u8]) -> u32 {
     fours(name).into_iter().fold(0, stir)
 }
@@ -380,7 +380,7 @@ const PLACES: [(usize, usize, &str); 4] = [
     (8, 0, "eight bytes"),
 ];
 
-/// Names that the check cannot sift, as their numbers have the same upper bits, and that it has to
+/// Names whose numbers do not tell them apart by their upper bits, and that the check has to
 /// sort, as two have one number, or all.
 fn collided() -> Vec<Hard> {
     let mut found = Vec::new();

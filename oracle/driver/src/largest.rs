@@ -66,7 +66,7 @@ fn names() -> Vec<Vec<u8>> {
     (0..RECORDS - 1).map(name_at).collect()
 }
 
-/// Names whose numbers the check cannot sift, and of which two have one number.
+/// Names whose numbers have the same upper bits, and of which two have one number.
 fn hard_names() -> Vec<Vec<u8>> {
     let others = colliding(RECORDS - 2, RECORDS - 3, 16, 4);
     [name_at(0)].into_iter().chain(others).collect()
