@@ -11,15 +11,13 @@ use lib.ListN.{length, length-append}
 use Rattle.sheet.specs.Types.{Shape, Fields, end, field, count, zoneBytes, labels}
 use Rattle.sheet.specs.Kind.{namesParts}
 use Rattle.sheet.specs.Tests.{between}
-use Rattle.sheet.specs.Carried.{FieldRight}
 use Rattle.sheet.specs.Head.{headAt}
 use Rattle.sheet.specs.declared.Head.{Head}
 use Rattle.sheet.proofs.Spans.{span-nil}
 use Rattle.sheet.proofs.Tests.{never}
 use Rattle.coercion.specs.Data.{DataType, Rules, size, single, typesOf, andThen}
 use Rattle.coercion.specs.Answers.{coercion, foldFrom, foldTypes, typeUnionResolution, pairAnswer, answerOf, allEqual, hasCategory, categoriesIn, categoriesFit, notSupported}
-use Rattle.coercion.proofs.AnswersRight.{TypeRight, sound-right, coercion-right}
-use Rattle.coercion.proofs.PlainRight.{own-right}
+use Rattle.coercion.proofs.AnswersRight.{TypeRight, coercion-right}
 use Rattle.coercion.proofs.Shorter.{coercion-smaller, coercion-shorter}
 use Rattle.buffers.specs.Region.{Room, Kept, Inside, Passes, Wrote}
 use Rattle.buffers.specs.Goal.{letters, typeOf, Means}
@@ -33,9 +31,11 @@ use Rattle.buffers.specs.declared.Goal.{Goal}
 use Rattle.buffers.specs.declared.Out.{Out}
 use Rattle.buffers.specs.declared.Out.the-variants.{Done, No, Full}
 use Rattle.buffers.proofs.Sources.{source-none, link-inside}
-use Rattle.buffers.proofs.Chained.{held-next, labels-sum}
+use Rattle.buffers.proofs.Chained.{labels-sum}
 use Rattle.merge.proofs.Merging.{typed-kind, type-differ, single-letters}
 use Rattle.resolution.specs.Reached.{front, Listed, Fits, AnswerIs, Enclosed, Within, Reached, Candidate, Shifted, Mirrored, Entry, Steps, Folds}
+use Rattle.values.proofs.Valuing.{typed-right}
+use Rattle.values.proofs.Keeping.{plain-field}
 use Rattle.resolution.proofs.Shifting.{candidate-typed, mirrored-typed}
 use Rattle.resolution.proofs.Listing.{listed-typed, listed-next}
 
@@ -98,10 +98,6 @@ within-kept room k = record { long = k .long; above = λ j h. k .above j (omega 
 pub room-within : {space : Space} {w v : List ℕ} → Within space w v → Room w space → Room v space
 room-within k r = record { half = r .half; few = r .few; short = r .short; inside = omega (arith, r .inside, k .long) }
 
--- a type that stands somewhere is one that a list may have
-pub typed-right : {space : Space} {s : List ℕ} {link : ℕ} (t : DataType) → Typed space s link t → TypeRight t
-typed-right t a = let r = a .chain .held .source .right in (sound-right t (own-right (r .0), r .1 .0), type-differ t a)
-
 -- no type is listed at a link past the records
 unlisted : {space : Space} {s : List ℕ} {floor link : ℕ} (types : Fields) → floor < link → space .n ≤ link → Listed space s floor link types → ⊥
 unlisted end h g a = omega (arith, a .held .source .leads .is)
@@ -110,13 +106,6 @@ unlisted (field name nullable shape parts rest) h g a = omega (arith, link-insid
 -- a link past floor leads to a type
 pub some-listed : {space : Space} {s : List ℕ} {floor link : ℕ} → floor < link → Listed space s floor link end → ⊥
 some-listed h a = omega (arith, a .held .source .leads .is)
-
--- a field whose parent names no parts
-pub plain-field : {up : ℕ} (name : List ℕ) (nullable : Bool) (shape : Shape) (parts : Fields) → namesParts up ≡ false → FieldRight up name nullable shape parts
-    → field name nullable shape parts end ≡ field [] false shape parts end
-plain-field [] false shape parts n a = refl
-plain-field [] true shape parts n a = never (sym n ∙ a .mayBeNull)
-plain-field (b ∷ bs) nullable shape parts n a = never (sym n ∙ a .mayBeNamed)
 
 -- the first of some listed types, and those behind it
 module _ {space : Space} {s : List ℕ} {floor link : ℕ} {name : List ℕ} {nullable : Bool} {shape : Shape} {parts rest : Fields}

@@ -2,13 +2,14 @@
 use mathlib.Core.Path.{_≡_, refl, ap, sym, subst, _∙_}
 use mathlib.Core.Bool.{Bool, true, false, cond}
 use mathlib.Core.List.{List, [], _++_}
+use mathlib.Core.Option.{Option, some}
 use Prim.Native.Nat.{ℕ, _+_, _*_, _-_, _/_, _<_, _≤_}
 use native.Mathlib.Decide.{ℕ-discrete}
 use native.Mathlib.Omega.{arith}
 use borrow.Author.Tests.{ltb-true}
 use lib.Dec.{ltb}
 use lib.ListN.{length, getD, set, take, drop, length-set, length-append, length-take, length-drop, List·getD-append}
-use lib.Seq.{getD-set-same, getD-set-other, getD-take, getD-drop, getD-append-add, length-take-le}
+use lib.Seq.{getD-set-same, getD-set-other, getD-take, getD-drop, getD-append-add, length-take-le, take-all}
 use Rattle.sheet.specs.Tests.{between}
 use Rattle.sheet.specs.Kind.{isKind}
 use Rattle.sheet.specs.Head.{headAt, headFrom, blank}
@@ -26,6 +27,7 @@ use Rattle.buffers.specs.declared.Space.{Space}
 use Rattle.buffers.specs.declared.Spot.{Spot}
 use Rattle.buffers.proofs.Frames.{head-bytes}
 use Rattle.buffers.proofs.Chained.{labels-sum}
+use Rattle.values.specs.Keeps.{CoreAt, CoreIf}
 use Rattle.resolution.specs.Reached.{Moved, Shifted, Candidate, Mirrored}
 
 pub moved-none : (w : List ℕ) (from to : ℕ) → Moved w w from to 0
@@ -211,3 +213,21 @@ mirrored-typed space s w v {t = t} room m a =
                 };
           };
     }
+
+-- the second half as a part of the work space, and the candidate in it
+module _ (space : Space) (w : List ℕ) where
+  abbrev second : List ℕ
+  second = take (length w - space .half) (region space w)
+
+  second-half : second ≡ region space w
+  second-half = take-all (length w - space .half) (region space w) (omega (arith, length-drop (space .half) w))
+
+  pub core-second : {k l : ℕ} → (CoreIf space second k → CoreAt space second 1 l) → CoreIf space (region space w) k → CoreAt space (region space w) 1 l
+  core-second {k} {l} f a = subst (λ (u : List ℕ). CoreAt space u 1 l) second-half (f (subst (λ (u : List ℕ). CoreIf space u k) (sym second-half) a))
+
+  pub keeps-candidate : {A : DataType → DataType → Option DataType} {s : List ℕ} {link k : ℕ} {d : Spot} → Room w space → Inside space d → CoreAt space (region space w) 1 k
+      → (CoreAt space second 1 k → (x c : DataType) → Typed space s link x → Typed space second 1 c → A x c ≡ some c)
+      → (x c : DataType) → Typed space s link x → Candidate space w d c → A x c ≡ some c
+  keeps-candidate {k = k} {d} room inside at f x c a b =
+      f (subst (λ (u : List ℕ). CoreAt space u 1 k) (sym second-half) at) x c a
+      (subst (λ (u : List ℕ). Typed space u 1 c) (sym second-half) (candidate-stands space w d c room inside b))

@@ -1,4 +1,1 @@
 pub mod Reached
-pub mod Value
-pub mod Keeps
-pub mod Taken

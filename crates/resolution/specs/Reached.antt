@@ -1,7 +1,7 @@
 -- An answer that was reached in work space, whatever types a sheet lists.
 use mathlib.Core.Path.{_≡_}
 use Prim.Native.Nat.{ℕ, _+_, _*_, _<_, _≤_}
-use mathlib.Core.Bool.{Bool, true, false, cond}
+use mathlib.Core.Bool.{Bool, true, cond}
 use mathlib.Core.List.{List, [], _∷_}
 use mathlib.Core.Option.{Option, none, some}
 use lib.ListN.{length, getD}
@@ -19,6 +19,9 @@ use Rattle.buffers.specs.declared.Space.{Space}
 use Rattle.buffers.specs.declared.Spot.{Spot}
 use Rattle.buffers.specs.declared.Out.{Out}
 use Rattle.buffers.specs.declared.Out.the-variants.{Done, No, Full}
+use Rattle.values.specs.declared.value.Leaf.{Leaf}
+use Rattle.values.specs.declared.value.Joint.{Joint}
+use Rattle.values.specs.Value.{Valued, JointIs}
 
 -- where an answer is written: record 1, and the first label
 abbrev pub front : Spot
@@ -112,3 +115,15 @@ pub record Steps (coerce : DataType → DataType → Option DataType) (space : S
 pub record Folds (fold : DataType → List DataType → Option DataType) (space : Space) (Is : DataType → Type 0) (s w v : List ℕ) (floor link : ℕ) (o : Out) : Type 0 where
   pub within : Within space w v
   pub means : (c : DataType) (types : Fields) → Is c → Listed space s floor link types → Fits space (size c) (letters c) types → AnswerIs space v o (fold c (typesOf types))
+
+-- a value was written as a candidate, whatever type it is
+pub record Fronted (space : Space) (w v : List ℕ) (x : Leaf) (d : Spot) : Type 0 where
+  pub within : Within space w v
+  pub inside : Inside space d
+  pub candidate : (t : DataType) → Valued x t → Candidate space v d t
+
+-- an answer was written, whatever type it is
+pub record JointLaid (space : Space) (w v : List ℕ) (joint : Joint) (o : Out) : Type 0 where
+  pub within : Within space w v
+  pub inside : Enclosed space o
+  pub means : (answer : Option DataType) → JointIs Valued joint answer → AnswerIs space v o answer

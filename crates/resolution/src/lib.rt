@@ -1,10 +1,8 @@
 // The answer for the listed types of a sheet, in work space: the fold of a list, and the one pair of a union or a comparison.
 mod fold;
-mod keep;
+mod front;
 mod list;
 mod shift;
-mod taken;
-mod value;
 
 ghost use mathlib.Core.Path.{_≡_};
 ghost use Rattle.sheet.specs.Read.{start};

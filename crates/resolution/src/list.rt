@@ -10,9 +10,6 @@ ghost use Rattle.coercion.specs.Same.{equal};
 ghost use Rattle.coercion.specs.Answers.{allEqual, ownCategory, categoryOf, categoriesFit};
 ghost use Rattle.buffers.specs.Typed.{Typed};
 ghost use Rattle.resolution.specs.Reached.{Listed, seenBits};
-use crate::value::is_plain;
-use crate::value::is_same;
-use crate::value::leaf_of;
 use buffers::Space;
 use buffers::alike::same_shape;
 use buffers::alike::same_type;
@@ -21,6 +18,9 @@ use rules::category::is_mixed;
 use rules::category::is_supported;
 use rules::category::with_category;
 use sheet::record::head_at;
+use values::value::is_plain;
+use values::value::is_same;
+use values::value::leaf_of;
 
 // Whether the type at a link is that of record `first`. Types without parts are compared by their heads.
 fn is_equal(sheet: &[u8], space: Space, link: usize, first: usize) -> bool

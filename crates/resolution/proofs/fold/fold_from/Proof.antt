@@ -8,17 +8,17 @@ use Rattle.coercion.specs.Answers.{foldFrom}
 use Rattle.buffers.specs.Region.{Room, region, Inside}
 use Rattle.buffers.specs.Plain.{rulesOf}
 use Rattle.buffers.specs.declared.Question.the-variants as Question
-use Rattle.resolution.specs.Keeps.{CoreIf}
+use Rattle.values.specs.Keeps.{CoreIf}
 use Rattle.resolution.proofs.Listing.{unnot}
-use Rattle.resolution.proofs.Keeping.{core-second, keeps-candidate}
+use Rattle.resolution.proofs.Shifting.{core-second, keeps-candidate}
 use Rattle.resolution.proofs.Folding.{FoldsOn, candidate-right, room-within, folds-end, folds-lost, folds-null, folds-kept, folds-on, folds-no, folds-full}
 use Rattle.resolution.proofs.fold.fold_from.Statement.{statement}
 use Rattle.resolution.proofs.fold.fold_from.Tie as tie
 use Rattle.resolution.proofs.fold.fold_from.Reads as reads
 use Rattle.resolution.proofs.fold.fold_from.Lts as lts
 use Rattle.resolution.proofs.fold.step.Reads as step-reads
-use Rattle.resolution.proofs.keep.core_of.Reads as core-of-reads
-use Rattle.resolution.proofs.keep.keeps.Reads as keeps-reads
+use Rattle.values.proofs.keep.core_of.Reads as core-of-reads
+use Rattle.values.proofs.keep.keeps.Reads as keeps-reads
 use Rattle.sheet.proofs.record.head_at.Reads as head-at-reads
 
 abbrev Inv-loop : tie.InvT-loop

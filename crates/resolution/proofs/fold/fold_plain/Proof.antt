@@ -10,21 +10,22 @@ use Rattle.buffers.specs.Plain.{rulesOf}
 use Rattle.buffers.specs.declared.Out.{Out}
 use Rattle.buffers.specs.declared.Question.the-variants as Question
 use Rattle.resolution.specs.Reached.{Folds}
-use Rattle.resolution.specs.Value.{Valued}
+use Rattle.values.specs.Value.{Valued}
 use Rattle.resolution.proofs.Listing.{unnot}
 use Rattle.resolution.proofs.Folding.{folds-lost}
-use Rattle.resolution.proofs.Valuing.{leaf-low, folds-joined, folds-apart}
-use Rattle.resolution.proofs.Taking.{Absorbs, absorbs-none, absorbs-next, folds-taken, not-null}
+use Rattle.values.proofs.Valuing.{leaf-low}
+use Rattle.values.proofs.Taking.{Absorbs, absorbs-none, absorbs-next}
+use Rattle.resolution.proofs.Leaves.{folds-joined, folds-apart, folds-taken, not-null}
 use Rattle.resolution.proofs.fold.fold_plain.Statement.{statement}
 use Rattle.resolution.proofs.fold.fold_plain.Tie as tie
 use Rattle.resolution.proofs.fold.fold_plain.Reads as reads
 use Rattle.resolution.proofs.fold.fold_plain.Lts as lts
 use Rattle.resolution.proofs.fold.fold_written.Reads as fold-written-reads
-use Rattle.resolution.proofs.taken.is_taken.Reads as is-taken-reads
-use Rattle.resolution.proofs.taken.taken_kinds.Reads as taken-kinds-reads
-use Rattle.resolution.proofs.value.common_type.Reads as common-type-reads
-use Rattle.resolution.proofs.value.is_plain.Reads as is-plain-reads
-use Rattle.resolution.proofs.value.leaf_of.Reads as leaf-of-reads
+use Rattle.values.proofs.taken.is_taken.Reads as is-taken-reads
+use Rattle.values.proofs.taken.taken_kinds.Reads as taken-kinds-reads
+use Rattle.values.proofs.value.common_type.Reads as common-type-reads
+use Rattle.values.proofs.value.is_plain.Reads as is-plain-reads
+use Rattle.values.proofs.value.leaf_of.Reads as leaf-of-reads
 use Rattle.sheet.proofs.record.head_at.Reads as head-at-reads
 
 abbrev Inv-loop : tie.InvT-loop

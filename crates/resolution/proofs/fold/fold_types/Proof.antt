@@ -11,15 +11,16 @@ use Rattle.buffers.specs.declared.Out.{Out}
 use Rattle.buffers.specs.declared.Question.the-variants as Question
 use Rattle.resolution.specs.Reached.{Reached}
 use Rattle.resolution.proofs.Folding.{entry-typed, reached-empty, reached-lost, types-null, types-on}
-use Rattle.resolution.proofs.Valuing.{plain-valued, folds-as}
+use Rattle.values.proofs.Valuing.{plain-valued}
+use Rattle.resolution.proofs.Leaves.{folds-as}
 use Rattle.resolution.proofs.fold.fold_types.Statement.{statement}
 use Rattle.resolution.proofs.fold.fold_types.Tie as tie
 use Rattle.resolution.proofs.fold.fold_types.Reads as reads
 use Rattle.resolution.proofs.fold.fold_types.Lts as lts
 use Rattle.resolution.proofs.fold.fold_first.Reads as fold-first-reads
 use Rattle.resolution.proofs.fold.fold_plain.Reads as fold-plain-reads
-use Rattle.resolution.proofs.value.is_plain.Reads as is-plain-reads
-use Rattle.resolution.proofs.value.leaf_of.Reads as leaf-of-reads
+use Rattle.values.proofs.value.is_plain.Reads as is-plain-reads
+use Rattle.values.proofs.value.leaf_of.Reads as leaf-of-reads
 use Rattle.sheet.proofs.record.head_at.Reads as head-at-reads
 
 abbrev Inv-loop : tie.InvT-loop

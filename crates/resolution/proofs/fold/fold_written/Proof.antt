@@ -1,13 +1,13 @@
 use Rattle.buffers.specs.Plain.{rulesOf}
 use Rattle.buffers.specs.declared.Question.the-variants as Question
-use Rattle.resolution.proofs.Valuing.{folds-written}
+use Rattle.resolution.proofs.Leaves.{folds-written}
 use borrow.Author.Needs.{needs}
 use Rattle.resolution.proofs.fold.fold_written.Statement.{statement}
 use Rattle.resolution.proofs.fold.fold_written.Tie as tie
 use Rattle.resolution.proofs.fold.fold_written.Reads as reads
 use Rattle.resolution.proofs.fold.fold_written.Lts as lts
 use Rattle.resolution.proofs.fold.fold_from.Reads as fold-from-reads
-use Rattle.resolution.proofs.value.lay_front.Reads as lay-front-reads
+use Rattle.resolution.proofs.front.lay_front.Reads as lay-front-reads
 
 -- src/fold.rt:175:9
 lay-front-requires : tie.Need-lay-front-requires

@@ -2,17 +2,17 @@ use native.Mathlib.Omega.{arith}
 use mathlib.Core.Path.{refl, sym, _∙_}
 use Rattle.buffers.specs.Plain.{rulesOf}
 use Rattle.resolution.proofs.Folding.{reached-empty, reached-lost, pair-one, pair-many, pair-on}
-use Rattle.resolution.proofs.Valuing.{steps-joined}
+use Rattle.resolution.proofs.Leaves.{steps-joined}
 use borrow.Author.Needs.{needs}
 use Rattle.resolution.proofs.fold.pair.Statement.{statement}
 use Rattle.resolution.proofs.fold.pair.Tie as tie
 use Rattle.resolution.proofs.fold.pair.Reads as reads
 use Rattle.resolution.proofs.fold.pair.Lts as lts
 use Rattle.resolution.proofs.fold.meet.Reads as meet-reads
-use Rattle.resolution.proofs.value.common_type.Reads as common-type-reads
-use Rattle.resolution.proofs.value.is_plain.Reads as is-plain-reads
-use Rattle.resolution.proofs.value.lay_joint.Reads as lay-joint-reads
-use Rattle.resolution.proofs.value.leaf_of.Reads as leaf-of-reads
+use Rattle.values.proofs.value.common_type.Reads as common-type-reads
+use Rattle.values.proofs.value.is_plain.Reads as is-plain-reads
+use Rattle.resolution.proofs.front.lay_joint.Reads as lay-joint-reads
+use Rattle.values.proofs.value.leaf_of.Reads as leaf-of-reads
 use Rattle.sheet.proofs.record.head_at.Reads as head-at-reads
 
 -- src/fold.rt:294:9

@@ -1,7 +1,7 @@
 use mathlib.Core.Path.{sym, _∙_}
 use mathlib.Core.Bool.{true}
 use Rattle.merge.proofs.Merging.{typed-same}
-use Rattle.resolution.proofs.Valuing.{plain-equal, low-equal}
+use Rattle.values.proofs.Valuing.{plain-equal, low-equal}
 use borrow.Author.Needs.{needs}
 use Rattle.resolution.proofs.list.is_equal.Statement.{statement}
 use Rattle.resolution.proofs.list.is_equal.Tie as tie
@@ -9,9 +9,9 @@ use Rattle.resolution.proofs.list.is_equal.Reads as reads
 use Rattle.resolution.proofs.list.is_equal.Lts as lts
 use Rattle.buffers.proofs.alike.same_shape.Reads as same-shape-reads
 use Rattle.buffers.proofs.alike.same_type.Reads as same-type-reads
-use Rattle.resolution.proofs.value.is_plain.Reads as is-plain-reads
-use Rattle.resolution.proofs.value.is_same.Reads as is-same-reads
-use Rattle.resolution.proofs.value.leaf_of.Reads as leaf-of-reads
+use Rattle.values.proofs.value.is_plain.Reads as is-plain-reads
+use Rattle.values.proofs.value.is_same.Reads as is-same-reads
+use Rattle.values.proofs.value.leaf_of.Reads as leaf-of-reads
 use Rattle.sheet.proofs.record.head_at.Reads as head-at-reads
 
 -- src/list.rt:29:9

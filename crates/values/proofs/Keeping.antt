@@ -1,0 +1,286 @@
+-- A candidate that stays as it is, by its core. Assumes nothing.
+use mathlib.Core.Path.{_≡_, refl, ap, ap₂, sym, subst, _∙_}
+use mathlib.Core.Bool.{Bool, true, false, cond, not, _&&_, _||_, or-false}
+use mathlib.Core.List.{List, [], _∷_}
+use mathlib.Core.Logic.{_⊎_, inl, inr}
+use mathlib.Core.Option.{Option, none, some, Option·some-inj}
+use Prim.Native.Nat.{ℕ, _<_, _≤_}
+use native.Mathlib.Omega.{arith}
+use borrow.Author.Tests.{not-true, eq-eqb, ne-eqb, eqb-true}
+use lib.Dec.{eqb}
+use Rattle.sheet.specs.Kind.{isDecimal, sized, lastUnit, namesParts}
+use Rattle.sheet.specs.Tests.{between}
+use Rattle.sheet.specs.Types.{Zone, present, Shape, Fields, end, field, arity}
+use Rattle.sheet.specs.Refusals.{figureRight, sizeRight, figuresRight}
+use Rattle.sheet.specs.Carried.{isZoned, FieldRight, FieldsRight}
+use Rattle.sheet.specs.Read.{labelAt, zoneOf}
+use Rattle.sheet.specs.Head.{headAt, zonedIn, zoneAt, zoneLen}
+use Rattle.sheet.specs.declared.Head.{Head}
+use Rattle.sheet.proofs.Tests.{never, and-fst, and-snd, all-at}
+use Rattle.kinds.proofs.Chain.{first}
+use Rattle.coercion.specs.Data.{DataType, Rules, figuresOf, ofUnit, zoned}
+use Rattle.coercion.specs.Data as Data
+use Rattle.coercion.specs.Same.{equal, sameType}
+use Rattle.coercion.specs.Times.{timeunitCoercion, zoneCoercion, temporalCoercionNonstrictTimezone}
+use Rattle.coercion.specs.Wrappers.{valueIn}
+use Rattle.coercion.specs.Answers.{coercion, ask, wrapped, keepDictionary, runEndsOf}
+use Rattle.coercion.proofs.Fuel.{coercion-asks}
+use Rattle.coercion.proofs.Sameness.{equal-same, equal-self}
+use Rattle.buffers.specs.Goal.{typeOf}
+use Rattle.buffers.specs.Region.{Held}
+use Rattle.buffers.specs.Plain.{rulesOf}
+use Rattle.buffers.specs.Source.{SameTypes}
+use Rattle.buffers.specs.Steps.{Figured}
+use Rattle.buffers.specs.Typed.{Typed}
+use Rattle.buffers.specs.declared.Question.the-variants as Question
+use Rattle.buffers.specs.declared.Space.{Space}
+use Rattle.buffers.proofs.Sources.{link-inside, read-shape}
+use Rattle.buffers.proofs.Chained.{held-first, held-next}
+use Rattle.buffers.proofs.Fielding.{typed-reads}
+use Rattle.buffers.proofs.Turns.{turns, spoken}
+use Rattle.wrappers.specs.Ways.{isWrapper}
+use Rattle.wrappers.proofs.Cores.{missing, wrapper-is, two-parts}
+use Rattle.wrappers.proofs.Values.{Two, typed-two, value-of}
+use Rattle.merge.proofs.Merging.{typed-same}
+use Rattle.values.specs.declared.value.Leaf.{Leaf}
+use Rattle.values.specs.declared.value.Joint.{Joint}
+use Rattle.values.specs.declared.value.Joint.the-variants as Joint
+use Rattle.values.specs.Value.{isPlain, leafOf, leafType, Valued, JointIs, Joins}
+use Rattle.values.specs.Keeps.{coreOf, CoreAt, staysZoned}
+use Rattle.values.proofs.Valuing.{typed-right, no-parts, leaf-low, plain-valued, plain-coercion}
+
+by-test : {A : Type 0} (b : Bool) → (b ≡ true → A) → (b ≡ false → A) → A
+by-test true f g = f refl
+by-test false f g = g refl
+
+cond-self : {A : Type 0} (b : Bool) (a : A) → cond b a a ≡ a
+cond-self true a = refl
+cond-self false a = refl
+
+-- a field whose parent names no parts
+pub plain-field : {up : ℕ} (name : List ℕ) (nullable : Bool) (shape : Shape) (parts : Fields) → namesParts up ≡ false → FieldRight up name nullable shape parts
+    → field name nullable shape parts end ≡ field [] false shape parts end
+plain-field [] false shape parts n a = refl
+plain-field [] true shape parts n a = never (sym n ∙ a .mayBeNull)
+plain-field (b ∷ bs) nullable shape parts n a = never (sym n ∙ a .mayBeNamed)
+
+-- the core of a type that is no wrapper, and of one that is
+core-bare : (s : Shape) (p : Fields) → isWrapper (s .kind) ≡ false → coreOf s p ≡ typeOf s p
+unfolding coreOf
+core-bare s end h = refl
+core-bare s (field n b s₁ p₁ end) h = refl
+core-bare s (field n b s₁ p₁ (field n₂ b₂ s₂ p₂ q)) h = rw h
+
+core-wrap : (s : Shape) (p : Fields) (v : DataType) → isWrapper (s .kind) ≡ true → valueIn p ≡ some v → coreOf s p ≡ coreOf (v .shape) (v .parts)
+unfolding coreOf
+core-wrap s end v w e = missing e
+core-wrap s (field n b s₁ p₁ end) v w e = missing e
+core-wrap s (field n b s₁ p₁ (field n₂ b₂ s₂ p₂ q)) v w e = rw w (ap (λ (t : DataType). coreOf (t .shape) (t .parts)) (Option·some-inj .0 e))
+
+-- the second of two parts
+second-above : {space : Space} {s : List ℕ} {at link r o up : ℕ} {f : Fields} (x : Two f) → Held space s at link r o up f → (g : Head) → g ≡ headAt s link → at < g .next
+second-above {space} {s} {at} {link} {r} {o} {up} x a g e =
+    let q = subst (Held space s at link r o up) (x .is) a in
+    let v = held-next q g e .source .leads in
+    omega (arith, q .source .leads .is, q .source .leads .above, v .is, v .above)
+
+-- the walk down the wrappers
+module _ {space : Space} {s : List ℕ} {at : ℕ} where
+  pub core-past : space .n ≤ at → CoreAt space s at at
+  core-past h = record { is = λ t a. absurd (omega (arith, link-inside (a .chain .held .source))) }
+
+  module _ (h : Head) (e : h ≡ headAt s at) {w : Bool} (ew : w ≡ (eqb (h .kind) 37 || eqb (h .kind) 38)) where
+    is-wrapper : {t : DataType} → Typed space s at t → isWrapper (t .shape .kind) ≡ w
+    is-wrapper a = ap (λ (k : ℕ). isWrapper k) (typed-reads a e .kind) ∙ sym ew
+
+    pub core-here : w ≡ false → CoreAt space s at at
+    core-here z = record { is = λ t a. subst (Typed space s at) (sym (core-bare (t .shape) (t .parts) (is-wrapper a ∙ z))) a }
+
+    module _ (z : w ≡ true) (g : Head) (eg : g ≡ headAt s (h .first)) where
+      -- the value stands behind its wrapper
+      value-above : {t : DataType} → Typed space s at t → at < g .next
+      value-above a = second-above (typed-two (is-wrapper a ∙ z) refl a) (held-first (a .chain .held) h e) g eg
+
+      pub core-lost : g .next ≤ at → CoreAt space s at at
+      core-lost h = record { is = λ t a. absurd (omega (arith, value-above a)) }
+
+      pub core-down : {k : ℕ} → CoreAt space s (g .next) k → CoreAt space s at k
+      core-down {k} c =
+          record {
+            is =
+                λ t a.
+                let v = value-of (is-wrapper a ∙ z) refl (ap (λ (x : Head). x .next) eg ∙ ap (λ (x : Head). headAt s (x .first) .next) e) a in
+                subst (Typed space s k) (sym (core-wrap (t .shape) (t .parts) (v .type) (is-wrapper a ∙ z) (v .is))) (c .is (v .type) (v .typed));
+          }
+
+-- a Timestamp is its unit and its zone
+module _ (t : DataType) (h : FieldRight 0 [] false (t .shape) (t .parts)) (e : t .shape .kind ≡ 22) where
+  stamp-is : t ≡ zoned (ofUnit 22 (t .shape .figure)) (t .shape .zone)
+  unfolding figuresRight figureRight isDecimal between lastUnit sizeRight sized
+  stamp-is =
+      let f : figuresRight 22 (t .shape .figure) (t .shape .scale) (t .shape .size) (t .shape .sorted) (isZoned (t .shape .zone)) ≡ true =
+      subst (λ (k : ℕ). figuresRight k (t .shape .figure) (t .shape .scale) (t .shape .size) (t .shape .sorted) (isZoned (t .shape .zone)) ≡ true) e (h .figures) in
+      let scale = eqb-true (t .shape .scale) 0 (all-at _ 1 (all-at _ 0 f)) in
+      let size = eqb-true (t .shape .size) 0 (all-at _ 1 f) in
+      let sorted : t .shape .sorted ≡ false = not-true (t .shape .sorted) (sym (or-false (not (t .shape .sorted))) ∙ all-at _ 2 f) in
+      let parts = no-parts (t .shape .kind) (t .parts) (omega (arith, e)) (h .filled) in
+      λ i. record { shape = record { kind = e i; figure = t .shape .figure; scale = scale i; size = size i; sorted = sorted i; zone = t .shape .zone }; parts = parts i }
+
+  own-figured : Figured (figuresOf t) t
+  own-figured = record { kind = refl; figure = refl; scale = refl; known = h .known; bare = λ q. never (sym q ∙ eq-eqb (t .shape .kind) 22 e) }
+
+module _ (mask : ℕ) where
+  abbrev rules : Rules
+  rules = rulesOf Question.List mask
+
+  same-is : (l r : DataType) → l ≡ r → coercion rules l r ≡ some l
+  same-is l r e = coercion-asks rules l r ∙ rw (ap (λ (t : DataType). equal l t) (sym e) ∙ equal-self l) refl
+
+  -- a type that is the candidate itself
+  pub keeps-same : {space : Space} {s u : List ℕ} {link : ℕ} {e : Bool} → SameTypes s (space .n) link u (space .n) 1 true e → e ≡ true → (t c : DataType) → Typed space s link t
+      → Typed space u 1 c → coercion rules t c ≡ some c
+  keeps-same f z t c a d =
+      let q = equal-same t c (sym (typed-same true f a d) ∙ z) in same-is t c q ∙ ap (λ (y : DataType). some y) q
+
+  -- two types without parts whose common type is a third
+  pub common-is : {x y z c : Leaf} {b : Bool} {o : Joint} → o ≡ Joint.Of c → Joins (coercion rules) x y o → ((named : Bool) → b ≡ sameType named (leafType c) (leafType z)) → b ≡ true
+      → (l r t : DataType) → Valued x l → Valued y r → Valued z t → coercion rules l r ≡ some t
+  common-is {x} {y} {z} {c} eo j same e l r t p q k = go (coercion rules l r) (subst (λ (o : Joint). JointIs Valued o (coercion rules l r)) eo (j .means l r p q))
+    where
+      go : (m : Option DataType) → JointIs Valued (Joint.Of c) m → m ≡ some t
+      go none a = absurd a
+      go (some u) a = ap (λ (v : DataType). some v) (a .is ∙ equal-same (leafType c) (leafType z) (sym (same true) ∙ e) ∙ sym (k .is))
+
+  -- a wrapper and a type that is none, whichever stands left
+  module _ (x : DataType) (low : x .shape .kind < 32) where
+    other : (k : ℕ) → 32 ≤ k → eqb (x .shape .kind) k ≡ false
+    other k h = ne-eqb (x .shape .kind) k (λ e. omega arith)
+
+    -- both orders give what is made of the value
+    Both : DataType → Type 0
+    Both d = (coercion rules d x ≡ some d) × (coercion rules x d ≡ some d)
+
+    both-orders : (d : DataType) (m : Option DataType) → m ≡ some d → ask Data.list rules (coercion rules) d x ≡ cond (equal d x) (some d) m
+        → ask Data.list rules (coercion rules) x d ≡ cond (equal x d) (some x) m → Both d
+    unfolding Both
+    both-orders d m e p q =
+        (coercion-asks rules d x ∙ p ∙ ap (cond (equal d x) (some d)) e ∙ cond-self (equal d x) (some d), coercion-asks rules x d ∙ q ∙ ap (cond (equal x d) (some x)) e ∙ right (equal x d) refl)
+      where
+        right : (b : Bool) → equal x d ≡ b → cond b (some x) (some d) ≡ some d
+        right true h = ap (λ (t : DataType). some t) (equal-same x d h)
+        right false h = refl
+
+    dictionary-orders : (d : DataType) → d .shape .kind ≡ 37 → wrapped (coercion rules) d x keepDictionary ≡ some d → Both d
+    dictionary-orders d e m =
+        both-orders d (wrapped (coercion rules) d x keepDictionary) m (rw (eq-eqb (d .shape .kind) 37 e, other 37 (omega arith)) refl)
+        (rw (other 37 (omega arith), eq-eqb (d .shape .kind) 37 e) refl)
+
+    run-ends-orders : (d : DataType) → d .shape .kind ≡ 38 → wrapped (coercion rules) d x (λ d t. runEndsOf d (d .parts) t) ≡ some d → Both d
+    run-ends-orders d e m =
+        let n = ne-eqb (d .shape .kind) 37 (λ q. omega arith) in
+        both-orders d (wrapped (coercion rules) d x (λ d t. runEndsOf d (d .parts) t)) m
+        (rw (n, other 37 (omega arith), eq-eqb (d .shape .kind) 38 e, other 38 (omega arith)) refl)
+        (rw (other 37 (omega arith), n, other 38 (omega arith), eq-eqb (d .shape .kind) 38 e) refl)
+
+    -- a wrapper whose value stays
+    wrapper-stays : (up : ℕ) (name : List ℕ) (nullable : Bool) (shape : Shape) (n : List ℕ) (b : Bool) (s : Shape) (p : Fields) (n₂ : List ℕ) (b₂ : Bool) (s₂ : Shape) (p₂ q rest : Fields)
+        → FieldsRight up (field name nullable shape (field n b s p (field n₂ b₂ s₂ p₂ q)) rest) → isWrapper (shape .kind) ≡ true → (s₂ .kind ≡ 27 → ⊥)
+        → coercion rules (typeOf s₂ p₂) x ≡ some (typeOf s₂ p₂) → Both (typeOf shape (field n b s p (field n₂ b₂ s₂ p₂ q)))
+    unfolding arity namesParts between
+    wrapper-stays up name nullable shape n b s p n₂ b₂ s₂ p₂ (field n₃ b₃ s₃ p₃ q) rest h w v k = absurd (omega (arith, two-parts _ _ w (h .0 .filled)))
+    wrapper-stays up name nullable shape n b s p n₂ b₂ s₂ p₂ end rest h w v k = go (wrapper-is (shape .kind) w)
+      where
+        go : (shape .kind ≡ 37) ⊎ (shape .kind ≡ 38) → Both (typeOf shape (field n b s p (field n₂ b₂ s₂ p₂ end)))
+        go (inl e) =
+            dictionary-orders (typeOf shape (field n b s p (field n₂ b₂ s₂ p₂ end))) e
+            (rw (k, ne-eqb (s₂ .kind) 27 v)
+            (ap (λ (f : Fields). some (typeOf shape (field n b s p f))) (sym (plain-field n₂ b₂ s₂ p₂ (ap (λ (i : ℕ). namesParts i) e) (h .1 .0 .1 .1 .0)))))
+        go (inr e) = run-ends-orders (typeOf shape (field n b s p (field n₂ b₂ s₂ p₂ end))) e (rw k refl)
+
+    -- the value is no Utf8View where the core is none
+    no-view : (s : Shape) (p : Fields) → (coreOf s p .shape .kind ≡ 27 → ⊥) → s .kind ≡ 27 → ⊥
+    no-view s p v e = v (ap (λ (t : DataType). t .shape .kind) (core-bare s p (ap (λ (k : ℕ). isWrapper k) e)) ∙ e)
+
+    -- so does a type whose core stays
+    core-stays : (up : ℕ) (name : List ℕ) (nullable : Bool) (shape : Shape) (parts rest : Fields) → FieldsRight up (field name nullable shape parts rest)
+        → (coreOf shape parts .shape .kind ≡ 27 → ⊥) → coercion rules (coreOf shape parts) x ≡ some (coreOf shape parts)
+        → (coercion rules (typeOf shape parts) x ≡ some (typeOf shape parts)) × (isWrapper (shape .kind) ≡ true → coercion rules x (typeOf shape parts) ≡ some (typeOf shape parts))
+    unfolding coreOf arity Both
+    core-stays up name nullable shape end rest h v k = (k, λ w. absurd (omega (arith, two-parts _ _ w (h .0 .filled))))
+    core-stays up name nullable shape (field n b s p end) rest h v k = (k, λ w. absurd (omega (arith, two-parts _ _ w (h .0 .filled))))
+    core-stays up name nullable shape (field n b s p (field n₂ b₂ s₂ p₂ q)) rest h v k =
+        by-test (isWrapper (shape .kind))
+        (λ e.
+        let u = rw e at v in
+        let both = wrapper-stays up name nullable shape n b s p n₂ b₂ s₂ p₂ q rest h e (no-view s₂ p₂ u) (core-stays (shape .kind) n₂ b₂ s₂ p₂ q (h .1 .0 .1 .1) u (rw e at k) .0) in
+        (both .0, λ w. both .1))
+        (λ e. (rw e at k, λ w. never (sym e ∙ w)))
+
+  -- a Timestamp with a zone keeps it, to the left of a Timestamp
+  stamp-stays : (l r : DataType) (z : List ℕ) → FieldRight 0 [] false (l .shape) (l .parts) → FieldRight 0 [] false (r .shape) (r .parts) → l .shape .kind ≡ 22 → r .shape .kind ≡ 22
+      → l .shape .zone ≡ present z → timeunitCoercion (l .shape .figure) (r .shape .figure) ≡ l .shape .figure → coercion rules l r ≡ some l
+  unfolding temporalCoercionNonstrictTimezone between
+  stamp-stays l r z p q el er ez eu =
+      plain-coercion rules l r (omega (arith, el)) (omega (arith, er))
+      ∙ ap (cond (equal l r) (some l))
+      (sym (spoken rules l r (own-figured l p el) (own-figured r q er) 1 (ap₂ (λ (k j : ℕ). first 6 (turns k j)) el er) refl) ∙ told ∙ ap (λ (t : DataType). some t) (sym (stamp-is l p el)))
+      ∙ cond-self (equal l r) (some l)
+    where
+      told : temporalCoercionNonstrictTimezone l r ≡ some (zoned (ofUnit 22 (l .shape .figure)) (l .shape .zone))
+      told =
+          rw (eq-eqb (l .shape .kind) 22 el, eq-eqb (r .shape .kind) 22 er)
+          (ap₂ (λ (u : ℕ) (k : Zone). some (zoned (ofUnit 22 u) k)) eu (ap (λ (k : Zone). zoneCoercion k (r .shape .zone)) ez ∙ sym ez))
+
+  -- the types that stand at a link and at the front of the second half
+  module _ {space : Space} {s u : List ℕ} {link core : ℕ} (x v h : Head) (ex : x ≡ headAt s link) (ev : v ≡ headAt u core) (eh : h ≡ headAt u 1)
+      (at : CoreAt space u 1 core) (t c : DataType) (a : Typed space s link t) (d : Typed space u 1 c) where
+    abbrev inner : DataType
+    inner = coreOf (c .shape) (c .parts)
+
+    core-typed : Typed space u core inner
+    core-typed = at .is c d
+
+    -- a wrapper whose core stays
+    keeps-core : 32 ≤ h .kind → x .kind < 32 → v .kind < 32 → (v .kind ≡ 27 → ⊥) → coercion rules inner t ≡ some inner → coercion rules t c ≡ some c
+    keeps-core high low bare n f =
+        by-test (isWrapper (c .shape .kind))
+        (λ e.
+        core-stays t (omega (arith, typed-reads a ex .kind)) (d .chain .up) (d .name) (d .nullable) (c .shape) (c .parts) (d .rest) (d .chain .held .source .right)
+        (λ q. n (sym (typed-reads core-typed ev .kind) ∙ q)) f .1 e)
+        (λ e.
+        let k = ap (λ (y : DataType). y .shape .kind) (core-bare (c .shape) (c .parts) e) in
+        absurd (omega (arith, k, typed-reads core-typed ev .kind, typed-reads d eh .kind)))
+
+    -- around a Timestamp with a zone
+    pub keeps-zoned : 32 ≤ h .kind → staysZoned v x ≡ true → coercion rules t c ≡ some c
+    keeps-zoned high b =
+        let l = and-fst (eqb (v .kind) 22 && zonedIn v) _ b in
+        let r = and-snd (eqb (v .kind) 22 && zonedIn v) _ b in
+        let kv = eqb-true (v .kind) 22 (and-fst _ _ l) in
+        let kx = eqb-true (x .kind) 22 (and-fst _ _ r) in
+        let rv = typed-reads core-typed ev in
+        let rx = typed-reads a ex in
+        let there : zoneOf u (space .n) v ≡ present (labelAt u (space .n) (zoneAt v) (zoneLen v)) = rw (and-snd (eqb (v .kind) 22) _ l) in
+        let zone = sym (ap (λ (k : Shape). k .zone) (read-shape (core-typed .chain .held .source) v ev)) ∙ there in
+        let unit = ap₂ timeunitCoercion (rv .figure) (rx .figure) ∙ eqb-true _ (v .figure) (and-snd (eqb (x .kind) 22) _ r) ∙ sym (rv .figure) in
+        keeps-core high (omega (arith, kx)) (omega (arith, kv)) (λ q. omega (arith, kv, q))
+        (stamp-stays inner t _ (typed-right inner core-typed .0 .0) (typed-right t a .0 .0) (rv .kind ∙ kv) (rx .kind ∙ kx) zone unit)
+
+    module _ (b : isPlain x && isPlain v ≡ true) {new old : Leaf} (en : new ≡ leafOf x) (eo : old ≡ leafOf v) where
+      new-valued : Valued new t
+      new-valued = plain-valued x (and-fst _ _ b) en ex a
+
+      core-valued : Valued old inner
+      core-valued = plain-valued v (and-snd (isPlain x) _ b) eo ev core-typed
+
+      -- a candidate that is no wrapper
+      pub keeps-alone : h .kind < 32 → ((l r u : DataType) → Valued new l → Valued old r → Valued old u → coercion rules l r ≡ some u) → coercion rules t c ≡ some c
+      keeps-alone low f = subst (λ (k : DataType). coercion rules t k ≡ some k) (core-bare (c .shape) (c .parts) bare) (f t inner inner new-valued core-valued core-valued)
+        where
+          bare : isWrapper (c .shape .kind) ≡ false
+          bare = let e = typed-reads d eh .kind in rw (ne-eqb (c .shape .kind) 37 (λ q. omega arith), ne-eqb (c .shape .kind) 38 (λ q. omega arith)) refl
+
+      -- one that is
+      pub keeps-under : 32 ≤ h .kind → (v .kind ≡ 27 → ⊥) → ((l r u : DataType) → Valued old l → Valued new r → Valued old u → coercion rules l r ≡ some u) → coercion rules t c ≡ some c
+      keeps-under high n f =
+          keeps-core high (leaf-low x (and-fst _ _ b) refl) (leaf-low v (and-snd (isPlain x) _ b) refl) n (f inner t inner core-valued new-valued core-valued)

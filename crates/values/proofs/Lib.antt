@@ -1,0 +1,4 @@
+pub mod Low
+pub mod Valuing
+pub mod Keeping
+pub mod Taking
