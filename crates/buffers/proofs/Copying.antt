@@ -23,13 +23,14 @@ use Rattle.sheet.proofs.Repeating.{head-is}
 use Rattle.sheet.proofs.Carrying.{own-length}
 use Rattle.buffers.specs.Source.{Source}
 use Rattle.buffers.specs.Writes.{side, Put}
-use Rattle.buffers.specs.Region.{Room, region, Kept, Held, Inside, Grows, Further, movedLink, movedLabel, goalHead, Ready, Named, HeadMeans, Passes, CopiedHead, CopyMeans, CopiedRecord}
+use Rattle.buffers.specs.Region.{Room, region, Kept, Held, Inside, Grows, Further, movedLink, movedLabel, goalHead, Ready, Named, HeadMeans, Passes, CopiedHead, CopiedBare, CopyMeans, CopiedRecord}
 use Rattle.buffers.specs.declared.Space.{Space}
 use Rattle.buffers.specs.declared.Spot.{Spot}
 use Rattle.buffers.specs.declared.Goal.{Goal}
 use Rattle.buffers.specs.declared.Out.{Out}
 use Rattle.buffers.specs.declared.Out.the-variants.{Done, No, Full}
 use Rattle.buffers.proofs.Sources.{name-short, read-name, read-nullable, read-shape}
+use Rattle.buffers.proofs.Puts.{put-none}
 use Rattle.buffers.proofs.Frames.{span-frame, held-frame, kept-trans, kept-wider, kept-self}
 
 -- a place in the second half
@@ -205,6 +206,16 @@ module _ (space : Space) (s w : List ℕ) (swap : Bool) (h : Head) (link : ℕ) 
             λ floor r o up name nullable shape parts rest a e. (omega (arith, zone-long a e), stands floor r o up name nullable shape parts rest a e),
           );
         }
+
+-- a head without a zone, of whatever source
+pub bare-copied : (space : Space) (w v : List ℕ) (h : Head) (link : ℕ) (g : Goal) → Room w space → Ready space g → g .at < space .n → zonedIn h ≡ false
+    → (x : Head) → x ≡ goalHead h link g 0 → Put w v (space .half + 16 * g .at) (bytesOf x)
+    → CopiedBare space w v h link g (Done (record { at = g .at + 1; label = g .label + g .nlen }))
+bare-copied space w v h link g room ready lt z x ex c s =
+    let e : g .label + g .nlen + 0 ≡ g .label + g .nlen = omega arith in
+    subst (λ (k : ℕ). CopiedHead space s w v h link g 0 (Done (record { at = g .at + 1; label = k }))) e
+    (head-copied space s w false h link g 0 room ready 0 (ap (λ (b : Bool). cond b (zoneLen h) 0) (sym z)) w v lt (omega (arith, ready .letters))
+    (put-none w (drop (16 * space .n + h .quad % 65536) s) (space .half + 16 * space .n + (g .label + g .nlen)) (omega (arith, room .half, room .inside, ready .letters))) x ex c)
 
 -- a record with its name: the name is put, and then the head
 module _ (space : Space) (s w : List ℕ) (swap : Bool) (h : Head) (link : ℕ) (to : Spot) (room : Room w space) (inside : Inside space to) (e : h ≡ headAt (side swap s w) link) where

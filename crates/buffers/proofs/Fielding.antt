@@ -1,30 +1,30 @@
 -- A field that was named and copied, a wrapper that was kept, and what a head tells of its type. Assumes nothing.
 use mathlib.Core.Path.{_≡_, refl, ap, ap₂, sym, subst, _∙_}
 use mathlib.Core.Bool.{Bool, true, false, _&&_}
-use mathlib.Core.List.{List}
+use mathlib.Core.List.{List, [], _++_}
 use mathlib.Core.Logic.{inl, inr, ⊎-elim}
 use Prim.Native.Nat.{ℕ, _+_, _*_, _-_, _<_, _≤_}
 use native.Mathlib.Omega.{arith}
-use lib.ListN.{length, take, drop, length-take, length-drop}
+use lib.ListN.{length, take, drop, length-take, length-drop, length-append}
 use lib.Seq.{take-all}
 use lib.Dec.{eqb}
 use borrow.Author.Tests.{eq-eqb, ne-eqb}
 use Rattle.sheet.specs.Kind as Kind
 use Rattle.sheet.specs.Tests.{implies}
-use Rattle.sheet.specs.Types.{Zone, absent, present, Shape, Fields, end, field, count}
+use Rattle.sheet.specs.Types.{Zone, absent, present, Shape, Fields, end, field, count, zoneBytes, labels}
 use Rattle.sheet.specs.Head.{headAt, nullableIn}
 use Rattle.sheet.specs.Encode.{linkTo, quadOf, headOf}
 use Rattle.sheet.specs.Refusals.{figuresRight}
 use Rattle.sheet.specs.Carried.{isZoned}
 use Rattle.sheet.specs.Bounds.{Bounded}
-use Rattle.sheet.specs.Holds.{Span}
+use Rattle.sheet.specs.Holds.{Span, Stands}
 use Rattle.sheet.specs.declared.Head.{Head}
 use Rattle.sheet.proofs.Tests.{never, all-at}
 use Rattle.sheet.proofs.Spans.{span-move}
 use Rattle.sheet.proofs.Repeating.{head-is}
 use Rattle.coercion.specs.Data.{DataType}
 use Rattle.buffers.specs.Writes.{side, Put}
-use Rattle.buffers.specs.Region.{Room, region, Kept, Held, Inside, Ready, Wrote}
+use Rattle.buffers.specs.Region.{Room, region, Kept, Held, Inside, Ready, Wrote, CopiedHead}
 use Rattle.buffers.specs.Goal.{CopiedType, LaidPlain, shapeFor}
 use Rattle.buffers.specs.Steps.{Reads}
 use Rattle.buffers.specs.Typed.{Chain, Typed, goalAt, NamedAt, CopiedField, isView, Viewed}
@@ -161,3 +161,51 @@ module _ (space : Space) (s w : List ℕ) (swap : Bool) (link : ℕ) (to : Spot)
               λ name nullable shape parts rest c.
               ⊎-elim (λ x. inl (omega arith)) (λ x. inr (omega (arith, name-length c h e))) (k .means _ _ _ _ name nullable shape parts rest (moved c));
         }
+
+    again : {name : List ℕ} {nullable : Bool} {shape : Shape} {parts rest : Fields} → Chain space (side swap s w) link (field name nullable shape parts rest) → h ≡ headAt (side swap s v) link
+    again {name} {nullable} {shape} {parts} {rest} c =
+        chain-head c h e
+        ∙ sym (head-is (side swap s v) (space .n) (c .floor) link (c .at) (c .label) name nullable shape parts rest (moved c .source .leads) (headAt (side swap s v) link) refl)
+
+    -- a field without parts, whose head was copied
+    leaf : (u : List ℕ) (d : Spot) → h .first ≡ 0 → CopiedHead space (side swap s v) v u h link (goalAt to (h .nlen) own) 0 (Done d) → (name : List ℕ) (nullable : Bool) (shape : Shape) (parts rest : Fields)
+        → Chain space (side swap s w) link (field name nullable shape parts rest) → Wrote space u to d (field name nullable shape parts end)
+    unfolding count labels
+    leaf u d first k name nullable shape end rest c =
+        let m = k .means .1 _ _ _ _ name nullable shape end rest (moved c) (again c) in
+        record {
+          records = omega (arith, k .means .0);
+          letters = omega (arith, m .0, name-length c h e, length-append name (zoneBytes (shape .zone)), length-append (name ++ zoneBytes (shape .zone)) []);
+          holds = (
+            subst (λ (y : Bool). Stands (region space u) (space .n) (to .at) (to .label) name y shape 0 0) (eo ∙ read-nullable (c .held .source) h e)
+                (m .1 name (nm .named z link name nullable own shape end rest c e)),
+            (tt, tt),
+          );
+        }
+    leaf u d first k name nullable shape (field n b sh p q) rest c =
+        let f : h .first ≡ c .at + 1 = ap (λ (x : Head). x .first) (chain-head c h e) in
+        absurd (omega (arith, first, f))
+
+    pub leaf-copied : (u : List ℕ) (o : Out) → h .first ≡ 0 → CopiedHead space (side swap s v) v u h link (goalAt to (h .nlen) own) 0 o → CopiedField space (side swap s w) w u link to o
+    leaf-copied u (Done d) first k =
+        record {
+          kept = kept u (k .kept);
+          grows = (k .passes .0, (omega (arith, k .passes .1 .0), omega (arith, k .passes .1 .1)));
+          further = k .passes .1 .0;
+          means = leaf u d first k;
+        }
+    leaf-copied u No first k = absurd (k .means)
+    leaf-copied u Full first k =
+        record {
+          kept = kept u (k .kept);
+          grows = tt;
+          further = tt;
+          means =
+              λ name nullable shape parts rest c.
+              inr (omega (arith, k .means _ _ _ _ name nullable shape parts rest (moved c) (again c), name-length c h e));
+        }
+
+-- there is no record left for a field
+pub field-none : (space : Space) (s w : List ℕ) (link : ℕ) (to : Spot) → space .n ≤ to .at → CopiedField space s w w link to Full
+field-none space s w link to h =
+    record { kept = kept-self w (to .at) (to .label); grows = tt; further = tt; means = λ name nullable shape parts rest c. inl (omega arith) }

@@ -110,17 +110,18 @@ label-long w from i h = length-take-le i (drop from w) (omega (arith, length-dro
 label-byte : (w : List ℕ) (from i j : ℕ) → j < i → getD (take i (drop from w)) j 0 ≡ getD w (from + j) 0
 label-byte w from i j h = getD-take i (drop from w) j 0 h ∙ getD-drop from w j 0
 
--- a label that is put behind itself, byte by byte
-pub put-none : (w : List ℕ) (from at : ℕ) → from ≤ at → at ≤ length w → Put w w at (take 0 (drop from w))
-put-none w from at h g =
-    let l = label-long w from 0 (omega arith) in
+-- nothing was put
+pub put-none : (w u : List ℕ) (i : ℕ) → i ≤ length w → Put w w i (take 0 u)
+put-none w u i h =
+    let l = length-take 0 u in
     record {
       long = refl;
       below = λ j q. refl;
       above = λ j q. refl;
-      span = at-span w at (take 0 (drop from w)) (omega (arith, l)) (λ j q. absurd (omega (arith, l)));
+      span = at-span w i (take 0 u) (omega (arith, l)) (λ j q. absurd (omega (arith, l)));
     }
 
+-- a label that is put behind itself, byte by byte
 pub put-on : (w v : List ℕ) (from at i : ℕ) → from + i < at → at + i < length w → Put w v at (take i (drop from w))
     → Put w (set v (at + i) (getD v (from + i) 0)) at (take (i + 1) (drop from w))
 put-on w v from at i h g p =

@@ -132,6 +132,10 @@ pub record CopiedHead (space : Space) (s w v : List ℕ) (h : Head) (link : ℕ)
   pub passes : Passes space g o
   pub means : HeadMeans space s w v h link g next o
 
+-- the head of a record without a zone was copied as the last of its chain, whatever source it was read from
+abbrev pub CopiedBare : Space → List ℕ → List ℕ → Head → ℕ → Goal → Out → Type 0
+CopiedBare space w v h link g o = (s : List ℕ) → CopiedHead space s w v h link g 0 o
+
 -- what is said of a record that was copied: whatever field stands at its place, its record stands at the destination
 abbrev pub CopyMeans : Space → List ℕ → List ℕ → ℕ → Spot → Out → Type 0
 CopyMeans space s v link to (Done d) =

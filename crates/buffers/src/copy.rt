@@ -1,17 +1,18 @@
 // Copying a chain of a side to the destination.
 ghost use mathlib.Core.Path.{_≡_};
-ghost use mathlib.Core.Bool.{cond};
+ghost use mathlib.Core.Bool.{false, cond};
 ghost use Prim.Native.Nat.{_+_, _*_, _/_, _≤_, _<_};
 ghost use lib.ListN.{length};
 ghost use Rattle.sheet.specs.Head.{headAt, nullableIn, zonedIn, zoneLen};
 ghost use Rattle.sheet.specs.Encode.{bit};
 ghost use Rattle.sheet.specs.Bounds.{Bounded};
 ghost use Rattle.buffers.specs.Writes.{side};
-ghost use Rattle.buffers.specs.Region.{Room, Inside, Ready, movedLink, movedLabel, goalHead, CopiedHead, CopiedRecord, CopiedChain};
+ghost use Rattle.buffers.specs.Region.{Room, Inside, Ready, movedLink, movedLabel, goalHead, CopiedHead, CopiedBare, CopiedRecord, CopiedChain};
 use crate::Goal;
 use crate::Out;
 use crate::Space;
 use crate::Spot;
+use crate::alike::is_zoned;
 use crate::write::look;
 use crate::write::put_head;
 use crate::write::put_label;
@@ -133,6 +134,36 @@ pub fn copy_head(
         at: at + 1,
         label: label + zlen,
     })
+}
+
+// Copies the head of record `link`, which has no zone, to a goal, as the last of its chain.
+pub(crate) fn copy_bare(work: &mut [u8], space: Space, h: Head, link: usize, g: Goal) -> Out
+    requires { ⌜ (Room (now work) space × Ready space g) × ((g .at < space .n) × (Bounded h × (zonedIn h ≡ false))) ⌝ }
+    ensures { λ o. ⌜ CopiedBare space (now (work .entry)) (now (work .exit)) h link g o ⌝ }
+{
+    let at = g.at;
+    let label = g.label + g.nlen;
+    put_head(work, space.half + 16 * at, goal_head(h, link, g, 0));
+    Out::Done(Spot { at: at + 1, label })
+}
+
+// The same for a record of a side that may have a zone, as that of a wrapper has not.
+pub fn copy_parent(
+    sheet: &[u8],
+    work: &mut [u8],
+    space: Space,
+    swap: bool,
+    h: Head,
+    link: usize,
+    g: Goal,
+) -> Out
+    requires { ⌜ (Room (now work) space × Ready space g) × ((g .at < space .n) × Bounded h) ⌝ }
+    ensures { λ o. ⌜ CopiedHead space (side swap (now (sheet .entry)) (now (work .entry))) (now (work .entry)) (now (work .exit)) h link g 0 o ⌝ }
+{
+    if is_zoned(h) {
+        return copy_head(sheet, work, space, swap, h, link, g, 0);
+    }
+    copy_bare(work, space, h, link, g)
 }
 
 pub fn is_nullable(h: Head) -> bool

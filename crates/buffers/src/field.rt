@@ -11,6 +11,8 @@ use crate::Goal;
 use crate::Out;
 use crate::Space;
 use crate::Spot;
+use crate::alike::is_zoned;
+use crate::copy::copy_bare;
 use crate::copy::is_nullable;
 use crate::lay::copy_type;
 use crate::lay::lay_plain;
@@ -95,6 +97,44 @@ pub fn copy_field(
             nullable,
         };
         return copy_type(sheet, work, space, swap, link, g);
+    }
+    Out::Full
+}
+
+// The same, quicker where the field has neither parts nor a zone, as the indices of a wrapper.
+pub fn copy_index(
+    sheet: &[u8],
+    work: &mut [u8],
+    space: Space,
+    swap: bool,
+    link: usize,
+    to: Spot,
+) -> Out
+    requires { ⌜ Room (now work) space × Inside space to ⌝ }
+    ensures { λ o. ⌜ CopiedField space (side swap (now (sheet .entry)) (now (work .entry))) (now (work .entry)) (now (work .exit)) link to o ⌝ }
+{
+    let h = look(sheet, &*work, swap, link);
+    let at = to.at;
+    let label = to.label;
+    let nlen = h.nlen;
+    let nullable = is_nullable(h);
+    if is_zoned(h) {
+        return copy_field(sheet, work, space, swap, link, to);
+    }
+    if h.first != 0 {
+        return copy_field(sheet, work, space, swap, link, to);
+    }
+    if space.n <= at {
+        return Out::Full;
+    }
+    if name_field(sheet, work, space, swap, h, to) {
+        let g = Goal {
+            at,
+            label,
+            nlen,
+            nullable,
+        };
+        return copy_bare(work, space, h, link, g);
     }
     Out::Full
 }

@@ -14,7 +14,7 @@ abbrev μ-loop : tie.MeasureT-loop
 μ-loop work₀ from len at i₀ work i = len - i
 
 loop-holds : tie.Need-loop-holds Inv-loop μ-loop
-loop-holds c = (put-none (c .args .work .now) (c .args .from) (c .args .at) (omega arith) (omega arith), omega arith)
+loop-holds c = (put-none (c .args .work .now) (drop (c .args .from) (c .args .work .now)) (c .args .at) (omega arith), omega arith)
 
 add-work : tie.Need-add-work Inv-loop μ-loop
 add-work c = search needs
