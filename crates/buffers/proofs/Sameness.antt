@@ -263,6 +263,11 @@ module _ (s : List ℕ) (floor i : ℕ) (t : List ℕ) (j : ℕ) (past : floor <
 pub apart-longer : (s : List ℕ) (floor i : ℕ) (t : List ℕ) (j : ℕ) → i ≤ floor → ¬ (j ≡ 0) → Apart s floor i t j
 apart-longer s floor i t j h z n m named r o up a r′ o′ up′ b x y = sym (ne-eqb j 0 z) ∙ fields-none s n floor i t m j named h r o up a r′ o′ up′ b x y
 
+-- shapes of unlike kinds
+pub shapes-unlike : (a b : Shape) → ¬ (a .kind ≡ b .kind) → sameShape a b ≡ false
+unfolding sameShape
+shapes-unlike a b ne = all-not _ 0 (ne-eqb (a .kind) (b .kind) ne)
+
 -- two types, by their shapes and their parts
 module _ (s : List ℕ) (n i : ℕ) (t : List ℕ) (m j : ℕ) (named : Bool) (g h : Head) (eg : g ≡ headAt s i) (eh : h ≡ headAt t j)
     {v : Bool} (ev : v ≡ sameShape (shapeOf s n g) (shapeOf t m h)) where

@@ -198,6 +198,9 @@ pub fn same_type(a: &[u8], n: usize, i: usize, b: &[u8], m: usize, j: usize, nam
 {
     let g = head_at(a, i);
     let h = head_at(b, j);
+    if g.kind != h.kind {
+        return false;
+    }
     if same_shape(a, n, g, b, m, h) {
         if g.first + h.first == 0 {
             return true;
