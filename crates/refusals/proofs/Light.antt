@@ -13,7 +13,7 @@ use Rattle.sheet.specs.Kind.{isDecimal, cap, partsRight, namesParts}
 use Rattle.sheet.specs.Head.{byQuads, nullableIn, zonedIn, zoneLen, labelled}
 use Rattle.sheet.specs.Refusals.{decimalRight, figureRight, figuresRight, recordRight, placed, labelRight}
 use Rattle.sheet.specs.declared.Head.{Head}
-use Rattle.refusals.specs.Sound.{light, usualDecimal, plain, Passes}
+use Rattle.refusals.specs.Packed.{light, usualDecimal, plain, Passes}
 use Rattle.sheet.proofs.Tests.{never, and-fst, and-snd, all-not, all-nil, all-cons}
 use Rattle.sheet.proofs.Figures.{figure-none, size-none, record-plain, labels-named, parts-none}
 

@@ -12,7 +12,7 @@ use Rattle.sheet.specs.Tests.{between}
 use Rattle.sheet.specs.Head.{nullableIn, sortedIn, zonedIn, zoneAt, zoneLen, labelled}
 use Rattle.sheet.specs.Refusals.{figureRight, sizeRight, figuresRight, recordRight, placed, labelRight}
 use Rattle.sheet.specs.declared.Head.{Head}
-use Rattle.refusals.specs.Sound.{Stamped, Passes}
+use Rattle.refusals.specs.Packed.{Stamped, Passes}
 use Rattle.sheet.proofs.Tests.{all-nil, all-cons}
 use Rattle.sheet.proofs.Figures.{labels-named}
 

@@ -1,4 +1,4 @@
 pub mod Limits
 pub mod Found
 pub mod Walk
-pub mod Sound
+pub mod Packed

@@ -1,6 +1,6 @@
 // The check of a sheet, which gives refusals 1 to 5.
 pub mod header;
-mod sound;
+mod pass;
 mod walk;
 
 ghost use mathlib.Core.Path.{_≡_};
@@ -16,7 +16,7 @@ use names::twins::twins;
 use sheet::Checked;
 use sheet::Refusal;
 use sheet::record::word_at;
-use sound::walk_all;
+use walk::walk_all;
 
 // What a walk has found so far: the next record, the next label, and whether a figure or a label is wrong.
 struct Progress {

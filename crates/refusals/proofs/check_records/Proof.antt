@@ -16,7 +16,7 @@ use Rattle.refusals.proofs.check_records.Lts as lts
 use Rattle.refusals.proofs.check_found.Reads as check-found-reads
 use Rattle.refusals.proofs.header.odd_kind.Reads as odd-kind-reads
 use Rattle.refusals.proofs.start_link.Reads as start-link-reads
-use Rattle.refusals.proofs.sound.walk_all.Reads as walk-all-reads
+use Rattle.refusals.proofs.walk.walk_all.Reads as walk-all-reads
 
 -- src/lib.rt:88:8
 odd-kind-requires : tie.Need-odd-kind-requires
