@@ -2,15 +2,13 @@
 use mathlib.Core.Path.{_≡_, refl, ap, sym, subst, _∙_}
 use mathlib.Core.Bool.{Bool, true, false, not, cond, _&&_, _||_}
 use mathlib.Core.Logic.{_⊎_, inl, inr, ⊎-elim}
-use mathlib.Core.List.{List, [], _∷_}
 use Prim.Native.Nat.{ℕ, _+_, _*_, _/_, _%_, _<_, _≤_}
 use native.Mathlib.Omega.{arith}
-use lib.ListN.{length}
 use lib.Dec.{eqb, ltb, leb}
 use borrow.Author.Tests.{eq-eqb, ne-eqb, eqb-true, lt-ltb, ltb-true, lt-leb, le-leb, leb-true}
-use Rattle.sheet.specs.Tests.{allOf, implies, between}
+use Rattle.sheet.specs.Tests.{implies, between}
 use Rattle.sheet.specs.Kind.{isDecimal, cap, partsRight, namesParts}
-use Rattle.sheet.specs.Head.{byQuads, nullableIn, zonedIn, zoneLen, labelled}
+use Rattle.sheet.specs.Head.{byQuads, nullableIn, zonedIn, zoneLen}
 use Rattle.sheet.specs.Refusals.{decimalRight, figureRight, figuresRight, recordRight, placed, labelRight}
 use Rattle.sheet.specs.declared.Head.{Head}
 use Rattle.refusals.specs.Packed.{light, usualDecimal, plain, Passes}

@@ -2,7 +2,7 @@
 use mathlib.Core.Path.{_≡_, refl, ap, sym, subst, _∙_}
 use mathlib.Core.Bool.{Bool, true, false, cond}
 use mathlib.Core.List.{List}
-use Prim.Native.Nat.{ℕ, zero, suc, _+_, _*_, _-_, _/_, _%_, _<_, _≤_}
+use Prim.Native.Nat.{ℕ, _+_, _*_, _-_, _/_, _%_, _<_, _≤_}
 use native.Mathlib.Omega.{arith}
 use lib.ListN.{length}
 use lib.Dec.{eqb}
@@ -26,19 +26,19 @@ module _ (s : List ℕ) (n up link : ℕ) (p : Progress) (k : ℕ) where
   pub tells-lost : Walks s n up link p k Lost → Tells s n up link p k 0
   tells-lost w = record { walks = w; small = omega arith }
 
-  pub tells-came : (due j found : ℕ) → 0 < due → due < 65536 → j < 65536 → found < 4194304
-      → Walks s n up link p k (Came (progressOf due found) j) → Tells s n up link p k (due + 65536 * j + 4294967296 * found)
+  pub tells-came : (due j found : ℕ) → 0 < due → due < 65536 → j < 4096 → found < 17179869184
+      → Walks s n up link p k (Came (progressOf due found) j) → Tells s n up link p k (due + 65536 * j + 268435456 * found)
   tells-came due j found some a b small w =
-      let m : (due + 65536 * j + 4294967296 * found) / 65536 ≡ j + 65536 * found = omega arith in
-      let e₁ : due ≡ (due + 65536 * j + 4294967296 * found) % 65536 = omega arith in
-      let e₂ : found ≡ (due + 65536 * j + 4294967296 * found) / 4294967296 = omega arith in
-      let e₃ : j ≡ (j + 65536 * found) % 65536 = omega arith in
+      let m : (due + 65536 * j + 268435456 * found) / 65536 ≡ j + 4096 * found = omega arith in
+      let e₁ : due ≡ (due + 65536 * j + 268435456 * found) % 65536 = omega arith in
+      let e₂ : found ≡ (due + 65536 * j + 268435456 * found) / 268435456 = omega arith in
+      let e₃ : j ≡ (j + 4096 * found) % 4096 = omega arith in
       record {
         walks =
             subst (λ (o : Walked). Walks s n up link p k o)
-            ((λ i. Came (progressOf (e₁ i) (e₂ i)) ((e₃ ∙ ap (λ (x : ℕ). x % 65536) (sym m)) i))
-            ∙ sym (ap (λ (z : Bool). cond z Lost (Came (progressOf ((due + 65536 * j + 4294967296 * found) % 65536) ((due + 65536 * j + 4294967296 * found) / 4294967296)) ((due + 65536 * j + 4294967296 * found) / 65536 % 65536)))
-            (ne-eqb (due + 65536 * j + 4294967296 * found) 0 (λ g. omega (arith, some, g)))))
+            ((λ i. Came (progressOf (e₁ i) (e₂ i)) ((e₃ ∙ ap (λ (x : ℕ). x % 4096) (sym m)) i))
+            ∙ sym (ap (λ (z : Bool). cond z Lost (Came (progressOf ((due + 65536 * j + 268435456 * found) % 65536) ((due + 65536 * j + 268435456 * found) / 268435456)) ((due + 65536 * j + 268435456 * found) / 65536 % 4096)))
+            (ne-eqb (due + 65536 * j + 268435456 * found) 0 (λ g. omega (arith, some, g)))))
             w;
         small = omega (arith, e₂, small);
       }
@@ -46,11 +46,11 @@ module _ (s : List ℕ) (n up link : ℕ) (p : Progress) (k : ℕ) where
   module _ (r : ℕ) (t : Tells s n up link p k r) where
     pub told-lost : r ≡ 0 → Walks s n up link p k Lost
     told-lost z =
-        subst (λ (b : Bool). Walks s n up link p k (cond b Lost (Came (progressOf (r % 65536) (r / 4294967296)) (r / 65536 % 65536)))) (eq-eqb r 0 z) (t .walks)
+        subst (λ (b : Bool). Walks s n up link p k (cond b Lost (Came (progressOf (r % 65536) (r / 268435456)) (r / 65536 % 4096)))) (eq-eqb r 0 z) (t .walks)
 
-    pub told-came : ¬ (r ≡ 0) → Walks s n up link p k (Came (progressOf (r % 65536) (r / 4294967296)) (r / 65536 % 65536))
+    pub told-came : ¬ (r ≡ 0) → Walks s n up link p k (Came (progressOf (r % 65536) (r / 268435456)) (r / 65536 % 4096))
     told-came ne =
-        subst (λ (b : Bool). Walks s n up link p k (cond b Lost (Came (progressOf (r % 65536) (r / 4294967296)) (r / 65536 % 65536)))) (ne-eqb r 0 ne) (t .walks)
+        subst (λ (b : Bool). Walks s n up link p k (cond b Lost (Came (progressOf (r % 65536) (r / 268435456)) (r / 65536 % 4096)))) (ne-eqb r 0 ne) (t .walks)
 
 -- farther along a row
 ready-on : (n r q found k : ℕ) → Ready n (progressOf r found) 0 → r ≤ q → q ≤ n → k ≤ q → Ready n (progressOf q found) k
@@ -75,7 +75,7 @@ module _ (s : List ℕ) (n : ℕ) (bytes : Plain s) (long : 16 * n ≤ length s)
       let same : found ≡ found + 0 = omega arith in
       walk-bare s n up q (progressOf q found) k refl lt (byQuads a b c d) plain-head (progressOf (q + 1) found)
       ((λ i. progressOf (q + 1) (same i))
-      ∙ right-past (byQuads a b c d) up found 0 (omega (arith, ready .short, ready .inside, ready .few)) (plain-passes a b c d p up (found % 1048576)) (omega arith) q)
+      ∙ right-past (byQuads a b c d) up found 0 (omega (arith, ready .short, ready .inside, ready .few)) (plain-passes a b c d p up (found % 4294967296)) (omega arith) q)
       ready (omega arith) z (plain-parts a b c d p) o
       (subst (λ (j : ℕ). Walks s n up j (progressOf (q + 1) found) (k + 1) o) e v)
 
@@ -104,49 +104,47 @@ row-end s n r e g =
     ((λ q. absurd (omega arith)), λ q. subst (λ (j : ℕ). Row s n r j 0) same g)
 
 -- where a chain begins with a row
-module _ (s : List ℕ) (n up link due found : ℕ) (e : link ≡ due) (ready : Ready n (progressOf due found) 0) (small : found < 4194304) (row : ℕ) where
-  pub row-ready : Row s n due row row → Ready n (progressOf row found) (row - due)
-  row-ready g = ready-on n due row found (row - due) ready (g .some) (g .inside) (omega arith)
+module _ (s : List ℕ) (n due found : ℕ) (ready : Ready n (progressOf due found) 0) where
+  pub row-ready : (row link : ℕ) → Row s n due row link → Ready n (progressOf row found) (row - due)
+  row-ready row link g = ready-on n due row found (row - due) ready (g .some) (g .inside) (omega arith)
 
-  pub row-tells : Row s n due row row → (r : ℕ) → Tells s n up row (progressOf row found) (row - due) r → Tells s n up link (progressOf due found) 0 r
-  row-tells g r t =
-      record {
-        walks = subst (λ (j : ℕ). Walks s n up j (progressOf due found) 0 (walkedOf r)) (sym e) (g .on (walkedOf r) up found ready (t .walks));
-        small = t .small;
-      }
+  module _ (link : ℕ) where
+    pub row-tells : link ≡ due → (up row : ℕ) → Row s n due row row → (r : ℕ)
+        → Tells s n up row (progressOf row found) (row - due) r → Tells s n up link (progressOf due found) 0 r
+    row-tells e up row g r t =
+        record {
+          walks = subst (λ (j : ℕ). Walks s n up j (progressOf due found) 0 (walkedOf r)) (sym e) (g .on (walkedOf r) up found ready (t .walks));
+          small = t .small;
+        }
 
-  pub row-ends : Row s n due row 0 → Tells s n up link (progressOf due found) 0 (row + 65536 * (row - due) + 4294967296 * found)
-  row-ends g =
-      tells-came s n up link (progressOf due found) 0 row (row - due) found
-      (omega (arith, ready .some, g .some)) (omega (arith, g .inside, ready .few)) (omega (arith, g .inside, ready .few)) small
-      (subst (λ (j : ℕ). Walks s n up j (progressOf due found) 0 (Came (progressOf row found) (row - due))) (sym e)
-      (g .on (Came (progressOf row found) (row - due)) up found ready
-      (walk-none s n up 0 (progressOf row found) (row - due) (ready-on n due row found (row - due) ready (g .some) (g .inside) (omega arith)) refl)))
+    pub begun-lost : ¬ (link ≡ due) → Begun s n link due found 0
+    begun-lost ne = record { lost = λ z. ne; same = λ z. absurd (z refl); row = λ z. absurd (z refl); tells = λ q. absurd (omega arith) }
 
--- what is known where a walk begins
-module _ (s : List ℕ) (n link due found : ℕ) (ready : Ready n (progressOf due found) 0) where
-  pub begun-lost : ¬ (link ≡ due) → Begun s n link due found 0
-  begun-lost ne = record { lost = λ z. ne; same = λ z. absurd (z refl); row = λ z. absurd (z refl); tells = λ q. absurd (omega arith) }
+    pub begun-row : (r : ℕ) → link ≡ due → r < 65536 → Row s n due r r → Begun s n link due found r
+    begun-row r e lt g =
+        record {
+          lost = λ z. absurd (omega (arith, z, ready .some, g .some));
+          same = λ z q. e;
+          row = λ z q. g;
+          tells = λ q. absurd (omega arith);
+        }
 
-  pub begun-row : (r : ℕ) → link ≡ due → r < 65536 → Row s n due r r → Begun s n link due found r
-  begun-row r e lt g =
-      record {
-        lost = λ z. absurd (omega (arith, z, ready .some, g .some));
-        same = λ z q. e;
-        row = λ z q. g;
-        tells = λ q. absurd (omega arith);
-      }
-
-  pub begun-end : (end : ℕ) → link ≡ due → found < 4194304 → Row s n due end 0
-      → Begun s n link due found (end + 65536 * (end - due) + 4294967296 * found)
-  begun-end end e small g =
-      let some : due < end = g .past (omega (arith, ready .some, g .some)) in
-      record {
-        lost = λ z. absurd (omega (arith, z, some));
-        same = λ z q. e;
-        row = λ z q. absurd (omega (arith, q, some));
-        tells = λ q up. row-ends s n up link due found e ready small end g;
-      }
+    pub begun-end : (end : ℕ) → link ≡ due → found < 17179869184 → Row s n due end 0
+        → Begun s n link due found (end + 65536 * (end - due) + 268435456 * found)
+    begun-end end e small g =
+        let past : due < end = g .past (omega (arith, ready .some, g .some)) in
+        record {
+          lost = λ z. absurd (omega (arith, z, past));
+          same = λ z q. e;
+          row = λ z q. absurd (omega (arith, q, past));
+          tells =
+              λ q up.
+              tells-came s n up link (progressOf due found) 0 end (end - due) found
+              (omega (arith, past)) (omega (arith, g .inside, ready .few)) (omega (arith, g .inside, ready .few)) small
+              (subst (λ (j : ℕ). Walks s n up j (progressOf due found) 0 (Came (progressOf end found) (end - due))) (sym e)
+              (g .on (Came (progressOf end found) (end - due)) up found ready
+              (walk-none s n up 0 (progressOf end found) (end - due) (row-ready end 0 g) refl)));
+        }
 
 -- past a record
 module _ (s : List ℕ) (n up link due found k : ℕ) (long : 16 * n ≤ length s) (e : link ≡ due) (lt : due < n)
@@ -175,10 +173,10 @@ module _ (s : List ℕ) (n up link due found k : ℕ) (long : 16 * n ≤ length 
         (told-lost s n (h .kind) (h .first) (progressOf (due + 1) r) 0 inner t z)
 
     module _ (ne : ¬ (inner ≡ 0)) where
-      came : Walks s n (h .kind) (h .first) (progressOf (due + 1) r) 0 (Came (progressOf (inner % 65536) (inner / 4294967296)) (inner / 65536 % 65536))
+      came : Walks s n (h .kind) (h .first) (progressOf (due + 1) r) 0 (Came (progressOf (inner % 65536) (inner / 268435456)) (inner / 65536 % 4096))
       came = told-came s n (h .kind) (h .first) (progressOf (due + 1) r) 0 inner t ne
 
-      pub parts-ready : Ready n (progressOf (inner % 65536) (inner / 4294967296)) (k + 1)
+      pub parts-ready : Ready n (progressOf (inner % 65536) (inner / 268435456)) (k + 1)
       parts-ready =
           let g = came .grows in
           record {
@@ -192,11 +190,11 @@ module _ (s : List ℕ) (n up link due found k : ℕ) (long : 16 * n ≤ length 
       pub parts-farther : due + 1 ≤ inner % 65536
       parts-farther = came .grows .1
 
-      pub parts-wrong : partsRight (h .kind) (inner / 65536 % 65536) ≡ false → Walks s n up link (progressOf due found) k Lost
+      pub parts-wrong : partsRight (h .kind) (inner / 65536 % 4096) ≡ false → Walks s n up link (progressOf due found) k Lost
       parts-wrong = walk-parts-wrong s n up link (progressOf due found) k e lt h head-is (progressOf (due + 1) r) past
-          (progressOf (inner % 65536) (inner / 4294967296)) (inner / 65536 % 65536) came
+          (progressOf (inner % 65536) (inner / 268435456)) (inner / 65536 % 4096) came
 
-      pub parts-on : partsRight (h .kind) (inner / 65536 % 65536) ≡ true → (o : Walked)
-          → Walks s n up (h .next) (progressOf (inner % 65536) (inner / 4294967296)) (k + 1) o → Walks s n up link (progressOf due found) k o
+      pub parts-on : partsRight (h .kind) (inner / 65536 % 4096) ≡ true → (o : Walked)
+          → Walks s n up (h .next) (progressOf (inner % 65536) (inner / 268435456)) (k + 1) o → Walks s n up link (progressOf due found) k o
       parts-on = walk-on s n up link (progressOf due found) k e lt h head-is (progressOf (due + 1) r) past
-          (progressOf (inner % 65536) (inner / 4294967296)) (inner / 65536 % 65536) came
+          (progressOf (inner % 65536) (inner / 268435456)) (inner / 65536 % 4096) came

@@ -1,16 +1,15 @@
 -- A Timestamp with a zone, and what its bytes 4 to 7 say of its labels. Assumes nothing.
 use mathlib.Core.Path.{_≡_, refl, ap, sym, _∙_}
 use mathlib.Core.Bool.{Bool, true, false, not, cond}
-use mathlib.Core.List.{List, [], _∷_}
-use Prim.Native.Nat.{ℕ, _+_, _*_, _/_, _%_, _<_, _≤_}
+use Prim.Native.Nat.{ℕ, _+_, _/_, _%_, _<_, _≤_}
 use native.Mathlib.Omega.{arith}
 use lib.Dec.{eqb, ltb, leb}
 use borrow.Author.Tests.{eq-eqb, ne-eqb, lt-ltb, le-leb}
 use Rattle.sheet.specs.Tests.{implies}
 use Rattle.sheet.specs.Kind.{namesParts, isDecimal, lastUnit, sized}
 use Rattle.sheet.specs.Tests.{between}
-use Rattle.sheet.specs.Head.{nullableIn, sortedIn, zonedIn, zoneAt, zoneLen, labelled}
-use Rattle.sheet.specs.Refusals.{figureRight, sizeRight, figuresRight, recordRight, placed, labelRight}
+use Rattle.sheet.specs.Head.{sortedIn, zonedIn, zoneAt, zoneLen, labelled}
+use Rattle.sheet.specs.Refusals.{figureRight, sizeRight, figuresRight, recordRight, placed}
 use Rattle.sheet.specs.declared.Head.{Head}
 use Rattle.refusals.specs.Packed.{Stamped, Passes}
 use Rattle.sheet.proofs.Tests.{all-nil, all-cons}

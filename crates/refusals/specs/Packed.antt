@@ -1,6 +1,6 @@
 -- What the numbers say that a walk carries.
 use mathlib.Core.Path.{_≡_}
-use mathlib.Core.Bool.{Bool, true, false, cond, _&&_, _||_}
+use mathlib.Core.Bool.{Bool, true, cond, _&&_, _||_}
 use mathlib.Core.List.{List}
 use Prim.Native.Nat.{ℕ, _+_, _-_, _/_, _%_, _<_, _≤_}
 use lib.Dec.{eqb, ltb, leb}
@@ -12,14 +12,14 @@ use Rattle.refusals.specs.declared.Progress.{Progress}
 use Rattle.refusals.specs.declared.Walked.{Walked}
 use Rattle.refusals.specs.declared.Walked.the-variants.{Came, Lost}
 
--- what was found, at + 2²⁰ · figure + 2²¹ · label, before the record that is due
+-- what was found, at + 2³² · figure + 2³³ · label, before the record that is due
 abbrev pub progressOf : ℕ → ℕ → Progress
 progressOf due found =
-    record { due = due; at = found % 1048576; figure = eqb (found / 1048576 % 2) 1; label = eqb (found / 2097152 % 2) 1 }
+    record { due = due; at = found % 4294967296; figure = eqb (found / 4294967296 % 2) 1; label = eqb (found / 8589934592 % 2) 1 }
 
--- how a walk ended, due + 2¹⁶ · k + 2³² · found for k records in its chain, or 0
+-- how a walk ended, due + 2¹⁶ · k + 2²⁸ · found for k records in its chain, or 0
 abbrev pub walkedOf : ℕ → Walked
-walkedOf r = cond (eqb r 0) Lost (Came (progressOf (r % 65536) (r / 4294967296)) (r / 65536 % 65536))
+walkedOf r = cond (eqb r 0) Lost (Came (progressOf (r % 65536) (r / 268435456)) (r / 65536 % 4096))
 
 -- no flag but the first, no size, and the figures are right
 unfoldable pub light : Head → Bool
@@ -56,8 +56,8 @@ plain a b d =
 -- past a record: what was found becomes r
 pub record Passed (h : Head) (up found r : ℕ) : Type 0 where
   pub past : (due : ℕ) → progressOf (due + 1) r ≡ passHead h up (progressOf due found)
-  pub few : r % 1048576 ≤ found % 1048576 + 510
-  pub small : r < 4194304
+  pub few : r % 4294967296 ≤ found % 4294967296 + 510
+  pub small : r < 17179869184
 
 -- the records from r to e - 1 are plain and each leads to the following one, but that the link of the last is the one given
 pub record Row (s : List ℕ) (n r e link : ℕ) : Type 0 where
@@ -70,7 +70,7 @@ pub record Row (s : List ℕ) (n r e link : ℕ) : Type 0 where
 -- what the number r tells of a walk
 pub record Tells (s : List ℕ) (n up link : ℕ) (p : Progress) (k r : ℕ) : Type 0 where
   pub walks : Walks s n up link p k (walkedOf r)
-  pub small : r / 4294967296 < 4194304
+  pub small : r / 268435456 < 17179869184
 
 -- how a walk begins with a row: r tells of the whole walk from 2¹⁶ on, and below is the record at which the row stops, or 0
 pub record Begun (s : List ℕ) (n link due found r : ℕ) : Type 0 where

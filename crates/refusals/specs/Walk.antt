@@ -1,10 +1,8 @@
 -- The walk as the code makes it: what has been found on the way, and what is left to walk.
 use mathlib.Core.Path.{_≡_}
-use Prim.Native.Nat.{ℕ, zero, suc, _+_, _*_, _<_, _≤_}
-use mathlib.Core.Bool.{Bool, true, false, not, _&&_, _||_}
+use Prim.Native.Nat.{ℕ, _+_, _*_, _<_, _≤_}
+use mathlib.Core.Bool.{true, false, not, _||_}
 use mathlib.Core.List.{List, [], _∷_}
-use lib.Dec.{eqb}
-use Rattle.sheet.specs.Kind.{isDecimal}
 use Rattle.sheet.specs.Types.{Fields, arity}
 use Rattle.sheet.specs.Head.{headAt, labelled}
 use Rattle.sheet.specs.Read.{walkFrom}
@@ -13,11 +11,6 @@ use Rattle.sheet.specs.declared.Head.{Head}
 use Rattle.refusals.specs.declared.Progress.{Progress}
 use Rattle.refusals.specs.declared.Walked.{Walked}
 use Rattle.refusals.specs.declared.Walked.the-variants.{Came, Lost}
-
--- a record that says nothing but its kind and its links, and is no decimal
-unfoldable pub bare : Head → Bool
-bare h =
-    eqb (h .flags + h .figure + h .scale + h .quad + (h .name + h .nlen + h .last)) 0 && not (isDecimal (h .kind))
 
 -- past a record, in one of kind up
 abbrev pub passHead : Head → ℕ → Progress → Progress

@@ -42,7 +42,7 @@ fn is_light(a: usize, b: usize) -> bool
 // How many label bytes a light record has that is a part of one of kind up, after what was found, by its first and its last number of 32 bits.
 fn light_labels(a: usize, d: usize, up: u8, found: usize) -> usize
     requires { ⌜ light (byQuads a 0 0 0) ≡ true ⌝ }
-    ensures { λ r. ⌜ Passes (byQuads a 0 0 d) up (found % 1048576) r ⌝ }
+    ensures { λ r. ⌜ Passes (byQuads a 0 0 d) up (found % 4294967296) r ⌝ }
 {
     if d == 0 {
         if a / 256 % 256 == 0 {
@@ -60,7 +60,7 @@ fn light_labels(a: usize, d: usize, up: u8, found: usize) -> usize
         return 511;
     }
     if names_parts(up) {
-        if d % 65536 == found % 1048576 {
+        if d % 65536 == found % 4294967296 {
             return d / 65536;
         }
     }
@@ -100,7 +100,7 @@ fn is_stamped(h: Head) -> bool
 
 // How many label bytes such a record has, by its bytes 4 to 7.
 fn zone_labels(quad: usize, found: usize) -> usize
-    ensures { λ r. ⌜ ((h : Declared.Head) (up : ℕ) → Stamped h → h .quad ≡ quad → Passes h up (found % 1048576) r) ⌝ }
+    ensures { λ r. ⌜ ((h : Declared.Head) (up : ℕ) → Stamped h → h .quad ≡ quad → Passes h up (found % 4294967296) r) ⌝ }
 {
     let at = quad % 65536;
     let len = quad / 65536;
@@ -110,7 +110,7 @@ fn zone_labels(quad: usize, found: usize) -> usize
         }
         return 511;
     }
-    if at == found % 1048576 {
+    if at == found % 4294967296 {
         if len < 256 {
             return len;
         }
@@ -130,20 +130,20 @@ fn mark(b: bool, x: usize) -> usize
     if b { x } else { 0 }
 }
 
-// Goes past a record, by every test. The number `found` is the offset of the next label, with 2²⁰ where a figure is wrong and 2²¹ where a label is.
+// Goes past a record, by every test. The number `found` is the offset of the next label, with 2³² where a figure is wrong and 2³³ where a label is.
 fn pass_open(h: Head, up: u8, found: usize) -> usize
-    requires { ⌜ (found % 1048576 < 1000000) × Bounded h ⌝ }
+    requires { ⌜ (found % 4294967296 < 1000000) × Bounded h ⌝ }
     ensures { λ r. ⌜ Passed h up found r ⌝ }
 {
-    let at = found % 1048576;
-    let figure = either(found / 1048576 % 2 == 1, !record_right(h, up));
-    let label = either(found / 2097152 % 2 == 1, !label_right(h, up, at));
-    at + label_bytes(h) + mark(figure, 1048576) + mark(label, 2097152)
+    let at = found % 4294967296;
+    let figure = either(found / 4294967296 % 2 == 1, !record_right(h, up));
+    let label = either(found / 8589934592 % 2 == 1, !label_right(h, up, at));
+    at + label_bytes(h) + mark(figure, 4294967296) + mark(label, 8589934592)
 }
 
 // Goes past the record at byte i, by the quick tests where these decide. It calls `pass_open` twice, so that this is not inlined.
 pub(crate) fn pass_record(s: &[u8], i: usize, up: u8, found: usize) -> usize
-    requires { ⌜ (i + 16 ≤ length (now s)) × ((found % 1048576 < 1000000) × (found < 4194304)) ⌝ }
+    requires { ⌜ (i + 16 ≤ length (now s)) × ((found % 4294967296 < 1000000) × (found < 17179869184)) ⌝ }
     ensures { λ r. ⌜ Passed (headFrom (now (s .entry)) i) up found r ⌝ }
 {
     let a = quad_at(s, i);

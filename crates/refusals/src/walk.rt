@@ -1,6 +1,6 @@
 // The walk over the records of a sheet, which finds what refusals 3, 4 and 5 are about. It carries what it found as one number.
 ghost use mathlib.Core.Path.{_≡_};
-ghost use Prim.Native.Nat.{ℕ, _+_, _*_, _-_, _<_, _≤_};
+ghost use Prim.Native.Nat.{_+_, _*_, _-_, _<_, _≤_};
 ghost use lib.ListN.{length};
 ghost use Rattle.refusals.specs.Walk.{Ready, Walks};
 ghost use Rattle.refusals.specs.Found.{outset};
@@ -68,7 +68,7 @@ fn plain_row(s: &[u8], n: usize, r: usize) -> usize
 
 // Follows the chain that a link leads to through such a row. Says how the walk of it came out where the row is all of it, and else at which record it stopped.
 fn row_walk(s: &[u8], n: usize, link: usize, due: usize, found: usize) -> usize
-    requires { ⌜ (16 * n ≤ length (now s)) × (Ready n (progressOf due found) 0 × (found < 4194304)) ⌝ }
+    requires { ⌜ (16 * n ≤ length (now s)) × (Ready n (progressOf due found) 0 × (found < 17179869184)) ⌝ }
     ensures { λ r. ⌜ Begun (now (s .entry)) n link due found r ⌝ }
 {
     if link == due {
@@ -77,14 +77,14 @@ fn row_walk(s: &[u8], n: usize, link: usize, due: usize, found: usize) -> usize
             return row;
         }
         let end = row - 65536;
-        return end + 65536 * (end - due) + 4294967296 * found;
+        return end + 65536 * (end - due) + 268435456 * found;
     }
     0
 }
 
 // Walks the chain that a link leads to, in a record of kind up.
 fn walk_chain(s: &[u8], n: usize, up: u8, link: usize, due: usize, found: usize) -> usize
-    requires { ⌜ (16 * n ≤ length (now s)) × (Ready n (progressOf due found) 0 × ((found < 4194304) × (0 < link))) ⌝ }
+    requires { ⌜ (16 * n ≤ length (now s)) × (Ready n (progressOf due found) 0 × ((found < 17179869184) × (0 < link))) ⌝ }
     ensures { λ r. ⌜ Tells (now (s .entry)) n up link (progressOf due found) 0 r ⌝ }
 {
     let r = row_walk(s, n, link, due, found);
@@ -99,7 +99,7 @@ fn walk_chain(s: &[u8], n: usize, up: u8, link: usize, due: usize, found: usize)
 
 // Walks the chain from the record that is due, of which k records are passed. Parts are walked by a call, the chain by the loop.
 fn walk_records(s: &[u8], n: usize, up: u8, due: usize, found: usize, k: usize) -> usize
-    requires { ⌜ (16 * n ≤ length (now s)) × (Ready n (progressOf due found) k × (found < 4194304)) ⌝ }
+    requires { ⌜ (16 * n ≤ length (now s)) × (Ready n (progressOf due found) k × (found < 17179869184)) ⌝ }
     ensures { λ r. ⌜ Tells (now (s .entry)) n up due (progressOf due found) k r ⌝ }
 {
     let mut link = due;
@@ -129,17 +129,17 @@ fn walk_records(s: &[u8], n: usize, up: u8, due: usize, found: usize, k: usize) 
         if inner == 0 {
             return 0;
         }
-        if parts_right(h.kind, inner / 65536 % 65536) {
+        if parts_right(h.kind, inner / 65536 % 4096) {
             due = inner % 65536;
-            found = inner / 4294967296;
+            found = inner / 268435456;
         } else {
             return 0;
         }
     }
-    due + 65536 * k + 4294967296 * found
+    due + 65536 * k + 268435456 * found
 }
 
-// The same as `walk_chain` for the listed types. It calls both, so that the first is inlined here.
+// Walks the chain of the listed types. It calls what `walk_chain` calls, so that `row_walk` is inlined here.
 fn walk_types(s: &[u8], n: usize, link: usize) -> usize
     requires { ⌜ (16 * n ≤ length (now s)) × Ready n outset 0 ⌝ }
     ensures { λ r. ⌜ Tells (now (s .entry)) n 0 link (progressOf 1 0) 0 r ⌝ }
@@ -166,12 +166,12 @@ pub(crate) fn walk_all(s: &[u8], n: usize, link: usize) -> Walked
     if r == 0 {
         return Walked::Lost;
     }
-    let found = r / 4294967296;
+    let found = r / 268435456;
     let p = Progress {
         due: r % 65536,
-        at: found % 1048576,
-        figure: found / 1048576 % 2 == 1,
-        label: found / 2097152 % 2 == 1,
+        at: found % 4294967296,
+        figure: found / 4294967296 % 2 == 1,
+        label: found / 8589934592 % 2 == 1,
     };
-    Walked::Came(p, r / 65536 % 65536)
+    Walked::Came(p, r / 65536 % 4096)
 }

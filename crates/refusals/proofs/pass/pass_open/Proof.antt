@@ -58,8 +58,8 @@ add-result-3 c = search needs
 returns : tie.Need-returns
 returns c =
     tested (c .before .before .before .before .before .before .before .args .h) (c .before .before .before .before .before .before .before .args .up) (c .before .before .before .before .before .before .before .args .found) (c .before .before .before .before .before .before .before .pre .0) _ (c .before .before .label-bytes .ensures .1) (c .before .before .label-bytes .ensures .0)
-    _ ((c .before .before .before .before .before .either .ensures) ∙ ap (λ (b : Bool). eqb ((c .before .before .before .before .before .before .before .args .found) / 1048576 % 2) 1 || not b) (c .before .before .before .before .before .before .record-right .ensures))
-    _ ((c .before .before .before .either2 .ensures) ∙ ap (λ (b : Bool). eqb ((c .before .before .before .before .before .before .before .args .found) / 2097152 % 2) 1 || not b) (c .before .before .before .before .label-right .ensures))
+    _ ((c .before .before .before .before .before .either .ensures) ∙ ap (λ (b : Bool). eqb ((c .before .before .before .before .before .before .before .args .found) / 4294967296 % 2) 1 || not b) (c .before .before .before .before .before .before .record-right .ensures))
+    _ ((c .before .before .before .either2 .ensures) ∙ ap (λ (b : Bool). eqb ((c .before .before .before .before .before .before .before .args .found) / 8589934592 % 2) 1 || not b) (c .before .before .before .before .label-right .ensures))
     _ _ (c .before .mark .ensures) (c .mark2 .ensures)
 
 pub pass-open-spec : {M : Type 1} → statement M

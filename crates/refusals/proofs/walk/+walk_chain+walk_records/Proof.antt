@@ -1,7 +1,7 @@
 use native.Mathlib.Omega.{arith}
 use borrow.Author.Needs.{needs}
 use Prim.Native.Nat.{_-_, _+_, _*_, _≤_}
-use mathlib.Core.Path.{_≡_, sym, _∙_}
+use mathlib.Core.Path.{sym, _∙_}
 use Rattle.refusals.specs.Walk.{Ready, Walks}
 use Rattle.refusals.specs.Packed.{progressOf}
 use Rattle.refusals.specs.declared.Walked.{Walked}
@@ -78,12 +78,12 @@ walk-chain-sub-walk-records t c =
 walk-chain-walk-records-requires : (t : ℕ) → walk-chain-lts.Need-walk-records-requires (walk-chain-calls t) (walk-chain-at t) walk-chain.Post
 walk-chain-walk-records-requires t c κs =
     let row = (c .before .before .row-walk .ensures .row) (c .before .if1 .left) (c .if2 .taken) in
-    (omega (arith, (c .before .before .before .before .pre .0), row .some), ((c .before .before .before .before .pre .1 .0), (row-ready _ _ (c .before .before .before .before .args .up) _ _ (c .before .before .before .before .args .found) ((c .before .before .row-walk .ensures .same) (c .before .if1 .left) (c .if2 .taken)) (c .before .before .before .before .pre .1 .1 .0) (c .before .before .before .before .pre .1 .1 .1 .0) _ row, (c .before .before .before .before .pre .1 .1 .1 .0))))
+    (omega (arith, (c .before .before .before .before .pre .0), row .some), ((c .before .before .before .before .pre .1 .0), (row-ready _ _ _ (c .before .before .before .before .args .found) (c .before .before .before .before .pre .1 .1 .0) _ _ row, (c .before .before .before .before .pre .1 .1 .1 .0))))
 
 -- src/walk.rt:95:9
 walk-chain-returns-2 : (t : ℕ) → walk-chain-lts.Need-returns-2 (walk-chain-calls t) (walk-chain-at t) walk-chain.Post
 walk-chain-returns-2 t c =
-    row-tells _ _ (c .before .before .before .before .before .args .up) _ _ (c .before .before .before .before .before .args .found) ((c .before .before .before .row-walk .ensures .same) (c .before .before .if1 .left) (c .before .if2 .taken)) (c .before .before .before .before .before .pre .1 .1 .0) (c .before .before .before .before .before .pre .1 .1 .1 .0) _ ((c .before .before .before .row-walk .ensures .row) (c .before .before .if1 .left) (c .before .if2 .taken)) _ (c .walk-records .ensures)
+    row-tells _ _ _ (c .before .before .before .before .before .args .found) (c .before .before .before .before .before .pre .1 .1 .0) _ ((c .before .before .before .row-walk .ensures .same) (c .before .before .if1 .left) (c .before .if2 .taken)) (c .before .before .before .before .before .args .up) _ ((c .before .before .before .row-walk .ensures .row) (c .before .before .if1 .left) (c .before .if2 .taken)) _ (c .walk-records .ensures)
 
 -- src/walk.rt:86:1
 walk-chain-returns-3 : (t : ℕ) → walk-chain-lts.Need-returns-3 (walk-chain-calls t) (walk-chain-at t) walk-chain.Post
@@ -92,7 +92,7 @@ walk-chain-returns-3 t c =
 
 abbrev walk-records-Inv-loop : walk-records-lts.InvT-loop
 walk-records-Inv-loop s n up due found k link₀ due₀ found₀ k₀ link due' found' k' =
-    Ready n (progressOf due' found') k' × ((due₀ ≤ due') × ((found' < 4194304) × ((o : Walked) → Walks s n up link (progressOf due' found') k' o → Walks s n up link₀ (progressOf due₀ found₀) k₀ o)))
+    Ready n (progressOf due' found') k' × ((due₀ ≤ due') × ((found' < 17179869184) × ((o : Walked) → Walks s n up link (progressOf due' found') k' o → Walks s n up link₀ (progressOf due₀ found₀) k₀ o)))
 
 abbrev walk-records-μ-loop : walk-records-lts.MeasureT-loop
 walk-records-μ-loop s n up due found k link₀ due₀ found₀ k₀ link due' found' k' =
@@ -106,7 +106,7 @@ walk-records-loop-holds t c =
 -- src/walk.rt:111:13
 walk-records-returns : (t : ℕ) → walk-records-lts.Need-returns (walk-records-calls t) (walk-records-at t) walk-records.Post walk-records-Inv-loop walk-records-μ-loop
 walk-records-returns t c =
-    tells-lost _ _ _ _ _ _ ((c .before .before .loop .inv .1 .1 .1) _ (walk-lost _ _ _ _ _ _ (c .before .loop-test .taken) (c .if1 .taken)))
+    tells-lost _ _ _ _ _ _ ((c .before .before .loop .inv .1 .1 .1) _ (walk-lost _ _ _ _ _ _ (c .before .loop-test .taken) (omega (arith, (c .if1 .taken)))))
 
 -- src/walk.rt:114:13
 walk-records-returns-2 : (t : ℕ) → walk-records-lts.Need-returns-2 (walk-records-calls t) (walk-records-at t) walk-records.Post walk-records-Inv-loop walk-records-μ-loop

@@ -1,4 +1,3 @@
-use Prim.Native.Nat.{_+_}
 use borrow.Author.Tests.{eq-eqb, ne-eqb, lt-ltb, le-ltb}
 use borrow.Author.Needs.{needs}
 use Rattle.refusals.proofs.walk.is_plain.Statement.{statement}

@@ -1,5 +1,5 @@
-use mathlib.Core.Path.{_≡_, sym, subst, _∙_}
-use Prim.Native.Nat.{ℕ, _+_, _-_, _≤_}
+use mathlib.Core.Path.{sym, _∙_}
+use Prim.Native.Nat.{_-_}
 use native.Mathlib.Omega.{arith}
 use Rattle.refusals.specs.Packed.{Row}
 use Rattle.refusals.proofs.Packing.{row-none, row-more, row-stops, row-end}

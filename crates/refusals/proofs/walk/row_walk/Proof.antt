@@ -14,7 +14,7 @@ plain-row-requires c κs = search needs
 -- src/walk.rt:77:13
 returns : tie.Need-returns
 returns c =
-    begun-row _ _ _ _ _ (c .before .before .before .before .pre .1 .0) _ (c .before .before .if1 .taken) (c .if2 .taken) ((c .before .plain-row .ensures .0) (c .if2 .taken))
+    begun-row _ _ _ _ (c .before .before .before .before .pre .1 .0) _ _ (c .before .before .if1 .taken) (c .if2 .taken) ((c .before .plain-row .ensures .0) (c .if2 .taken))
 
 -- src/walk.rt:80:31
 sub-result : tie.Need-sub-result
@@ -46,12 +46,12 @@ add-result-2 c =
 -- src/walk.rt:80:9
 returns-2 : tie.Need-returns-2
 returns-2 c =
-    begun-end _ _ _ _ _ (c .before .before .before .before .pre .1 .0) _ (c .before .before .if1 .taken) (c .before .before .before .before .pre .1 .1) ((c .before .plain-row .ensures .1) (c .if2 .left))
+    begun-end _ _ _ _ (c .before .before .before .before .pre .1 .0) _ _ (c .before .before .if1 .taken) (c .before .before .before .before .pre .1 .1) ((c .before .plain-row .ensures .1) (c .if2 .left))
 
 -- src/walk.rt:70:1
 returns-3 : tie.Need-returns-3
 returns-3 c =
-    begun-lost _ _ _ _ _ (c .before .before .pre .1 .0) (c .if1 .left)
+    begun-lost _ _ _ _ (c .before .before .pre .1 .0) _ (c .if1 .left)
 
 pub row-walk-spec : {M : Type 1} → statement M
 row-walk-spec =

@@ -30,12 +30,12 @@ sub-walk-records c = search needs
 -- src/walk.rt:155:9
 walk-records-requires : tie.Need-walk-records-requires
 walk-records-requires c κs =
-    ((c .before .before .before .before .before .pre .0), (row-ready _ _ 0 _ 1 0 ((c .before .before .row-walk .ensures .same) (c .before .if2 .left) (c .if3 .taken)) (c .before .before .before .before .before .pre .1) (omega arith) _ ((c .before .before .row-walk .ensures .row) (c .before .if2 .left) (c .if3 .taken)), omega arith))
+    ((c .before .before .before .before .before .pre .0), (row-ready _ _ 1 0 (c .before .before .before .before .before .pre .1) _ _ ((c .before .before .row-walk .ensures .row) (c .before .if2 .left) (c .if3 .taken)), omega arith))
 
 -- src/walk.rt:155:9
 returns-3 : tie.Need-returns-3
 returns-3 c =
-    row-tells _ _ 0 _ 1 0 ((c .before .before .before .row-walk .ensures .same) (c .before .before .if2 .left) (c .before .if3 .taken)) (c .before .before .before .before .before .before .pre .1) (omega arith) _ ((c .before .before .before .row-walk .ensures .row) (c .before .before .if2 .left) (c .before .if3 .taken)) _ (c .walk-records .ensures)
+    row-tells _ _ 1 0 (c .before .before .before .before .before .before .pre .1) _ ((c .before .before .before .row-walk .ensures .same) (c .before .before .if2 .left) (c .before .if3 .taken)) 0 _ ((c .before .before .before .row-walk .ensures .row) (c .before .before .if2 .left) (c .before .if3 .taken)) _ (c .walk-records .ensures)
 
 -- src/walk.rt:143:1
 returns-4 : tie.Need-returns-4
