@@ -1,12 +1,13 @@
 -- The common type of two types: the test for sameness, and then the rules of the question. Assumes nothing.
-use mathlib.Core.Path.{_≡_, refl, ap, sym, _∙_}
+use mathlib.Core.Path.{_≡_, refl, ap, sym, subst, _∙_}
 use mathlib.Core.Bool.{Bool, true, false, cond, not, _&&_}
 use mathlib.Core.List.{List}
+use mathlib.Core.Logic.{_⊎_, inl, inr, ⊎-elim}
 use mathlib.Core.Option.{Option, none, some}
 use Prim.Native.Nat.{ℕ, _+_, _-_, _<_, _≤_}
 use native.Mathlib.Omega.{arith}
 use lib.Dec.{ltb}
-use borrow.Author.Tests.{ltb-true}
+use borrow.Author.Tests.{ltb-true, eq-eqb, ne-eqb}
 use Rattle.sheet.specs.Head.{headAt}
 use Rattle.sheet.proofs.Tests.{never, and-fst, and-snd}
 use Rattle.coercion.specs.Data.{DataType, Rules, size}
@@ -19,7 +20,7 @@ use Rattle.buffers.specs.Writes.{side}
 use Rattle.buffers.specs.Goal.{CopiedType}
 use Rattle.buffers.specs.Typed.{Typed, Merges}
 use Rattle.buffers.specs.Plain.{asked, rulesOf, isListQuestion, plainRules}
-use Rattle.merge.specs.Turns.{nestedOf, resolved, unwrapped, turnsFor, turnsOf}
+use Rattle.merge.specs.Turns.{nestedOf, resolved, unwrapped, eitherWrapped, rewrapped, turnsFor, turnsOf}
 use Rattle.merge.specs.Merge.{Differ, SameKnown, MergesKnown}
 use Rattle.buffers.specs.declared.Space.{Space}
 use Rattle.buffers.specs.declared.Goal.{Goal}
@@ -28,7 +29,11 @@ use Rattle.buffers.specs.declared.Question.the-variants as Question
 use Rattle.buffers.specs.declared.Out.{Out}
 use Rattle.buffers.specs.declared.Out.the-variants.{Done, No, Full}
 use Rattle.merge.proofs.Orders.{ask-turns, bare-turns, plain-turns}
-use Rattle.merge.proofs.Merging.{typed-same, any-known, known-as, as-known, merges-left, merges-none}
+use Rattle.merge.proofs.Merging.{typed-same, any-known, none-known, known-as, as-known, merges-left, merges-none}
+use Rattle.merge.proofs.Turning.{resolve-dictionary, resolve-runs, wrap-left}
+use Rattle.buffers.proofs.Sameness.{shapes-unlike}
+use Rattle.wrappers.specs.Ways.{isWrapper}
+use Rattle.wrappers.proofs.Cores.{wrapper-is}
 use Rattle.wrappers.proofs.Values.{kind-of}
 
 -- the rules of a question that looks at names, and of one that does not
@@ -41,6 +46,10 @@ pair-turns : (q : Data.Question) (rules : Rules) (c : DataType → DataType → 
 pair-turns Data.list rules c x y h = never (sym h)
 pair-turns Data.union rules c x y h = refl
 pair-turns Data.compare rules c x y h = refl
+
+types-unlike : (named : Bool) (x y : DataType) → ¬ (x .shape .kind ≡ y .shape .kind) → sameType named x y ≡ false
+unfolding sameType
+types-unlike named x y ne = rw (shapes-unlike (x .shape) (y .shape) ne) refl
 
 module _ (question : Question) (mask : ℕ) (space : Space) (left : ℕ) (swap : Bool) (s w : List ℕ) (l r : ℕ) (g : Goal) where
   abbrev both : DataType → DataType → Option DataType
@@ -101,6 +110,31 @@ module _ (question : Question) (mask : ℕ) (space : Space) (left : ℕ) (swap :
       coerce-bare h more m =
           known-as both space swap s w v l r g o known left (omega arith)
           (λ x y a b d. (bare-turns (rulesOf question mask) both x y (left-kind ek ej 37 h a) (right-kind ek ej 37 h b) ∙ differ z x y a b d, λ k. sym (told x y a b d) ∙ z)) m
+
+  -- a wrapper in a list, and a type that is none: they are not the same, and come to the rule for one wrapper
+  module _ {k j : ℕ} (ek : k ≡ headAt (side swap s w) l .kind) (ej : j ≡ headAt (side (not swap) s w) r .kind) (is : isWrapper k ≡ true) (lt : j < 37) where
+    high : 37 ≤ k
+    high = ⊎-elim (λ e. omega arith) (λ e. omega arith) (wrapper-is k is)
+
+    unlike : SameKnown false names space (side swap s w) l (side (not swap) s w) r false
+    unlike x y a b d = sym (types-unlike names x y (λ q. omega (arith, high, lt, kind-of ek a, kind-of ej b)))
+
+    one : (v : List ℕ) (o : Out) → Merges (rewrapped k both) space (left - 1 + 1) swap s w v l r g o → Merges (eitherWrapped k both) space (left - 1 + 1) swap s w v l r g o
+    one v o m = wrap-left both space (left - 1) swap s w l r g ek ej is v o refl (λ q. omega (arith, high, lt)) m
+
+    by-kind : (v : List ℕ) (o : Out) → (k ≡ 37) ⊎ (k ≡ 38) → Merges (rewrapped k both) space (left - 1 + 1) swap s w v l r g o
+        → Merges (resolved (rulesOf question mask) both) space (left - 1 + 1) swap s w v l r g o
+    by-kind v o (inl e) m =
+        resolve-dictionary (rulesOf question mask) both space (left - 1) swap s w l r g ek ej v o (rw (eq-eqb k 37 e) refl)
+        (subst (λ (i : ℕ). Merges (eitherWrapped i both) space (left - 1 + 1) swap s w v l r g o) e (one v o m))
+    by-kind v o (inr e) m =
+        resolve-runs (rulesOf question mask) both space (left - 1) swap s w l r g ek ej v o
+        (rw (ne-eqb k 37 (λ q. omega arith)) (ne-eqb j 37 (λ q. omega (arith, lt)))) (rw (eq-eqb k 38 e) refl)
+        (subst (λ (i : ℕ). Merges (eitherWrapped i both) space (left - 1 + 1) swap s w v l r g o) e (one v o m))
+
+    pub coerce-wrapper : (v : List ℕ) (o : Out) → names ≡ true → ¬ (left ≡ 0) → Merges (rewrapped k both) space (left - 1 + 1) swap s w v l r g o
+        → Merges both space left swap s w v l r g o
+    coerce-wrapper v o f more m = none-known swap (coerce-list {known = false} {flag = names} {e = false} refl unlike v o refl f more (by-kind v o (wrapper-is k is) m))
 
 -- what the test for sameness says
 pub same-known : (named : Bool) {space : Space} {s t : List ℕ} {l r : ℕ} {known : Bool} → known ≡ true → SameKnown known named space s l t r false

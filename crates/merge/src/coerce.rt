@@ -22,8 +22,9 @@ use buffers::Space;
 use buffers::Spot;
 use buffers::alike::same_sides;
 use buffers::copy::copy_head;
+use buffers::copy::copy_parent;
 use buffers::copy::is_nullable;
-use buffers::field::copy_field;
+use buffers::field::copy_index;
 use buffers::field::first_link;
 use buffers::field::keep_wrapper;
 use buffers::field::name_field;
@@ -183,6 +184,7 @@ fn resolve(
     g: Goal,
 ) -> Out
     requires { ⌜ Room (now work) space × Ready space g ⌝ }
+    requires { ⌜ isListQuestion (asked question) ≡ true ⌝ }
     ensures { λ o. ⌜ Merges (resolved (rulesOf question mask) (coercion (rulesOf question mask))) space (left + 1) swap (now (sheet .entry)) (now (work .entry)) (now (work .exit)) l r g o ⌝ }
 {
     let k = kind_at(sheet, &*work, swap, l);
@@ -223,7 +225,7 @@ fn resolve_wrapper(
     g: Goal,
 ) -> Out
     requires { ⌜ Room (now work) space × Ready space g ⌝ }
-    requires { ⌜ isWrapper kind ≡ true ⌝ }
+    requires { ⌜ (isWrapper kind ≡ true) × (isListQuestion (asked question) ≡ true) ⌝ }
     ensures { λ o. ⌜ Merges (eitherWrapped kind (coercion (rulesOf question mask))) space (left + 1) swap (now (sheet .entry)) (now (work .entry)) (now (work .exit)) l r g o ⌝ }
 {
     let k = kind_at(sheet, &*work, swap, l);
@@ -323,7 +325,7 @@ fn rewrapped(
     g: Goal,
 ) -> Out
     requires { ⌜ Room (now work) space × Ready space g ⌝ }
-    requires { ⌜ (isWrapper kind ≡ true) × (headAt (side swap (now sheet) (now work)) l .kind ≡ kind) ⌝ }
+    requires { ⌜ (isWrapper kind ≡ true) × ((headAt (side swap (now sheet) (now work)) l .kind ≡ kind) × (isListQuestion (asked question) ≡ true)) ⌝ }
     ensures { λ o. ⌜ Merges (rewrapped kind (coercion (rulesOf question mask))) space (left + 1) swap (now (sheet .entry)) (now (work .entry)) (now (work .exit)) l r g o ⌝ }
 {
     if space.n <= g.at {
@@ -332,8 +334,8 @@ fn rewrapped(
     let x = look(sheet, &*work, swap, l);
     let first = x.first;
     let second = look(sheet, &*work, swap, first).next;
-    match copy_head(sheet, work, space, swap, x, l, g, 0) {
-        Out::Done(a) => match copy_field(sheet, work, space, swap, first, a) {
+    match copy_parent(sheet, work, space, swap, x, l, g) {
+        Out::Done(a) => match copy_index(sheet, work, space, swap, first, a) {
             Out::Done(b) => match coerce_field(
                 sheet,
                 work,
@@ -362,7 +364,7 @@ fn rewrapped(
     }
 }
 
-// A field of a side, coerced with a type of the other under its own name and nullability.
+// The value of a wrapper, coerced with a type of the other side under its own name and nullability.
 fn coerce_field(
     sheet: &[u8],
     work: &mut [u8],
@@ -376,6 +378,7 @@ fn coerce_field(
     to: Spot,
 ) -> Out
     requires { ⌜ Room (now work) space × Inside space to ⌝ }
+    requires { ⌜ isListQuestion (asked question) ≡ true ⌝ }
     ensures { λ o. ⌜ MergesField false (isListQuestion (asked question)) (coercion (rulesOf question mask)) space left swap (now (sheet .entry)) (now (work .entry)) (now (work .exit)) l r to o ⌝ }
 {
     let x = look(sheet, &*work, swap, l);
@@ -388,9 +391,49 @@ fn coerce_field(
             nlen,
             nullable,
         };
-        return coerce(sheet, work, space, question, mask, left, swap, l, r, g);
+        return coerce_value(sheet, work, space, question, mask, left, swap, l, r, g);
     }
     Out::Full
+}
+
+// The common type of a value and another type, or none. Of a wrapper and a type that is none it is known which rule they come to.
+fn coerce_value(
+    sheet: &[u8],
+    work: &mut [u8],
+    space: Space,
+    question: Question,
+    mask: u64,
+    left: usize,
+    swap: bool,
+    l: usize,
+    r: usize,
+    g: Goal,
+) -> Out
+    requires { ⌜ Room (now work) space × Ready space g ⌝ }
+    requires { ⌜ isListQuestion (asked question) ≡ true ⌝ }
+    ensures { λ o. ⌜ Merges (coercion (rulesOf question mask)) space left swap (now (sheet .entry)) (now (work .entry)) (now (work .exit)) l r g o ⌝ }
+{
+    if left == 0 {
+        return Out::No;
+    }
+    let k = kind_at(sheet, &*work, swap, l);
+    let j = kind_at(sheet, &*work, !swap, r);
+    if both(either(k == 37, k == 38), j < 37) {
+        return rewrapped(
+            sheet,
+            work,
+            space,
+            question,
+            mask,
+            left - 1,
+            swap,
+            k,
+            l,
+            r,
+            g,
+        );
+    }
+    coerce(sheet, work, space, question, mask, left, swap, l, r, g)
 }
 
 // The rules of union and compare, after the test for alikeness. Of the two rules for wrappers one is asked, as the other has no answer that it lacks.

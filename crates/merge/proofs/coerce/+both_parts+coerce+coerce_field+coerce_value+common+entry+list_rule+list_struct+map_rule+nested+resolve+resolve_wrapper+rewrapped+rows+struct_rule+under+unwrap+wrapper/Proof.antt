@@ -2,11 +2,12 @@ use native.Mathlib.Omega.{arith}
 use borrow.Author.Needs.{needs}
 use Prim.Native.Nat.{_+_, _*_, _-_, _≤_}
 use mathlib.Core.Path.{_≡_, refl, sym, _∙_, ap}
-use borrow.Author.Tests.{not-true, not-false}
+use borrow.Author.Tests.{not-true, not-false, ltb-true}
+use Rattle.sheet.proofs.Tests.{and-fst, and-snd}
 use Rattle.buffers.proofs.Chained.{room-kept}
 use Rattle.buffers.proofs.Fielding.{field-ready}
 use Rattle.merge.proofs.Joining.{rows-end, rows-spent, rows-unfed, rows-crowded, rows-none, rows-full, rows-rest-none, rows-rest-full, rows-done}
-use Rattle.merge.proofs.Asking.{coerce-spent, coerce-same, coerce-plain, coerce-bare, coerce-list, coerce-pair}
+use Rattle.merge.proofs.Asking.{coerce-spent, coerce-same, coerce-plain, coerce-bare, coerce-list, coerce-pair, coerce-wrapper}
 use Rattle.merge.proofs.Merging.{any-known, none-known, merges-full}
 use Rattle.buffers.proofs.Tying.{tied-kept}
 use Rattle.merge.proofs.Rewrapping.{index-none, index-full, value-none, value-full, wrapper-on}
@@ -18,59 +19,63 @@ use borrow.Fn.Kinds.{In}
 use borrow.Fn.PlainCycle.{Measures, is, falls, and}
 use Rattle.merge.proofs.coerce.both_parts.Reads as both-parts
 use Rattle.merge.proofs.coerce.both_parts.Kinds as both-parts-kinds
-use Rattle.merge.proofs.coerce.+both_parts+coerce+coerce_field+common+entry+list_rule+list_struct+map_rule+nested+resolve+resolve_wrapper+rewrapped+rows+struct_rule+under+unwrap+wrapper.Lts-both_parts as both-parts-lts
+use Rattle.merge.proofs.coerce.+both_parts+coerce+coerce_field+coerce_value+common+entry+list_rule+list_struct+map_rule+nested+resolve+resolve_wrapper+rewrapped+rows+struct_rule+under+unwrap+wrapper.Lts-both_parts as both-parts-lts
 use Rattle.merge.proofs.coerce.coerce.Reads as coerce
 use Rattle.merge.proofs.coerce.coerce.Kinds as coerce-kinds
-use Rattle.merge.proofs.coerce.+both_parts+coerce+coerce_field+common+entry+list_rule+list_struct+map_rule+nested+resolve+resolve_wrapper+rewrapped+rows+struct_rule+under+unwrap+wrapper.Lts-coerce as coerce-lts
+use Rattle.merge.proofs.coerce.+both_parts+coerce+coerce_field+coerce_value+common+entry+list_rule+list_struct+map_rule+nested+resolve+resolve_wrapper+rewrapped+rows+struct_rule+under+unwrap+wrapper.Lts-coerce as coerce-lts
 use Rattle.merge.proofs.coerce.coerce_field.Reads as coerce-field
 use Rattle.merge.proofs.coerce.coerce_field.Kinds as coerce-field-kinds
-use Rattle.merge.proofs.coerce.+both_parts+coerce+coerce_field+common+entry+list_rule+list_struct+map_rule+nested+resolve+resolve_wrapper+rewrapped+rows+struct_rule+under+unwrap+wrapper.Lts-coerce_field as coerce-field-lts
+use Rattle.merge.proofs.coerce.+both_parts+coerce+coerce_field+coerce_value+common+entry+list_rule+list_struct+map_rule+nested+resolve+resolve_wrapper+rewrapped+rows+struct_rule+under+unwrap+wrapper.Lts-coerce_field as coerce-field-lts
+use Rattle.merge.proofs.coerce.coerce_value.Reads as coerce-value
+use Rattle.merge.proofs.coerce.coerce_value.Kinds as coerce-value-kinds
+use Rattle.merge.proofs.coerce.+both_parts+coerce+coerce_field+coerce_value+common+entry+list_rule+list_struct+map_rule+nested+resolve+resolve_wrapper+rewrapped+rows+struct_rule+under+unwrap+wrapper.Lts-coerce_value as coerce-value-lts
 use Rattle.merge.proofs.coerce.common.Reads as common
 use Rattle.merge.proofs.coerce.common.Kinds as common-kinds
-use Rattle.merge.proofs.coerce.+both_parts+coerce+coerce_field+common+entry+list_rule+list_struct+map_rule+nested+resolve+resolve_wrapper+rewrapped+rows+struct_rule+under+unwrap+wrapper.Lts-common as common-lts
+use Rattle.merge.proofs.coerce.+both_parts+coerce+coerce_field+coerce_value+common+entry+list_rule+list_struct+map_rule+nested+resolve+resolve_wrapper+rewrapped+rows+struct_rule+under+unwrap+wrapper.Lts-common as common-lts
 use Rattle.merge.proofs.coerce.entry.Reads as entry
 use Rattle.merge.proofs.coerce.entry.Kinds as entry-kinds
-use Rattle.merge.proofs.coerce.+both_parts+coerce+coerce_field+common+entry+list_rule+list_struct+map_rule+nested+resolve+resolve_wrapper+rewrapped+rows+struct_rule+under+unwrap+wrapper.Lts-entry as entry-lts
+use Rattle.merge.proofs.coerce.+both_parts+coerce+coerce_field+coerce_value+common+entry+list_rule+list_struct+map_rule+nested+resolve+resolve_wrapper+rewrapped+rows+struct_rule+under+unwrap+wrapper.Lts-entry as entry-lts
 use Rattle.merge.proofs.coerce.list_rule.Reads as list-rule
 use Rattle.merge.proofs.coerce.list_rule.Kinds as list-rule-kinds
-use Rattle.merge.proofs.coerce.+both_parts+coerce+coerce_field+common+entry+list_rule+list_struct+map_rule+nested+resolve+resolve_wrapper+rewrapped+rows+struct_rule+under+unwrap+wrapper.Lts-list_rule as list-rule-lts
+use Rattle.merge.proofs.coerce.+both_parts+coerce+coerce_field+coerce_value+common+entry+list_rule+list_struct+map_rule+nested+resolve+resolve_wrapper+rewrapped+rows+struct_rule+under+unwrap+wrapper.Lts-list_rule as list-rule-lts
 use Rattle.merge.proofs.coerce.list_struct.Reads as list-struct
 use Rattle.merge.proofs.coerce.list_struct.Kinds as list-struct-kinds
-use Rattle.merge.proofs.coerce.+both_parts+coerce+coerce_field+common+entry+list_rule+list_struct+map_rule+nested+resolve+resolve_wrapper+rewrapped+rows+struct_rule+under+unwrap+wrapper.Lts-list_struct as list-struct-lts
+use Rattle.merge.proofs.coerce.+both_parts+coerce+coerce_field+coerce_value+common+entry+list_rule+list_struct+map_rule+nested+resolve+resolve_wrapper+rewrapped+rows+struct_rule+under+unwrap+wrapper.Lts-list_struct as list-struct-lts
 use Rattle.merge.proofs.coerce.map_rule.Reads as map-rule
 use Rattle.merge.proofs.coerce.map_rule.Kinds as map-rule-kinds
-use Rattle.merge.proofs.coerce.+both_parts+coerce+coerce_field+common+entry+list_rule+list_struct+map_rule+nested+resolve+resolve_wrapper+rewrapped+rows+struct_rule+under+unwrap+wrapper.Lts-map_rule as map-rule-lts
+use Rattle.merge.proofs.coerce.+both_parts+coerce+coerce_field+coerce_value+common+entry+list_rule+list_struct+map_rule+nested+resolve+resolve_wrapper+rewrapped+rows+struct_rule+under+unwrap+wrapper.Lts-map_rule as map-rule-lts
 use Rattle.merge.proofs.coerce.nested.Reads as nested
 use Rattle.merge.proofs.coerce.nested.Kinds as nested-kinds
-use Rattle.merge.proofs.coerce.+both_parts+coerce+coerce_field+common+entry+list_rule+list_struct+map_rule+nested+resolve+resolve_wrapper+rewrapped+rows+struct_rule+under+unwrap+wrapper.Lts-nested as nested-lts
+use Rattle.merge.proofs.coerce.+both_parts+coerce+coerce_field+coerce_value+common+entry+list_rule+list_struct+map_rule+nested+resolve+resolve_wrapper+rewrapped+rows+struct_rule+under+unwrap+wrapper.Lts-nested as nested-lts
 use Rattle.merge.proofs.coerce.resolve.Reads as resolve
 use Rattle.merge.proofs.coerce.resolve.Kinds as resolve-kinds
-use Rattle.merge.proofs.coerce.+both_parts+coerce+coerce_field+common+entry+list_rule+list_struct+map_rule+nested+resolve+resolve_wrapper+rewrapped+rows+struct_rule+under+unwrap+wrapper.Lts-resolve as resolve-lts
+use Rattle.merge.proofs.coerce.+both_parts+coerce+coerce_field+coerce_value+common+entry+list_rule+list_struct+map_rule+nested+resolve+resolve_wrapper+rewrapped+rows+struct_rule+under+unwrap+wrapper.Lts-resolve as resolve-lts
 use Rattle.merge.proofs.coerce.resolve_wrapper.Reads as resolve-wrapper
 use Rattle.merge.proofs.coerce.resolve_wrapper.Kinds as resolve-wrapper-kinds
-use Rattle.merge.proofs.coerce.+both_parts+coerce+coerce_field+common+entry+list_rule+list_struct+map_rule+nested+resolve+resolve_wrapper+rewrapped+rows+struct_rule+under+unwrap+wrapper.Lts-resolve_wrapper as resolve-wrapper-lts
+use Rattle.merge.proofs.coerce.+both_parts+coerce+coerce_field+coerce_value+common+entry+list_rule+list_struct+map_rule+nested+resolve+resolve_wrapper+rewrapped+rows+struct_rule+under+unwrap+wrapper.Lts-resolve_wrapper as resolve-wrapper-lts
 use Rattle.merge.proofs.coerce.rewrapped.Reads as rewrapped
 use Rattle.merge.proofs.coerce.rewrapped.Kinds as rewrapped-kinds
-use Rattle.merge.proofs.coerce.+both_parts+coerce+coerce_field+common+entry+list_rule+list_struct+map_rule+nested+resolve+resolve_wrapper+rewrapped+rows+struct_rule+under+unwrap+wrapper.Lts-rewrapped as rewrapped-lts
+use Rattle.merge.proofs.coerce.+both_parts+coerce+coerce_field+coerce_value+common+entry+list_rule+list_struct+map_rule+nested+resolve+resolve_wrapper+rewrapped+rows+struct_rule+under+unwrap+wrapper.Lts-rewrapped as rewrapped-lts
 use Rattle.merge.proofs.coerce.rows.Reads as rows
 use Rattle.merge.proofs.coerce.rows.Kinds as rows-kinds
-use Rattle.merge.proofs.coerce.+both_parts+coerce+coerce_field+common+entry+list_rule+list_struct+map_rule+nested+resolve+resolve_wrapper+rewrapped+rows+struct_rule+under+unwrap+wrapper.Lts-rows as rows-lts
+use Rattle.merge.proofs.coerce.+both_parts+coerce+coerce_field+coerce_value+common+entry+list_rule+list_struct+map_rule+nested+resolve+resolve_wrapper+rewrapped+rows+struct_rule+under+unwrap+wrapper.Lts-rows as rows-lts
 use Rattle.merge.proofs.coerce.struct_rule.Reads as struct-rule
 use Rattle.merge.proofs.coerce.struct_rule.Kinds as struct-rule-kinds
-use Rattle.merge.proofs.coerce.+both_parts+coerce+coerce_field+common+entry+list_rule+list_struct+map_rule+nested+resolve+resolve_wrapper+rewrapped+rows+struct_rule+under+unwrap+wrapper.Lts-struct_rule as struct-rule-lts
+use Rattle.merge.proofs.coerce.+both_parts+coerce+coerce_field+coerce_value+common+entry+list_rule+list_struct+map_rule+nested+resolve+resolve_wrapper+rewrapped+rows+struct_rule+under+unwrap+wrapper.Lts-struct_rule as struct-rule-lts
 use Rattle.merge.proofs.coerce.under.Reads as under
 use Rattle.merge.proofs.coerce.under.Kinds as under-kinds
-use Rattle.merge.proofs.coerce.+both_parts+coerce+coerce_field+common+entry+list_rule+list_struct+map_rule+nested+resolve+resolve_wrapper+rewrapped+rows+struct_rule+under+unwrap+wrapper.Lts-under as under-lts
+use Rattle.merge.proofs.coerce.+both_parts+coerce+coerce_field+coerce_value+common+entry+list_rule+list_struct+map_rule+nested+resolve+resolve_wrapper+rewrapped+rows+struct_rule+under+unwrap+wrapper.Lts-under as under-lts
 use Rattle.merge.proofs.coerce.unwrap.Reads as unwrap
 use Rattle.merge.proofs.coerce.unwrap.Kinds as unwrap-kinds
-use Rattle.merge.proofs.coerce.+both_parts+coerce+coerce_field+common+entry+list_rule+list_struct+map_rule+nested+resolve+resolve_wrapper+rewrapped+rows+struct_rule+under+unwrap+wrapper.Lts-unwrap as unwrap-lts
+use Rattle.merge.proofs.coerce.+both_parts+coerce+coerce_field+coerce_value+common+entry+list_rule+list_struct+map_rule+nested+resolve+resolve_wrapper+rewrapped+rows+struct_rule+under+unwrap+wrapper.Lts-unwrap as unwrap-lts
 use Rattle.merge.proofs.coerce.wrapper.Reads as wrapper
 use Rattle.merge.proofs.coerce.wrapper.Kinds as wrapper-kinds
-use Rattle.merge.proofs.coerce.+both_parts+coerce+coerce_field+common+entry+list_rule+list_struct+map_rule+nested+resolve+resolve_wrapper+rewrapped+rows+struct_rule+under+unwrap+wrapper.Lts-wrapper as wrapper-lts
+use Rattle.merge.proofs.coerce.+both_parts+coerce+coerce_field+coerce_value+common+entry+list_rule+list_struct+map_rule+nested+resolve+resolve_wrapper+rewrapped+rows+struct_rule+under+unwrap+wrapper.Lts-wrapper as wrapper-lts
 use Rattle.buffers.proofs.alike.same_sides.Reads as same-sides-reads
 use Rattle.buffers.proofs.copy.copy_head.Reads as copy-head-reads
+use Rattle.buffers.proofs.copy.copy_parent.Reads as copy-parent-reads
 use Rattle.buffers.proofs.copy.is_nullable.Reads as is-nullable-reads
-use Rattle.buffers.proofs.field.copy_field.Reads as copy-field-reads
+use Rattle.buffers.proofs.field.copy_index.Reads as copy-index-reads
 use Rattle.buffers.proofs.field.first_link.Reads as first-link-reads
 use Rattle.buffers.proofs.field.keep_wrapper.Reads as keep-wrapper-reads
 use Rattle.buffers.proofs.field.name_field.Reads as name-field-reads
@@ -95,10 +100,10 @@ use Rattle.kinds.proofs.tests.is_list.Reads as is-list-reads
 use Rattle.merge.proofs.coerce.are_same.Reads as are-same-reads
 use Rattle.merge.proofs.coerce.differ_in_part.Reads as differ-in-part-reads
 use Rattle.wrappers.proofs.walk.way.Reads as way-reads
-use Rattle.merge.proofs.coerce.+both_parts+coerce+coerce_field+common+entry+list_rule+list_struct+map_rule+nested+resolve+resolve_wrapper+rewrapped+rows+struct_rule+under+unwrap+wrapper.{
+use Rattle.merge.proofs.coerce.+both_parts+coerce+coerce_field+coerce_value+common+entry+list_rule+list_struct+map_rule+nested+resolve+resolve_wrapper+rewrapped+rows+struct_rule+under+unwrap+wrapper.{
   statement,
 }
-use Rattle.merge.proofs.coerce.+both_parts+coerce+coerce_field+common+entry+list_rule+list_struct+map_rule+nested+resolve+resolve_wrapper+rewrapped+rows+struct_rule+under+unwrap+wrapper.Tie.{
+use Rattle.merge.proofs.coerce.+both_parts+coerce+coerce_field+coerce_value+common+entry+list_rule+list_struct+map_rule+nested+resolve+resolve_wrapper+rewrapped+rows+struct_rule+under+unwrap+wrapper.Tie.{
   close,
 }
 
@@ -112,6 +117,10 @@ abbrev μ-coerce : Measures 2 coerce-kinds.ps ℕ
 
 abbrev μ-coerce-field : Measures 2 coerce-field-kinds.ps ℕ
 μ-coerce-field κs a =
+    16 * a .1 .1 .1 .1 .1 .0 + 6
+
+abbrev μ-coerce-value : Measures 2 coerce-value-kinds.ps ℕ
+μ-coerce-value κs a =
     16 * a .1 .1 .1 .1 .1 .0 + 5
 
 abbrev μ-common : Measures 2 common-kinds.ps ℕ
@@ -195,6 +204,18 @@ coerce-field-below t =
     coerce-field-kinds.ps
     (falls 2 coerce-field-kinds.ps _<_ μ-coerce-field t)
     coerce-field.Pre
+
+abbrev coerce-value-at : ℕ → In 2 coerce-value-kinds.ps
+coerce-value-at t =
+    and 2 coerce-value-kinds.ps (is 2 coerce-value-kinds.ps μ-coerce-value t) coerce-value.Pre
+
+abbrev coerce-value-below : ℕ → In 2 coerce-value-kinds.ps
+coerce-value-below t =
+    and
+    2
+    coerce-value-kinds.ps
+    (falls 2 coerce-value-kinds.ps _<_ μ-coerce-value t)
+    coerce-value.Pre
 
 abbrev common-at : ℕ → In 2 common-kinds.ps
 common-at t = and 2 common-kinds.ps (is 2 common-kinds.ps μ-common t) common.Pre
@@ -303,7 +324,11 @@ both-parts-calls t =
 
 abbrev coerce-field-calls : ℕ → coerce-field-lts.Claims
 coerce-field-calls t =
-    (look-reads.Asked, look-reads.Learnt, is-nullable-reads.Asked, is-nullable-reads.Learnt, name-field-reads.Asked, name-field-reads.Learnt, coerce-below t, coerce.Post)
+    (look-reads.Asked, look-reads.Learnt, is-nullable-reads.Asked, is-nullable-reads.Learnt, name-field-reads.Asked, name-field-reads.Learnt, coerce-value-below t, coerce-value.Post)
+
+abbrev coerce-value-calls : ℕ → coerce-value-lts.Claims
+coerce-value-calls t =
+    (kind-at-reads.Asked, kind-at-reads.Learnt, either-reads.Asked, either-reads.Learnt, both-reads.Asked, both-reads.Learnt, rewrapped-below t, rewrapped.Post, coerce-below t, coerce.Post)
 
 abbrev common-calls : ℕ → common-lts.Claims
 common-calls t =
@@ -339,7 +364,7 @@ resolve-wrapper-calls t =
 
 abbrev rewrapped-calls : ℕ → rewrapped-lts.Claims
 rewrapped-calls t =
-    (look-reads.Asked, look-reads.Learnt, copy-head-reads.Asked, copy-head-reads.Learnt, copy-field-reads.Asked, copy-field-reads.Learnt, coerce-field-below t, coerce-field.Post, tie-reads.Asked, tie-reads.Learnt, keep-wrapper-reads.Asked, keep-wrapper-reads.Learnt)
+    (look-reads.Asked, look-reads.Learnt, copy-parent-reads.Asked, copy-parent-reads.Learnt, copy-index-reads.Asked, copy-index-reads.Learnt, coerce-field-below t, coerce-field.Post, tie-reads.Asked, tie-reads.Learnt, keep-wrapper-reads.Asked, keep-wrapper-reads.Learnt)
 
 abbrev rows-calls : ℕ → rows-lts.Claims
 rows-calls t =
@@ -465,12 +490,12 @@ coerce-field-is-nullable-requires t c κs =
 -- src/coerce.rt:384:8
 coerce-field-name-field-requires : (t : ℕ) → coerce-field-lts.Need-name-field-requires (coerce-field-calls t) (coerce-field-at t) coerce-field.Post
 coerce-field-name-field-requires t c κs =
-    ((c .before .before .before .before .before .before .pre .1 .0), ((c .before .before .before .before .before .before .pre .1 .1), (c .before .before .look .ensures .1)))
+    ((c .before .before .before .before .before .before .pre .1 .0 .0), ((c .before .before .before .before .before .before .pre .1 .0 .1), (c .before .before .look .ensures .1)))
 
 -- src/coerce.rt:391:9
-coerce-field-coerce-requires : (t : ℕ) → coerce-field-lts.Need-coerce-requires (coerce-field-calls t) (coerce-field-at t) coerce-field.Post
-coerce-field-coerce-requires t c κs =
-    (omega (arith, (c .before .before .before .before .before .before .before .before .before .before .before .pre .0)), (room-kept ((c .before .before .before .before .name-field .ensures .kept)) (c .before .before .before .before .before .before .before .before .before .before .before .pre .1 .0), field-ready _ (c .before .before .before .before .before .before .before .before .before .before .before .pre .1 .1) (c .before .before .before .before .before .before .before .look .ensures .1) (c .before .if1 .taken) (c .before .before .before .before .name-field .ensures)))
+coerce-field-coerce-value-requires : (t : ℕ) → coerce-field-lts.Need-coerce-value-requires (coerce-field-calls t) (coerce-field-at t) coerce-field.Post
+coerce-field-coerce-value-requires t c κs =
+    (omega (arith, (c .before .before .before .before .before .before .before .before .before .before .before .pre .0)), ((room-kept ((c .before .before .before .before .name-field .ensures .kept)) (c .before .before .before .before .before .before .before .before .before .before .before .pre .1 .0 .0), field-ready _ (c .before .before .before .before .before .before .before .before .before .before .before .pre .1 .0 .1) (c .before .before .before .before .before .before .before .look .ensures .1) (c .before .if1 .taken) (c .before .before .before .before .name-field .ensures)), (c .before .before .before .before .before .before .before .before .before .before .before .pre .1 .1)))
 
 -- src/coerce.rt:391:9
 coerce-field-same-length : (t : ℕ) → coerce-field-lts.Need-same-length (coerce-field-calls t) (coerce-field-at t) coerce-field.Post
@@ -480,7 +505,7 @@ coerce-field-same-length t c =
 -- src/coerce.rt:391:9
 coerce-field-returns : (t : ℕ) → coerce-field-lts.Need-returns (coerce-field-calls t) (coerce-field-at t) coerce-field.Post
 coerce-field-returns t c =
-    field-merged _ _ _ _ _ _ _ _ _ _ (c .before .before .before .before .before .before .before .before .before .before .look .ensures .0) _ _ (c .before .before .before .before .before .before .before .name-field .ensures) _ _ _ (c .before .before .before .before .before .before .before .before .before .before .before .before .before .before .pre .1 .0) (c .before .before .before .before .if1 .taken) (c .before .before .before .before .before .before .before .before .before .is-nullable .ensures) (any-known _ (c .before .before .before .before .before .before .before .before .before .before .before .before .before .before .args .swap) (c .before .before .coerce .ensures))
+    field-merged _ _ _ _ _ _ _ _ _ _ (c .before .before .before .before .before .before .before .before .before .before .look .ensures .0) _ _ (c .before .before .before .before .before .before .before .name-field .ensures) _ _ _ (c .before .before .before .before .before .before .before .before .before .before .before .before .before .before .pre .1 .0 .0) (c .before .before .before .before .if1 .taken) (c .before .before .before .before .before .before .before .before .before .is-nullable .ensures) (any-known _ (c .before .before .before .before .before .before .before .before .before .before .before .before .before .before .args .swap) (c .before .before .coerce-value .ensures))
 
 -- src/coerce.rt:366:1
 coerce-field-same-length-2 : (t : ℕ) → coerce-field-lts.Need-same-length-2 (coerce-field-calls t) (coerce-field-at t) coerce-field.Post
@@ -491,6 +516,54 @@ coerce-field-same-length-2 t c =
 coerce-field-returns-2 : (t : ℕ) → coerce-field-lts.Need-returns-2 (coerce-field-calls t) (coerce-field-at t) coerce-field.Post
 coerce-field-returns-2 t c =
     field-crowded _ _ _ _ _ _ _ _ _ _ (c .before .before .before .before .before .before .look .ensures .0) _ _ (c .before .before .before .name-field .ensures) (c .if1 .left)
+
+coerce-value-returns : (t : ℕ) → coerce-value-lts.Need-returns (coerce-value-calls t) (coerce-value-at t) coerce-value.Post
+coerce-value-returns t c =
+    none-known (c .before .before .before .args .swap) (coerce-spent (c .before .before .before .args .question) (c .before .before .before .args .mask) (c .before .before .before .args .space) (c .before .before .before .args .left) (c .before .before .before .args .swap) _ _ _ _ _ (c .if1 .taken))
+
+coerce-value-kind-at-requires : (t : ℕ) → coerce-value-lts.Need-kind-at-requires (coerce-value-calls t) (coerce-value-at t) coerce-value.Post
+coerce-value-kind-at-requires t c κs =
+    search needs
+
+coerce-value-kind-at-requires-2 : (t : ℕ) → coerce-value-lts.Need-kind-at-requires-2 (coerce-value-calls t) (coerce-value-at t) coerce-value.Post
+coerce-value-kind-at-requires-2 t c κs =
+    search needs
+
+coerce-value-either-requires : (t : ℕ) → coerce-value-lts.Need-either-requires (coerce-value-calls t) (coerce-value-at t) coerce-value.Post
+coerce-value-either-requires t c κs =
+    search needs
+
+coerce-value-both-requires : (t : ℕ) → coerce-value-lts.Need-both-requires (coerce-value-calls t) (coerce-value-at t) coerce-value.Post
+coerce-value-both-requires t c κs =
+    search needs
+
+coerce-value-sub-rewrapped : (t : ℕ) → coerce-value-lts.Need-sub-rewrapped (coerce-value-calls t) (coerce-value-at t) coerce-value.Post
+coerce-value-sub-rewrapped t c =
+    search needs
+
+coerce-value-rewrapped-requires : (t : ℕ) → coerce-value-lts.Need-rewrapped-requires (coerce-value-calls t) (coerce-value-at t) coerce-value.Post
+coerce-value-rewrapped-requires t c κs =
+    (omega (arith, (c .before .before .before .before .before .before .before .before .before .before .before .pre .0), (c .before .before .before .before .before .before .before .before .if1 .left)), ((c .before .before .before .before .before .before .before .before .before .before .before .pre .1 .0), ((sym (c .before .before .before .either .ensures) ∙ and-fst _ _ (sym (c .before .before .both .ensures) ∙ (c .before .if2 .taken))), (sym (c .before .before .before .before .before .before .kind-at .ensures), (c .before .before .before .before .before .before .before .before .before .before .before .pre .1 .1)))))
+
+coerce-value-same-length : (t : ℕ) → coerce-value-lts.Need-same-length (coerce-value-calls t) (coerce-value-at t) coerce-value.Post
+coerce-value-same-length t c =
+    search needs
+
+coerce-value-returns-2 : (t : ℕ) → coerce-value-lts.Need-returns-2 (coerce-value-calls t) (coerce-value-at t) coerce-value.Post
+coerce-value-returns-2 t c =
+    coerce-wrapper (c .before .before .before .before .before .before .before .before .before .before .before .before .before .before .args .question) (c .before .before .before .before .before .before .before .before .before .before .before .before .before .before .args .mask) (c .before .before .before .before .before .before .before .before .before .before .before .before .before .before .args .space) (c .before .before .before .before .before .before .before .before .before .before .before .before .before .before .args .left) (c .before .before .before .before .before .before .before .before .before .before .before .before .before .before .args .swap) _ _ _ _ _ (c .before .before .before .before .before .before .before .before .before .kind-at .ensures) (c .before .before .before .before .before .before .before .kind-at2 .ensures) (sym (c .before .before .before .before .before .before .either .ensures) ∙ and-fst _ _ (sym (c .before .before .before .before .before .both .ensures) ∙ (c .before .before .before .before .if2 .taken))) (ltb-true _ 37 (and-snd (c .before .before .before .before .before .before .either .result) _ (sym (c .before .before .before .before .before .both .ensures) ∙ (c .before .before .before .before .if2 .taken)))) _ _ (c .before .before .before .before .before .before .before .before .before .before .before .before .before .before .pre .1 .1) (c .before .before .before .before .before .before .before .before .before .before .before .if1 .left) (c .before .before .rewrapped .ensures)
+
+coerce-value-coerce-requires : (t : ℕ) → coerce-value-lts.Need-coerce-requires (coerce-value-calls t) (coerce-value-at t) coerce-value.Post
+coerce-value-coerce-requires t c κs =
+    (omega (arith, (c .before .before .before .before .before .before .before .before .before .before .before .pre .0)), (c .before .before .before .before .before .before .before .before .before .before .before .pre .1 .0))
+
+coerce-value-same-length-2 : (t : ℕ) → coerce-value-lts.Need-same-length-2 (coerce-value-calls t) (coerce-value-at t) coerce-value.Post
+coerce-value-same-length-2 t c =
+    search needs
+
+coerce-value-returns-3 : (t : ℕ) → coerce-value-lts.Need-returns-3 (coerce-value-calls t) (coerce-value-at t) coerce-value.Post
+coerce-value-returns-3 t c =
+    (c .before .before .coerce .ensures)
 
 -- src/coerce.rt:100:9
 common-returns : (t : ℕ) → common-lts.Need-returns (common-calls t) (common-at t) common.Post
@@ -585,7 +658,7 @@ common-sub-resolve t c =
 -- src/coerce.rt:127:9
 common-resolve-requires : (t : ℕ) → common-lts.Need-resolve-requires (common-calls t) (common-at t) common.Post
 common-resolve-requires t c κs =
-    (omega (arith, (c .before .before .before .before .before .before .before .before .before .before .before .before .before .before .before .before .before .pre .0), (c .before .before .before .before .before .before .before .before .before .before .before .before .before .before .if1 .left)), (c .before .before .before .before .before .before .before .before .before .before .before .before .before .before .before .before .before .pre .1))
+    (omega (arith, (c .before .before .before .before .before .before .before .before .before .before .before .before .before .before .before .before .before .pre .0), (c .before .before .before .before .before .before .before .before .before .before .before .before .before .before .if1 .left)), ((c .before .before .before .before .before .before .before .before .before .before .before .before .before .before .before .before .before .pre .1), sym (c .before .before .before .before .before .before .before .before .before .before .before .before .before .is-list-question .ensures) ∙ (c .before .if5 .taken)))
 
 -- src/coerce.rt:127:9
 common-same-length-4 : (t : ℕ) → common-lts.Need-same-length-4 (common-calls t) (common-at t) common.Post
@@ -965,7 +1038,7 @@ resolve-either-requires t c κs =
 -- src/coerce.rt:191:9
 resolve-resolve-wrapper-requires : (t : ℕ) → resolve-lts.Need-resolve-wrapper-requires (resolve-calls t) (resolve-at t) resolve.Post
 resolve-resolve-wrapper-requires t c κs =
-    (omega (arith, (c .before .before .before .before .before .before .before .before .before .pre .0)), ((c .before .before .before .before .before .before .before .before .before .pre .1), refl))
+    (omega (arith, (c .before .before .before .before .before .before .before .before .before .pre .0)), ((c .before .before .before .before .before .before .before .before .before .pre .1 .0), (refl, (c .before .before .before .before .before .before .before .before .before .pre .1 .1))))
 
 -- src/coerce.rt:191:9
 resolve-same-length : (t : ℕ) → resolve-lts.Need-same-length (resolve-calls t) (resolve-at t) resolve.Post
@@ -985,7 +1058,7 @@ resolve-either-requires-2 t c κs =
 -- src/coerce.rt:194:9
 resolve-resolve-wrapper-requires-2 : (t : ℕ) → resolve-lts.Need-resolve-wrapper-requires-2 (resolve-calls t) (resolve-at t) resolve.Post
 resolve-resolve-wrapper-requires-2 t c κs =
-    (omega (arith, (c .before .before .before .before .before .before .before .before .before .before .before .pre .0)), ((c .before .before .before .before .before .before .before .before .before .before .before .pre .1), refl))
+    (omega (arith, (c .before .before .before .before .before .before .before .before .before .before .before .pre .0)), ((c .before .before .before .before .before .before .before .before .before .before .before .pre .1 .0), (refl, (c .before .before .before .before .before .before .before .before .before .before .before .pre .1 .1))))
 
 -- src/coerce.rt:194:9
 resolve-same-length-2 : (t : ℕ) → resolve-lts.Need-same-length-2 (resolve-calls t) (resolve-at t) resolve.Post
@@ -1000,7 +1073,7 @@ resolve-returns-2 t c =
 -- src/coerce.rt:196:5
 resolve-nested-requires : (t : ℕ) → resolve-lts.Need-nested-requires (resolve-calls t) (resolve-at t) resolve.Post
 resolve-nested-requires t c κs =
-    (omega (arith, (c .before .before .before .before .before .before .before .before .before .before .before .pre .0)), (c .before .before .before .before .before .before .before .before .before .before .before .pre .1))
+    (omega (arith, (c .before .before .before .before .before .before .before .before .before .before .before .pre .0)), (c .before .before .before .before .before .before .before .before .before .before .before .pre .1 .0))
 
 -- src/coerce.rt:173:1
 resolve-same-length-3 : (t : ℕ) → resolve-lts.Need-same-length-3 (resolve-calls t) (resolve-at t) resolve.Post
@@ -1035,12 +1108,12 @@ resolve-wrapper-same-length t c =
 -- src/coerce.rt:233:13
 resolve-wrapper-returns : (t : ℕ) → resolve-wrapper-lts.Need-returns (resolve-wrapper-calls t) (resolve-wrapper-at t) resolve-wrapper.Post
 resolve-wrapper-returns t c =
-    wrap-both _ _ _ (c .before .before .before .before .before .before .before .before .before .before .before .before .args .swap) _ _ _ _ _ (c .before .before .before .before .before .before .before .before .kind-at .ensures) (c .before .before .before .before .before .before .kind-at2 .ensures) (c .before .before .before .before .before .before .before .before .before .before .before .before .pre .1 .1) _ _ (c .before .before .before .before .before .if1 .taken) (c .before .before .before .before .if2 .taken) (c .before .before .both-parts .ensures)
+    wrap-both _ _ _ (c .before .before .before .before .before .before .before .before .before .before .before .before .args .swap) _ _ _ _ _ (c .before .before .before .before .before .before .before .before .kind-at .ensures) (c .before .before .before .before .before .before .kind-at2 .ensures) (c .before .before .before .before .before .before .before .before .before .before .before .before .pre .1 .1 .0) _ _ (c .before .before .before .before .before .if1 .taken) (c .before .before .before .before .if2 .taken) (c .before .before .both-parts .ensures)
 
 -- src/coerce.rt:235:9
 resolve-wrapper-rewrapped-requires : (t : ℕ) → resolve-wrapper-lts.Need-rewrapped-requires (resolve-wrapper-calls t) (resolve-wrapper-at t) resolve-wrapper.Post
 resolve-wrapper-rewrapped-requires t c κs =
-    (omega (arith, (c .before .before .before .before .before .before .before .before .before .pre .0)), ((c .before .before .before .before .before .before .before .before .before .pre .1 .0), ((c .before .before .before .before .before .before .before .before .before .pre .1 .1), sym (c .before .before .before .before .before .kind-at .ensures) ∙ (c .before .before .if1 .taken))))
+    (omega (arith, (c .before .before .before .before .before .before .before .before .before .pre .0)), ((c .before .before .before .before .before .before .before .before .before .pre .1 .0), ((c .before .before .before .before .before .before .before .before .before .pre .1 .1 .0), (sym (c .before .before .before .before .before .kind-at .ensures) ∙ (c .before .before .if1 .taken), (c .before .before .before .before .before .before .before .before .before .pre .1 .1 .1)))))
 
 -- src/coerce.rt:235:9
 resolve-wrapper-same-length-2 : (t : ℕ) → resolve-wrapper-lts.Need-same-length-2 (resolve-wrapper-calls t) (resolve-wrapper-at t) resolve-wrapper.Post
@@ -1050,12 +1123,12 @@ resolve-wrapper-same-length-2 t c =
 -- src/coerce.rt:235:9
 resolve-wrapper-returns-2 : (t : ℕ) → resolve-wrapper-lts.Need-returns-2 (resolve-wrapper-calls t) (resolve-wrapper-at t) resolve-wrapper.Post
 resolve-wrapper-returns-2 t c =
-    wrap-left _ _ _ (c .before .before .before .before .before .before .before .before .before .before .before .before .args .swap) _ _ _ _ _ (c .before .before .before .before .before .before .before .before .kind-at .ensures) (c .before .before .before .before .before .before .kind-at2 .ensures) (c .before .before .before .before .before .before .before .before .before .before .before .before .pre .1 .1) _ _ (c .before .before .before .before .before .if1 .taken) (c .before .before .before .before .if2 .left) (c .before .before .rewrapped .ensures)
+    wrap-left _ _ _ (c .before .before .before .before .before .before .before .before .before .before .before .before .args .swap) _ _ _ _ _ (c .before .before .before .before .before .before .before .before .kind-at .ensures) (c .before .before .before .before .before .before .kind-at2 .ensures) (c .before .before .before .before .before .before .before .before .before .before .before .before .pre .1 .1 .0) _ _ (c .before .before .before .before .before .if1 .taken) (c .before .before .before .before .if2 .left) (c .before .before .rewrapped .ensures)
 
 -- src/coerce.rt:250:9
 resolve-wrapper-rewrapped-requires-2 : (t : ℕ) → resolve-wrapper-lts.Need-rewrapped-requires-2 (resolve-wrapper-calls t) (resolve-wrapper-at t) resolve-wrapper.Post
 resolve-wrapper-rewrapped-requires-2 t c κs =
-    (omega (arith, (c .before .before .before .before .before .before .before .before .before .pre .0)), ((c .before .before .before .before .before .before .before .before .before .pre .1 .0), ((c .before .before .before .before .before .before .before .before .before .pre .1 .1), sym (c .before .before .before .kind-at2 .ensures) ∙ (c .before .if3 .taken))))
+    (omega (arith, (c .before .before .before .before .before .before .before .before .before .pre .0)), ((c .before .before .before .before .before .before .before .before .before .pre .1 .0), ((c .before .before .before .before .before .before .before .before .before .pre .1 .1 .0), (sym (c .before .before .before .kind-at2 .ensures) ∙ (c .before .if3 .taken), (c .before .before .before .before .before .before .before .before .before .pre .1 .1 .1)))))
 
 -- src/coerce.rt:250:9
 resolve-wrapper-same-length-3 : (t : ℕ) → resolve-wrapper-lts.Need-same-length-3 (resolve-wrapper-calls t) (resolve-wrapper-at t) resolve-wrapper.Post
@@ -1065,7 +1138,7 @@ resolve-wrapper-same-length-3 t c =
 -- src/coerce.rt:250:9
 resolve-wrapper-returns-3 : (t : ℕ) → resolve-wrapper-lts.Need-returns-3 (resolve-wrapper-calls t) (resolve-wrapper-at t) resolve-wrapper.Post
 resolve-wrapper-returns-3 t c =
-    wrap-right _ _ _ (c .before .before .before .before .before .before .before .before .before .before .before .before .args .swap) _ _ _ _ _ (c .before .before .before .before .before .before .before .before .kind-at .ensures) (c .before .before .before .before .before .before .kind-at2 .ensures) (c .before .before .before .before .before .before .before .before .before .before .before .before .pre .1 .1) _ _ (c .before .before .before .before .before .if1 .left) (c .before .before .before .before .if3 .taken) (c .before .before .rewrapped2 .ensures)
+    wrap-right _ _ _ (c .before .before .before .before .before .before .before .before .before .before .before .before .args .swap) _ _ _ _ _ (c .before .before .before .before .before .before .before .before .kind-at .ensures) (c .before .before .before .before .before .before .kind-at2 .ensures) (c .before .before .before .before .before .before .before .before .before .before .before .before .pre .1 .1 .0) _ _ (c .before .before .before .before .before .if1 .left) (c .before .before .before .before .if3 .taken) (c .before .before .rewrapped2 .ensures)
 
 -- src/coerce.rt:212:1
 resolve-wrapper-same-length-4 : (t : ℕ) → resolve-wrapper-lts.Need-same-length-4 (resolve-wrapper-calls t) (resolve-wrapper-at t) resolve-wrapper.Post
@@ -1075,7 +1148,7 @@ resolve-wrapper-same-length-4 t c =
 -- src/coerce.rt:212:1
 resolve-wrapper-returns-4 : (t : ℕ) → resolve-wrapper-lts.Need-returns-4 (resolve-wrapper-calls t) (resolve-wrapper-at t) resolve-wrapper.Post
 resolve-wrapper-returns-4 t c =
-    wrap-none _ _ _ (c .before .before .before .before .before .before .before .before .args .swap) _ _ _ _ _ (c .before .before .before .before .kind-at .ensures) (c .before .before .kind-at2 .ensures) (c .before .before .before .before .before .before .before .before .pre .1 .1) (c .before .if1 .left) (c .if3 .left)
+    wrap-none _ _ _ (c .before .before .before .before .before .before .before .before .args .swap) _ _ _ _ _ (c .before .before .before .before .kind-at .ensures) (c .before .before .kind-at2 .ensures) (c .before .before .before .before .before .before .before .before .pre .1 .1 .0) (c .before .if1 .left) (c .if3 .left)
 
 -- src/coerce.rt:330:9
 rewrapped-returns : (t : ℕ) → rewrapped-lts.Need-returns (rewrapped-calls t) (rewrapped-at t) rewrapped.Post
@@ -1093,9 +1166,9 @@ rewrapped-look-requires-2 t c κs =
     search needs
 
 -- src/coerce.rt:335:11
-rewrapped-copy-head-requires : (t : ℕ) → rewrapped-lts.Need-copy-head-requires (rewrapped-calls t) (rewrapped-at t) rewrapped.Post
-rewrapped-copy-head-requires t c κs =
-    ((c .before .before .before .before .before .before .before .before .before .before .pre .1 .0), ((c .before .before .before .before .before .if1 .left), (omega arith, (c .before .before .before .look .ensures .1))))
+rewrapped-copy-parent-requires : (t : ℕ) → rewrapped-lts.Need-copy-parent-requires (rewrapped-calls t) (rewrapped-at t) rewrapped.Post
+rewrapped-copy-parent-requires t c κs =
+    ((c .before .before .before .before .before .before .before .before .before .before .pre .1 .0), ((c .before .before .before .before .before .if1 .left), (c .before .before .before .look .ensures .1)))
 
 -- src/coerce.rt:336:19
 rewrapped-enum-known-a : (t : ℕ) → rewrapped-lts.Need-enum-known-a (rewrapped-calls t) (rewrapped-at t) rewrapped.Post
@@ -1103,9 +1176,9 @@ rewrapped-enum-known-a t c =
     search needs
 
 -- src/coerce.rt:336:31
-rewrapped-copy-field-requires : (t : ℕ) → rewrapped-lts.Need-copy-field-requires (rewrapped-calls t) (rewrapped-at t) rewrapped.Post
-rewrapped-copy-field-requires t c κs =
-    let cp = rw (c .before .before .a .given .1) at (c .before .before .before .before .before .before .copy-head .ensures) in
+rewrapped-copy-index-requires : (t : ℕ) → rewrapped-lts.Need-copy-index-requires (rewrapped-calls t) (rewrapped-at t) rewrapped.Post
+rewrapped-copy-index-requires t c κs =
+    let cp = rw (c .before .before .a .given .1) at (c .before .before .before .before .before .before .copy-parent .ensures) in
     (room-kept (cp .kept) (c .before .before .before .before .before .before .before .before .before .before .before .before .before .before .before .before .before .pre .1 .0 .0), cp .passes .0)
 
 -- src/coerce.rt:337:23
@@ -1116,9 +1189,9 @@ rewrapped-enum-known-b t c =
 -- src/coerce.rt:337:35
 rewrapped-coerce-field-requires : (t : ℕ) → rewrapped-lts.Need-coerce-field-requires (rewrapped-calls t) (rewrapped-at t) rewrapped.Post
 rewrapped-coerce-field-requires t c κs =
-    let cp = rw (c .before .before .before .before .before .before .before .before .before .a .given .1) at (c .before .before .before .before .before .before .before .before .before .before .before .before .before .copy-head .ensures) in
-    let cf = rw (c .before .before .b .given .1) at (c .before .before .before .before .before .before .copy-field .ensures) in
-    (omega (arith, (c .before .before .before .before .before .before .before .before .before .before .before .before .before .before .before .before .before .before .before .before .before .before .before .before .pre .0)), (room-kept (cf .kept) (room-kept (cp .kept) (c .before .before .before .before .before .before .before .before .before .before .before .before .before .before .before .before .before .before .before .before .before .before .before .before .pre .1 .0 .0)), cf .grows .0))
+    let cp = rw (c .before .before .before .before .before .before .before .before .before .a .given .1) at (c .before .before .before .before .before .before .before .before .before .before .before .before .before .copy-parent .ensures) in
+    let cf = rw (c .before .before .b .given .1) at (c .before .before .before .before .before .before .copy-index .ensures) in
+    (omega (arith, (c .before .before .before .before .before .before .before .before .before .before .before .before .before .before .before .before .before .before .before .before .before .before .before .before .pre .0)), ((room-kept (cf .kept) (room-kept (cp .kept) (c .before .before .before .before .before .before .before .before .before .before .before .before .before .before .before .before .before .before .before .before .before .before .before .before .pre .1 .0 .0)), cf .grows .0), (c .before .before .before .before .before .before .before .before .before .before .before .before .before .before .before .before .before .before .before .before .before .before .before .before .pre .1 .1 .1 .1)))
 
 -- src/coerce.rt:349:27
 rewrapped-enum-known-e : (t : ℕ) → rewrapped-lts.Need-enum-known-e (rewrapped-calls t) (rewrapped-at t) rewrapped.Post
@@ -1128,16 +1201,16 @@ rewrapped-enum-known-e t c =
 -- src/coerce.rt:351:21
 rewrapped-tie-requires : (t : ℕ) → rewrapped-lts.Need-tie-requires (rewrapped-calls t) (rewrapped-at t) rewrapped.Post
 rewrapped-tie-requires t c κs =
-    let cp = rw (c .before .before .before .before .before .before .before .before .before .before .before .before .before .before .before .before .a .given .1) at (c .before .before .before .before .before .before .before .before .before .before .before .before .before .before .before .before .before .before .before .before .copy-head .ensures) in
-    let cf = rw (c .before .before .before .before .before .before .before .before .before .b .given .1) at (c .before .before .before .before .before .before .before .before .before .before .before .before .before .copy-field .ensures) in
+    let cp = rw (c .before .before .before .before .before .before .before .before .before .before .before .before .before .before .before .before .a .given .1) at (c .before .before .before .before .before .before .before .before .before .before .before .before .before .before .before .before .before .before .before .before .copy-parent .ensures) in
+    let cf = rw (c .before .before .before .before .before .before .before .before .before .b .given .1) at (c .before .before .before .before .before .before .before .before .before .before .before .before .before .copy-index .ensures) in
     let mf = rw (c .before .before .e .given .1) at (c .before .before .before .before .before .before .coerce-field .ensures) in
     ((room-kept (mf .kept) (room-kept (cf .kept) (room-kept (cp .kept) (c .before .before .before .before .before .before .before .before .before .before .before .before .before .before .before .before .before .before .before .before .before .before .before .before .before .before .before .before .before .before .before .pre .1 .0 .0)))), (omega (arith, cf .further, cf .grows .0 .records), omega (arith, cf .grows .0 .records, (c .before .before .before .before .before .before .before .before .before .before .before .before .before .before .before .before .before .before .before .before .before .before .before .before .before .before .before .before .before .before .before .pre .1 .0 .0 .few))))
 
 -- src/coerce.rt:352:21
 rewrapped-keep-wrapper-requires : (t : ℕ) → rewrapped-lts.Need-keep-wrapper-requires (rewrapped-calls t) (rewrapped-at t) rewrapped.Post
 rewrapped-keep-wrapper-requires t c κs =
-    let cp = rw (c .before .before .before .before .before .before .before .before .before .before .before .before .before .before .before .before .before .before .before .before .a .given .1) at (c .before .before .before .before .before .before .before .before .before .before .before .before .before .before .before .before .before .before .before .before .before .before .before .before .copy-head .ensures) in
-    let cf = rw (c .before .before .before .before .before .before .before .before .before .before .before .before .before .b .given .1) at (c .before .before .before .before .before .before .before .before .before .before .before .before .before .before .before .before .before .copy-field .ensures) in
+    let cp = rw (c .before .before .before .before .before .before .before .before .before .before .before .before .before .before .before .before .before .before .before .before .a .given .1) at (c .before .before .before .before .before .before .before .before .before .before .before .before .before .before .before .before .before .before .before .before .before .before .before .before .copy-parent .ensures) in
+    let cf = rw (c .before .before .before .before .before .before .before .before .before .before .before .before .before .b .given .1) at (c .before .before .before .before .before .before .before .before .before .before .before .before .before .before .before .before .before .copy-index .ensures) in
     let mf = rw (c .before .before .before .before .before .before .e .given .1) at (c .before .before .before .before .before .before .before .before .before .before .coerce-field .ensures) in
     (room-kept (tied-kept _ _ _ _ _ (c .before .before .before .tie .ensures) 0 (omega (arith, cf .further, cf .grows .0 .records))) (room-kept (mf .kept) (room-kept (cf .kept) (room-kept (cp .kept) (c .before .before .before .before .before .before .before .before .before .before .before .before .before .before .before .before .before .before .before .before .before .before .before .before .before .before .before .before .before .before .before .before .before .before .before .pre .1 .0 .0)))), (c .before .before .before .before .before .before .before .before .before .before .before .before .before .before .before .before .before .before .before .before .before .before .before .before .before .before .before .before .before .before .before .before .before .before .before .pre .1 .0 .1))
 
@@ -1174,18 +1247,18 @@ rewrapped-enum-told-6 t c =
 -- src/coerce.rt:312:1
 rewrapped-same-length : (t : ℕ) → rewrapped-lts.Need-same-length (rewrapped-calls t) (rewrapped-at t) rewrapped.Post
 rewrapped-same-length t c =
-    let cp = rw (c .before .before .before .before .before .before .before .before .before .before .before .before .before .before .before .before .before .before .before .before .before .before .before .a .given .1) at (c .before .before .before .before .before .before .before .before .before .before .before .before .before .before .before .before .before .before .before .before .before .before .before .before .before .before .before .copy-head .ensures) in
-    let cf = rw (c .before .before .before .before .before .before .before .before .before .before .before .before .before .before .before .before .b .given .1) at (c .before .before .before .before .before .before .before .before .before .before .before .before .before .before .before .before .before .before .before .before .copy-field .ensures) in
+    let cp = rw (c .before .before .before .before .before .before .before .before .before .before .before .before .before .before .before .before .before .before .before .before .before .before .before .a .given .1) at (c .before .before .before .before .before .before .before .before .before .before .before .before .before .before .before .before .before .before .before .before .before .before .before .before .before .before .before .copy-parent .ensures) in
+    let cf = rw (c .before .before .before .before .before .before .before .before .before .before .before .before .before .before .before .before .b .given .1) at (c .before .before .before .before .before .before .before .before .before .before .before .before .before .before .before .before .before .before .before .before .copy-index .ensures) in
     let mf = rw (c .before .before .before .before .before .before .before .before .before .e .given .1) at (c .before .before .before .before .before .before .before .before .before .before .before .before .before .coerce-field .ensures) in
-    wrapper-on _ _ _ _ _ _ _ _ _ _ (c .before .before .before .before .before .before .before .before .before .before .before .before .before .before .before .before .before .before .before .before .before .before .before .before .before .before .before .before .before .before .before .before .before .before .before .before .before .before .pre .1 .0 .0) (c .before .before .before .before .before .before .before .before .before .before .before .before .before .before .before .before .before .before .before .before .before .before .before .before .before .before .before .before .before .before .before .before .before .before .before .before .before .before .pre .1 .1 .0) _ (c .before .before .before .before .before .before .before .before .before .before .before .before .before .before .before .before .before .before .before .before .before .before .before .before .before .before .before .before .before .before .before .look .ensures .0) (c .before .before .before .before .before .before .before .before .before .before .before .before .before .before .before .before .before .before .before .before .before .before .before .before .before .before .before .before .before .before .before .before .before .before .before .before .before .before .pre .1 .1 .1) _ (c .before .before .before .before .before .before .before .before .before .before .before .before .before .before .before .before .before .before .before .before .before .before .before .before .before .before .before .before .before .look2 .ensures .0) _ _ cp _ _ cf _ _ mf _ (c .before .before .before .before .before .before .tie .ensures) _ _ (c .before .before .keep-wrapper .ensures) .writes .kept .long
+    wrapper-on _ _ _ _ _ _ _ _ _ _ (c .before .before .before .before .before .before .before .before .before .before .before .before .before .before .before .before .before .before .before .before .before .before .before .before .before .before .before .before .before .before .before .before .before .before .before .before .before .before .pre .1 .0 .0) (c .before .before .before .before .before .before .before .before .before .before .before .before .before .before .before .before .before .before .before .before .before .before .before .before .before .before .before .before .before .before .before .before .before .before .before .before .before .before .pre .1 .1 .0) _ (c .before .before .before .before .before .before .before .before .before .before .before .before .before .before .before .before .before .before .before .before .before .before .before .before .before .before .before .before .before .before .before .look .ensures .0) (c .before .before .before .before .before .before .before .before .before .before .before .before .before .before .before .before .before .before .before .before .before .before .before .before .before .before .before .before .before .before .before .before .before .before .before .before .before .before .pre .1 .1 .1 .0) _ (c .before .before .before .before .before .before .before .before .before .before .before .before .before .before .before .before .before .before .before .before .before .before .before .before .before .before .before .before .before .look2 .ensures .0) _ _ cp _ _ cf _ _ mf _ (c .before .before .before .before .before .before .tie .ensures) _ _ (c .before .before .keep-wrapper .ensures) .writes .kept .long
 
 -- src/coerce.rt:312:1
 rewrapped-returns-2 : (t : ℕ) → rewrapped-lts.Need-returns-2 (rewrapped-calls t) (rewrapped-at t) rewrapped.Post
 rewrapped-returns-2 t c =
-    let cp = rw (c .before .before .before .before .before .before .before .before .before .before .before .before .before .before .before .before .before .before .before .before .before .before .before .a .given .1) at (c .before .before .before .before .before .before .before .before .before .before .before .before .before .before .before .before .before .before .before .before .before .before .before .before .before .before .before .copy-head .ensures) in
-    let cf = rw (c .before .before .before .before .before .before .before .before .before .before .before .before .before .before .before .before .b .given .1) at (c .before .before .before .before .before .before .before .before .before .before .before .before .before .before .before .before .before .before .before .before .copy-field .ensures) in
+    let cp = rw (c .before .before .before .before .before .before .before .before .before .before .before .before .before .before .before .before .before .before .before .before .before .before .before .a .given .1) at (c .before .before .before .before .before .before .before .before .before .before .before .before .before .before .before .before .before .before .before .before .before .before .before .before .before .before .before .copy-parent .ensures) in
+    let cf = rw (c .before .before .before .before .before .before .before .before .before .before .before .before .before .before .before .before .b .given .1) at (c .before .before .before .before .before .before .before .before .before .before .before .before .before .before .before .before .before .before .before .before .copy-index .ensures) in
     let mf = rw (c .before .before .before .before .before .before .before .before .before .e .given .1) at (c .before .before .before .before .before .before .before .before .before .before .before .before .before .coerce-field .ensures) in
-    wrapper-on _ _ _ _ _ _ _ _ _ _ (c .before .before .before .before .before .before .before .before .before .before .before .before .before .before .before .before .before .before .before .before .before .before .before .before .before .before .before .before .before .before .before .before .before .before .before .before .before .before .pre .1 .0 .0) (c .before .before .before .before .before .before .before .before .before .before .before .before .before .before .before .before .before .before .before .before .before .before .before .before .before .before .before .before .before .before .before .before .before .before .before .before .before .before .pre .1 .1 .0) _ (c .before .before .before .before .before .before .before .before .before .before .before .before .before .before .before .before .before .before .before .before .before .before .before .before .before .before .before .before .before .before .before .look .ensures .0) (c .before .before .before .before .before .before .before .before .before .before .before .before .before .before .before .before .before .before .before .before .before .before .before .before .before .before .before .before .before .before .before .before .before .before .before .before .before .before .pre .1 .1 .1) _ (c .before .before .before .before .before .before .before .before .before .before .before .before .before .before .before .before .before .before .before .before .before .before .before .before .before .before .before .before .before .look2 .ensures .0) _ _ cp _ _ cf _ _ mf _ (c .before .before .before .before .before .before .tie .ensures) _ _ (c .before .before .keep-wrapper .ensures)
+    wrapper-on _ _ _ _ _ _ _ _ _ _ (c .before .before .before .before .before .before .before .before .before .before .before .before .before .before .before .before .before .before .before .before .before .before .before .before .before .before .before .before .before .before .before .before .before .before .before .before .before .before .pre .1 .0 .0) (c .before .before .before .before .before .before .before .before .before .before .before .before .before .before .before .before .before .before .before .before .before .before .before .before .before .before .before .before .before .before .before .before .before .before .before .before .before .before .pre .1 .1 .0) _ (c .before .before .before .before .before .before .before .before .before .before .before .before .before .before .before .before .before .before .before .before .before .before .before .before .before .before .before .before .before .before .before .look .ensures .0) (c .before .before .before .before .before .before .before .before .before .before .before .before .before .before .before .before .before .before .before .before .before .before .before .before .before .before .before .before .before .before .before .before .before .before .before .before .before .before .pre .1 .1 .1 .0) _ (c .before .before .before .before .before .before .before .before .before .before .before .before .before .before .before .before .before .before .before .before .before .before .before .before .before .before .before .before .before .look2 .ensures .0) _ _ cp _ _ cf _ _ mf _ (c .before .before .before .before .before .before .tie .ensures) _ _ (c .before .before .keep-wrapper .ensures)
 
 -- src/coerce.rt:312:1
 rewrapped-same-length-2 : (t : ℕ) → rewrapped-lts.Need-same-length-2 (rewrapped-calls t) (rewrapped-at t) rewrapped.Post
@@ -1195,9 +1268,9 @@ rewrapped-same-length-2 t c =
 -- src/coerce.rt:312:1
 rewrapped-returns-3 : (t : ℕ) → rewrapped-lts.Need-returns-3 (rewrapped-calls t) (rewrapped-at t) rewrapped.Post
 rewrapped-returns-3 t c =
-    let cp = rw (c .before .before .before .before .before .before .before .before .before .before .before .before .before .before .a .given .1) at (c .before .before .before .before .before .before .before .before .before .before .before .before .before .before .before .before .before .before .copy-head .ensures) in
-    let cf = rw (c .before .before .before .before .before .before .before .b .given .1) at (c .before .before .before .before .before .before .before .before .before .before .before .copy-field .ensures) in
-    value-none _ _ _ _ _ _ _ _ _ _ (c .before .before .before .before .before .before .before .before .before .before .before .before .before .before .before .before .before .before .before .before .before .before .before .before .before .before .before .before .before .pre .1 .0 .0) (c .before .before .before .before .before .before .before .before .before .before .before .before .before .before .before .before .before .before .before .before .before .before .before .before .before .before .before .before .before .pre .1 .1 .0) _ (c .before .before .before .before .before .before .before .before .before .before .before .before .before .before .before .before .before .before .before .before .before .before .look .ensures .0) (c .before .before .before .before .before .before .before .before .before .before .before .before .before .before .before .before .before .before .before .before .before .before .before .before .before .before .before .before .before .pre .1 .1 .1) _ (c .before .before .before .before .before .before .before .before .before .before .before .before .before .before .before .before .before .before .before .before .look2 .ensures .0) _ _ cp _ _ cf _ (rw (c .enum-told .given .1) at (c .before .before .before .before .coerce-field .ensures))
+    let cp = rw (c .before .before .before .before .before .before .before .before .before .before .before .before .before .before .a .given .1) at (c .before .before .before .before .before .before .before .before .before .before .before .before .before .before .before .before .before .before .copy-parent .ensures) in
+    let cf = rw (c .before .before .before .before .before .before .before .b .given .1) at (c .before .before .before .before .before .before .before .before .before .before .before .copy-index .ensures) in
+    value-none _ _ _ _ _ _ _ _ _ _ (c .before .before .before .before .before .before .before .before .before .before .before .before .before .before .before .before .before .before .before .before .before .before .before .before .before .before .before .before .before .pre .1 .0 .0) (c .before .before .before .before .before .before .before .before .before .before .before .before .before .before .before .before .before .before .before .before .before .before .before .before .before .before .before .before .before .pre .1 .1 .0) _ (c .before .before .before .before .before .before .before .before .before .before .before .before .before .before .before .before .before .before .before .before .before .before .look .ensures .0) (c .before .before .before .before .before .before .before .before .before .before .before .before .before .before .before .before .before .before .before .before .before .before .before .before .before .before .before .before .before .pre .1 .1 .1 .0) _ (c .before .before .before .before .before .before .before .before .before .before .before .before .before .before .before .before .before .before .before .before .look2 .ensures .0) _ _ cp _ _ cf _ (rw (c .enum-told .given .1) at (c .before .before .before .before .coerce-field .ensures))
 
 -- src/coerce.rt:312:1
 rewrapped-same-length-3 : (t : ℕ) → rewrapped-lts.Need-same-length-3 (rewrapped-calls t) (rewrapped-at t) rewrapped.Post
@@ -1207,9 +1280,9 @@ rewrapped-same-length-3 t c =
 -- src/coerce.rt:312:1
 rewrapped-returns-4 : (t : ℕ) → rewrapped-lts.Need-returns-4 (rewrapped-calls t) (rewrapped-at t) rewrapped.Post
 rewrapped-returns-4 t c =
-    let cp = rw (c .before .before .before .before .before .before .before .before .before .before .before .before .before .before .a .given .1) at (c .before .before .before .before .before .before .before .before .before .before .before .before .before .before .before .before .before .before .copy-head .ensures) in
-    let cf = rw (c .before .before .before .before .before .before .before .b .given .1) at (c .before .before .before .before .before .before .before .before .before .before .before .copy-field .ensures) in
-    value-full _ _ _ _ _ _ _ _ _ _ (c .before .before .before .before .before .before .before .before .before .before .before .before .before .before .before .before .before .before .before .before .before .before .before .before .before .before .before .before .before .pre .1 .0 .0) (c .before .before .before .before .before .before .before .before .before .before .before .before .before .before .before .before .before .before .before .before .before .before .before .before .before .before .before .before .before .pre .1 .1 .0) _ (c .before .before .before .before .before .before .before .before .before .before .before .before .before .before .before .before .before .before .before .before .before .before .look .ensures .0) (c .before .before .before .before .before .before .before .before .before .before .before .before .before .before .before .before .before .before .before .before .before .before .before .before .before .before .before .before .before .pre .1 .1 .1) _ (c .before .before .before .before .before .before .before .before .before .before .before .before .before .before .before .before .before .before .before .before .look2 .ensures .0) _ _ cp _ _ cf _ (rw (c .enum-told2 .given .1) at (c .before .before .before .before .coerce-field .ensures))
+    let cp = rw (c .before .before .before .before .before .before .before .before .before .before .before .before .before .before .a .given .1) at (c .before .before .before .before .before .before .before .before .before .before .before .before .before .before .before .before .before .before .copy-parent .ensures) in
+    let cf = rw (c .before .before .before .before .before .before .before .b .given .1) at (c .before .before .before .before .before .before .before .before .before .before .before .copy-index .ensures) in
+    value-full _ _ _ _ _ _ _ _ _ _ (c .before .before .before .before .before .before .before .before .before .before .before .before .before .before .before .before .before .before .before .before .before .before .before .before .before .before .before .before .before .pre .1 .0 .0) (c .before .before .before .before .before .before .before .before .before .before .before .before .before .before .before .before .before .before .before .before .before .before .before .before .before .before .before .before .before .pre .1 .1 .0) _ (c .before .before .before .before .before .before .before .before .before .before .before .before .before .before .before .before .before .before .before .before .before .before .look .ensures .0) (c .before .before .before .before .before .before .before .before .before .before .before .before .before .before .before .before .before .before .before .before .before .before .before .before .before .before .before .before .before .pre .1 .1 .1 .0) _ (c .before .before .before .before .before .before .before .before .before .before .before .before .before .before .before .before .before .before .before .before .look2 .ensures .0) _ _ cp _ _ cf _ (rw (c .enum-told2 .given .1) at (c .before .before .before .before .coerce-field .ensures))
 
 -- src/coerce.rt:312:1
 rewrapped-same-length-4 : (t : ℕ) → rewrapped-lts.Need-same-length-4 (rewrapped-calls t) (rewrapped-at t) rewrapped.Post
@@ -1219,8 +1292,8 @@ rewrapped-same-length-4 t c =
 -- src/coerce.rt:312:1
 rewrapped-returns-5 : (t : ℕ) → rewrapped-lts.Need-returns-5 (rewrapped-calls t) (rewrapped-at t) rewrapped.Post
 rewrapped-returns-5 t c =
-    let cp = rw (c .before .before .before .before .before .before .before .a .given .1) at (c .before .before .before .before .before .before .before .before .before .before .before .copy-head .ensures) in
-    index-none _ _ _ _ _ _ _ _ _ _ (c .before .before .before .before .before .before .before .before .before .before .before .before .before .before .before .before .before .before .before .before .before .before .pre .1 .0 .0) (c .before .before .before .before .before .before .before .before .before .before .before .before .before .before .before .before .before .before .before .before .before .before .pre .1 .1 .0) _ (c .before .before .before .before .before .before .before .before .before .before .before .before .before .before .before .look .ensures .0) (c .before .before .before .before .before .before .before .before .before .before .before .before .before .before .before .before .before .before .before .before .before .before .pre .1 .1 .1) _ (c .before .before .before .before .before .before .before .before .before .before .before .before .before .look2 .ensures .0) _ _ cp _ (rw (c .enum-told3 .given .1) at (c .before .before .before .before .copy-field .ensures))
+    let cp = rw (c .before .before .before .before .before .before .before .a .given .1) at (c .before .before .before .before .before .before .before .before .before .before .before .copy-parent .ensures) in
+    index-none _ _ _ _ _ _ _ _ _ _ (c .before .before .before .before .before .before .before .before .before .before .before .before .before .before .before .before .before .before .before .before .before .before .pre .1 .0 .0) (c .before .before .before .before .before .before .before .before .before .before .before .before .before .before .before .before .before .before .before .before .before .before .pre .1 .1 .0) _ (c .before .before .before .before .before .before .before .before .before .before .before .before .before .before .before .look .ensures .0) (c .before .before .before .before .before .before .before .before .before .before .before .before .before .before .before .before .before .before .before .before .before .before .pre .1 .1 .1 .0) _ (c .before .before .before .before .before .before .before .before .before .before .before .before .before .look2 .ensures .0) _ _ cp _ (rw (c .enum-told3 .given .1) at (c .before .before .before .before .copy-index .ensures))
 
 -- src/coerce.rt:312:1
 rewrapped-same-length-5 : (t : ℕ) → rewrapped-lts.Need-same-length-5 (rewrapped-calls t) (rewrapped-at t) rewrapped.Post
@@ -1230,8 +1303,8 @@ rewrapped-same-length-5 t c =
 -- src/coerce.rt:312:1
 rewrapped-returns-6 : (t : ℕ) → rewrapped-lts.Need-returns-6 (rewrapped-calls t) (rewrapped-at t) rewrapped.Post
 rewrapped-returns-6 t c =
-    let cp = rw (c .before .before .before .before .before .before .before .a .given .1) at (c .before .before .before .before .before .before .before .before .before .before .before .copy-head .ensures) in
-    index-full _ _ _ _ _ _ _ _ _ _ (c .before .before .before .before .before .before .before .before .before .before .before .before .before .before .before .before .before .before .before .before .before .before .pre .1 .0 .0) (c .before .before .before .before .before .before .before .before .before .before .before .before .before .before .before .before .before .before .before .before .before .before .pre .1 .1 .0) _ (c .before .before .before .before .before .before .before .before .before .before .before .before .before .before .before .look .ensures .0) (c .before .before .before .before .before .before .before .before .before .before .before .before .before .before .before .before .before .before .before .before .before .before .pre .1 .1 .1) _ (c .before .before .before .before .before .before .before .before .before .before .before .before .before .look2 .ensures .0) _ _ cp _ (rw (c .enum-told4 .given .1) at (c .before .before .before .before .copy-field .ensures))
+    let cp = rw (c .before .before .before .before .before .before .before .a .given .1) at (c .before .before .before .before .before .before .before .before .before .before .before .copy-parent .ensures) in
+    index-full _ _ _ _ _ _ _ _ _ _ (c .before .before .before .before .before .before .before .before .before .before .before .before .before .before .before .before .before .before .before .before .before .before .pre .1 .0 .0) (c .before .before .before .before .before .before .before .before .before .before .before .before .before .before .before .before .before .before .before .before .before .before .pre .1 .1 .0) _ (c .before .before .before .before .before .before .before .before .before .before .before .before .before .before .before .look .ensures .0) (c .before .before .before .before .before .before .before .before .before .before .before .before .before .before .before .before .before .before .before .before .before .before .pre .1 .1 .1 .0) _ (c .before .before .before .before .before .before .before .before .before .before .before .before .before .look2 .ensures .0) _ _ cp _ (rw (c .enum-told4 .given .1) at (c .before .before .before .before .copy-index .ensures))
 
 -- src/coerce.rt:312:1
 rewrapped-same-length-6 : (t : ℕ) → rewrapped-lts.Need-same-length-6 (rewrapped-calls t) (rewrapped-at t) rewrapped.Post
@@ -1241,7 +1314,7 @@ rewrapped-same-length-6 t c =
 -- src/coerce.rt:312:1
 rewrapped-returns-7 : (t : ℕ) → rewrapped-lts.Need-returns-7 (rewrapped-calls t) (rewrapped-at t) rewrapped.Post
 rewrapped-returns-7 t c =
-    absurd ((rw (c .enum-told5 .given .1) at (c .before .before .before .before .copy-head .ensures)) .means)
+    absurd ((rw (c .enum-told5 .given .1) at (c .before .before .before .before .copy-parent .ensures)) .means)
 
 -- src/coerce.rt:312:1
 rewrapped-same-length-7 : (t : ℕ) → rewrapped-lts.Need-same-length-7 (rewrapped-calls t) (rewrapped-at t) rewrapped.Post
@@ -1251,7 +1324,7 @@ rewrapped-same-length-7 t c =
 -- src/coerce.rt:312:1
 rewrapped-returns-8 : (t : ℕ) → rewrapped-lts.Need-returns-8 (rewrapped-calls t) (rewrapped-at t) rewrapped.Post
 rewrapped-returns-8 t c =
-    head-crowded _ _ _ _ _ _ _ _ _ _ (c .before .before .before .before .before .before .before .before .look .ensures .0) _ (rw (c .enum-told6 .given .1) at (c .before .before .before .before .copy-head .ensures))
+    head-crowded _ _ _ _ _ _ _ _ _ _ (c .before .before .before .before .before .before .before .before .look .ensures .0) _ (rw (c .enum-told6 .given .1) at (c .before .before .before .before .copy-parent .ensures))
 
 -- src/coerce.rt:880:9
 rows-row-end-requires : (t : ℕ) → rows-lts.Need-row-end-requires (rows-calls t) (rows-at t) rows.Post
@@ -1710,13 +1783,14 @@ wrapper-returns-6 : (t : ℕ) → wrapper-lts.Need-returns-6 (wrapper-calls t) (
 wrapper-returns-6 t c =
     wrapper-none _ _ _ (c .before .before .before .before .before .before .before .before .before .before .before .before .args .swap) _ _ _ _ _ (c .before .before .before .before .before .before .before .before .kind-at .ensures) (c .before .before .before .before .before .before .kind-at2 .ensures) (c .before .before .before .before .before .before .before .before .before .before .before .before .pre .1 .1) (c .before .if1 .left) (c .if4 .left)
 
-pub +both-parts+coerce+coerce-field+common+entry+list-rule+list-struct+map-rule+nested+resolve+resolve-wrapper+rewrapped+rows+struct-rule+under+unwrap+wrapper-spec :
+pub +both-parts+coerce+coerce-field+coerce-value+common+entry+list-rule+list-struct+map-rule+nested+resolve+resolve-wrapper+rewrapped+rows+struct-rule+under+unwrap+wrapper-spec :
     {M : Type 1} → statement M
-+both-parts+coerce+coerce-field+common+entry+list-rule+list-struct+map-rule+nested+resolve+resolve-wrapper+rewrapped+rows+struct-rule+under+unwrap+wrapper-spec =
++both-parts+coerce+coerce-field+coerce-value+common+entry+list-rule+list-struct+map-rule+nested+resolve+resolve-wrapper+rewrapped+rows+struct-rule+under+unwrap+wrapper-spec =
     close
     μ-both-parts
     μ-coerce
     μ-coerce-field
+    μ-coerce-value
     μ-common
     μ-entry
     μ-list-rule
@@ -1761,11 +1835,26 @@ pub +both-parts+coerce+coerce-field+common+entry+list-rule+list-struct+map-rule+
     (coerce-field-look-requires t)
     (coerce-field-is-nullable-requires t)
     (coerce-field-name-field-requires t)
-    (coerce-field-coerce-requires t)
+    (coerce-field-coerce-value-requires t)
     (coerce-field-same-length t)
     (coerce-field-returns t)
     (coerce-field-same-length-2 t)
     (coerce-field-returns-2 t))
+    (λ t. coerce-value-lts.spec (coerce-value-calls t)
+    (coerce-value-at t)
+    coerce-value.Post
+    (coerce-value-returns t)
+    (coerce-value-kind-at-requires t)
+    (coerce-value-kind-at-requires-2 t)
+    (coerce-value-either-requires t)
+    (coerce-value-both-requires t)
+    (coerce-value-sub-rewrapped t)
+    (coerce-value-rewrapped-requires t)
+    (coerce-value-same-length t)
+    (coerce-value-returns-2 t)
+    (coerce-value-coerce-requires t)
+    (coerce-value-same-length-2 t)
+    (coerce-value-returns-3 t))
     (λ t. common-lts.spec (common-calls t)
     (common-at t)
     common.Post
@@ -1913,9 +2002,9 @@ pub +both-parts+coerce+coerce-field+common+entry+list-rule+list-struct+map-rule+
     (rewrapped-returns t)
     (rewrapped-look-requires t)
     (rewrapped-look-requires-2 t)
-    (rewrapped-copy-head-requires t)
+    (rewrapped-copy-parent-requires t)
     (rewrapped-enum-known-a t)
-    (rewrapped-copy-field-requires t)
+    (rewrapped-copy-index-requires t)
     (rewrapped-enum-known-b t)
     (rewrapped-coerce-field-requires t)
     (rewrapped-enum-known-e t)
