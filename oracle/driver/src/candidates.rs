@@ -55,7 +55,7 @@ fn item(name: &[u8], t: DataType) -> DataType {
 }
 
 pub fn all() -> Vec<Hard> {
-    let cores = [integer(), zoned(), growing()];
+    let cores = [integer(), zoned(), dated(), growing()];
     let mut found = Vec::new();
     for setting in &SETTINGS {
         for core in &cores {
@@ -97,6 +97,20 @@ fn zoned() -> Core {
         first: ("a Timestamp", timestamp(0, Some("+01:00"))),
         rest: ("zoned Timestamps", rest.collect()),
     }
+}
+
+/// Dates and Timestamps with a zone in turn: a Date takes the zone away, and the next Timestamp
+/// brings one.
+fn dated() -> Core {
+    let rest = (0..MAX_RECORDS).map(|at| if at % 2 == 0 { Date32 } else { nanos("A") });
+    Core {
+        first: ("a Timestamp", nanos("+01:00")),
+        rest: ("Dates and zoned Timestamps in turn", rest.collect()),
+    }
+}
+
+fn nanos(zone: &str) -> DataType {
+    timestamp(3, Some(zone))
 }
 
 /// The least scale of a decimal of one digit, and Decimal256 of each scale above it: each of them
