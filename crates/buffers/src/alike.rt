@@ -196,11 +196,11 @@ pub fn same_type(a: &[u8], n: usize, i: usize, b: &[u8], m: usize, j: usize, nam
     requires { ⌜ (n < 65536) × (m < 65536) ⌝ }
     ensures { λ e. ⌜ SameTypes (now (a .entry)) n i (now (b .entry)) m j named e ⌝ }
 {
-    let g = head_at(a, i);
-    let h = head_at(b, j);
-    if g.kind != h.kind {
+    if head_at(a, i).kind != head_at(b, j).kind {
         return false;
     }
+    let g = head_at(a, i);
+    let h = head_at(b, j);
     if same_shape(a, n, g, b, m, h) {
         if g.first + h.first == 0 {
             return true;
