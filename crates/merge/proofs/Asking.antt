@@ -111,16 +111,25 @@ module _ (question : Question) (mask : ℕ) (space : Space) (left : ℕ) (swap :
           known-as both space swap s w v l r g o known left (omega arith)
           (λ x y a b d. (bare-turns (rulesOf question mask) both x y (left-kind ek ej 37 h a) (right-kind ek ej 37 h b) ∙ differ z x y a b d, λ k. sym (told x y a b d) ∙ z)) m
 
+  -- types of unlike kinds are not the same; the rule of two without parts
+  module _ {k j : ℕ} (ek : k ≡ headAt (side swap s w) l .kind) (ej : j ≡ headAt (side (not swap) s w) r .kind) (ne : ¬ (k ≡ j)) where
+    unlike : SameKnown false names space (side swap s w) l (side (not swap) s w) r false
+    unlike x y a b d = sym (types-unlike names x y (λ q. ne (sym (kind-of ek a) ∙ q ∙ kind-of ej b)))
+
+    pub coerce-unlike : (v : List ℕ) (o : Out) → (ltb k 32 && ltb j 32) ≡ true → ((i : ℕ) → Merges (plainRules (rulesOf question mask)) space i swap s w v l r g o)
+        → Merges both space left swap s w v l r g o
+    coerce-unlike v o h m = none-known swap (coerce-plain {known = false} {flag = names} {e = false} refl unlike v o refl ek ej h m)
+
   -- a wrapper in a list, and a type that is none: they are not the same, and come to the rule for one wrapper
   module _ {k j : ℕ} (ek : k ≡ headAt (side swap s w) l .kind) (ej : j ≡ headAt (side (not swap) s w) r .kind) (is : isWrapper k ≡ true) (lt : j < 37) where
     high : 37 ≤ k
     high = ⊎-elim (λ e. omega arith) (λ e. omega arith) (wrapper-is k is)
 
-    unlike : SameKnown false names space (side swap s w) l (side (not swap) s w) r false
-    unlike x y a b d = sym (types-unlike names x y (λ q. omega (arith, high, lt, kind-of ek a, kind-of ej b)))
+    apart : ¬ (k ≡ j)
+    apart q = omega (arith, high, lt)
 
     one : (v : List ℕ) (o : Out) → Merges (rewrapped k both) space (left - 1 + 1) swap s w v l r g o → Merges (eitherWrapped k both) space (left - 1 + 1) swap s w v l r g o
-    one v o m = wrap-left both space (left - 1) swap s w l r g ek ej is v o refl (λ q. omega (arith, high, lt)) m
+    one v o m = wrap-left both space (left - 1) swap s w l r g ek ej is v o refl (λ q. apart (sym q)) m
 
     by-kind : (v : List ℕ) (o : Out) → (k ≡ 37) ⊎ (k ≡ 38) → Merges (rewrapped k both) space (left - 1 + 1) swap s w v l r g o
         → Merges (resolved (rulesOf question mask) both) space (left - 1 + 1) swap s w v l r g o
@@ -134,7 +143,7 @@ module _ (question : Question) (mask : ℕ) (space : Space) (left : ℕ) (swap :
 
     pub coerce-wrapper : (v : List ℕ) (o : Out) → names ≡ true → ¬ (left ≡ 0) → Merges (rewrapped k both) space (left - 1 + 1) swap s w v l r g o
         → Merges both space left swap s w v l r g o
-    coerce-wrapper v o f more m = none-known swap (coerce-list {known = false} {flag = names} {e = false} refl unlike v o refl f more (by-kind v o (wrapper-is k is) m))
+    coerce-wrapper v o f more m = none-known swap (coerce-list {known = false} {flag = names} {e = false} refl (unlike ek ej apart) v o refl f more (by-kind v o (wrapper-is k is) m))
 
 -- what the test for sameness says
 pub same-known : (named : Bool) {space : Space} {s t : List ℕ} {l r : ℕ} {known : Bool} → known ≡ true → SameKnown known named space s l t r false

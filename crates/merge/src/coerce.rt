@@ -396,7 +396,8 @@ fn coerce_field(
     Out::Full
 }
 
-// The common type of a value and another type, or none. Of a wrapper and a type that is none it is known which rule they come to.
+// The common type of a value and another type, or none. A wrapper and a type that is none come to their rule at once, as do two types without parts whose
+// kinds differ.
 fn coerce_value(
     sheet: &[u8],
     work: &mut [u8],
@@ -432,6 +433,12 @@ fn coerce_value(
             r,
             g,
         );
+    }
+    if k == j {
+        return coerce(sheet, work, space, question, mask, left, swap, l, r, g);
+    }
+    if both(k < 32, j < 32) {
+        return plain_rule(sheet, work, space, question, mask, swap, l, r, g);
     }
     coerce(sheet, work, space, question, mask, left, swap, l, r, g)
 }

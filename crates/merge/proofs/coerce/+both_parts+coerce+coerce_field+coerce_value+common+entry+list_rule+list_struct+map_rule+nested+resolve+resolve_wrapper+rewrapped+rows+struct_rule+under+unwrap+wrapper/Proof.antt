@@ -7,7 +7,7 @@ use Rattle.sheet.proofs.Tests.{and-fst, and-snd}
 use Rattle.buffers.proofs.Chained.{room-kept}
 use Rattle.buffers.proofs.Fielding.{field-ready}
 use Rattle.merge.proofs.Joining.{rows-end, rows-spent, rows-unfed, rows-crowded, rows-none, rows-full, rows-rest-none, rows-rest-full, rows-done}
-use Rattle.merge.proofs.Asking.{coerce-spent, coerce-same, coerce-plain, coerce-bare, coerce-list, coerce-pair, coerce-wrapper}
+use Rattle.merge.proofs.Asking.{coerce-spent, coerce-same, coerce-plain, coerce-bare, coerce-list, coerce-pair, coerce-unlike, coerce-wrapper}
 use Rattle.merge.proofs.Merging.{any-known, none-known, merges-full}
 use Rattle.buffers.proofs.Tying.{tied-kept}
 use Rattle.merge.proofs.Rewrapping.{index-none, index-full, value-none, value-full, wrapper-on}
@@ -328,7 +328,7 @@ coerce-field-calls t =
 
 abbrev coerce-value-calls : ℕ → coerce-value-lts.Claims
 coerce-value-calls t =
-    (kind-at-reads.Asked, kind-at-reads.Learnt, either-reads.Asked, either-reads.Learnt, both-reads.Asked, both-reads.Learnt, rewrapped-below t, rewrapped.Post, coerce-below t, coerce.Post)
+    (kind-at-reads.Asked, kind-at-reads.Learnt, either-reads.Asked, either-reads.Learnt, both-reads.Asked, both-reads.Learnt, rewrapped-below t, rewrapped.Post, coerce-below t, coerce.Post, plain-rule-reads.Asked, plain-rule-reads.Learnt)
 
 abbrev common-calls : ℕ → common-lts.Claims
 common-calls t =
@@ -555,7 +555,7 @@ coerce-value-returns-2 t c =
 
 coerce-value-coerce-requires : (t : ℕ) → coerce-value-lts.Need-coerce-requires (coerce-value-calls t) (coerce-value-at t) coerce-value.Post
 coerce-value-coerce-requires t c κs =
-    (omega (arith, (c .before .before .before .before .before .before .before .before .before .before .before .pre .0)), (c .before .before .before .before .before .before .before .before .before .before .before .pre .1 .0))
+    (omega (arith, (c .before .before .before .before .before .before .before .before .before .before .before .before .pre .0)), (c .before .before .before .before .before .before .before .before .before .before .before .before .pre .1 .0))
 
 coerce-value-same-length-2 : (t : ℕ) → coerce-value-lts.Need-same-length-2 (coerce-value-calls t) (coerce-value-at t) coerce-value.Post
 coerce-value-same-length-2 t c =
@@ -564,6 +564,34 @@ coerce-value-same-length-2 t c =
 coerce-value-returns-3 : (t : ℕ) → coerce-value-lts.Need-returns-3 (coerce-value-calls t) (coerce-value-at t) coerce-value.Post
 coerce-value-returns-3 t c =
     (c .before .before .coerce .ensures)
+
+coerce-value-both-requires-2 : (t : ℕ) → coerce-value-lts.Need-both-requires-2 (coerce-value-calls t) (coerce-value-at t) coerce-value.Post
+coerce-value-both-requires-2 t c κs =
+    search needs
+
+coerce-value-plain-rule-requires : (t : ℕ) → coerce-value-lts.Need-plain-rule-requires (coerce-value-calls t) (coerce-value-at t) coerce-value.Post
+coerce-value-plain-rule-requires t c κs =
+    (c .before .before .before .before .before .before .before .before .before .before .before .before .before .before .pre .1 .0)
+
+coerce-value-same-length-3 : (t : ℕ) → coerce-value-lts.Need-same-length-3 (coerce-value-calls t) (coerce-value-at t) coerce-value.Post
+coerce-value-same-length-3 t c =
+    search needs
+
+coerce-value-returns-4 : (t : ℕ) → coerce-value-lts.Need-returns-4 (coerce-value-calls t) (coerce-value-at t) coerce-value.Post
+coerce-value-returns-4 t c =
+    coerce-unlike (c .before .before .before .before .before .before .before .before .before .before .before .before .before .before .before .before .before .args .question) (c .before .before .before .before .before .before .before .before .before .before .before .before .before .before .before .before .before .args .mask) (c .before .before .before .before .before .before .before .before .before .before .before .before .before .before .before .before .before .args .space) (c .before .before .before .before .before .before .before .before .before .before .before .before .before .before .before .before .before .args .left) (c .before .before .before .before .before .before .before .before .before .before .before .before .before .before .before .before .before .args .swap) _ _ _ _ _ (c .before .before .before .before .before .before .before .before .before .before .before .before .kind-at .ensures) (c .before .before .before .before .before .before .before .before .before .before .kind-at2 .ensures) (c .before .before .before .before .before .before .if3 .left) _ _ (sym (c .before .before .before .before .before .both2 .ensures) ∙ (c .before .before .before .before .if4 .taken)) (c .before .before .plain-rule .ensures)
+
+coerce-value-coerce-requires-2 : (t : ℕ) → coerce-value-lts.Need-coerce-requires-2 (coerce-value-calls t) (coerce-value-at t) coerce-value.Post
+coerce-value-coerce-requires-2 t c κs =
+    (omega (arith, (c .before .before .before .before .before .before .before .before .before .before .before .before .before .before .pre .0)), (c .before .before .before .before .before .before .before .before .before .before .before .before .before .before .pre .1 .0))
+
+coerce-value-same-length-4 : (t : ℕ) → coerce-value-lts.Need-same-length-4 (coerce-value-calls t) (coerce-value-at t) coerce-value.Post
+coerce-value-same-length-4 t c =
+    search needs
+
+coerce-value-returns-5 : (t : ℕ) → coerce-value-lts.Need-returns-5 (coerce-value-calls t) (coerce-value-at t) coerce-value.Post
+coerce-value-returns-5 t c =
+    (c .before .before .coerce2 .ensures)
 
 -- src/coerce.rt:100:9
 common-returns : (t : ℕ) → common-lts.Need-returns (common-calls t) (common-at t) common.Post
@@ -1854,7 +1882,14 @@ pub +both-parts+coerce+coerce-field+coerce-value+common+entry+list-rule+list-str
     (coerce-value-returns-2 t)
     (coerce-value-coerce-requires t)
     (coerce-value-same-length-2 t)
-    (coerce-value-returns-3 t))
+    (coerce-value-returns-3 t)
+    (coerce-value-both-requires-2 t)
+    (coerce-value-plain-rule-requires t)
+    (coerce-value-same-length-3 t)
+    (coerce-value-returns-4 t)
+    (coerce-value-coerce-requires-2 t)
+    (coerce-value-same-length-4 t)
+    (coerce-value-returns-5 t))
     (λ t. common-lts.spec (common-calls t)
     (common-at t)
     common.Post
