@@ -1,4 +1,3 @@
-use mathlib.Core.Path.{sym}
 use Rattle.buffers.proofs.Copying.{bare-copied}
 use borrow.Author.Needs.{needs}
 use Rattle.buffers.proofs.copy.copy_bare.Statement.{statement}
