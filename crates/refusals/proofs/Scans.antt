@@ -1,5 +1,5 @@
 -- The loops over a sheet's header and records, and the returns of `limits`. Assumes nothing.
-use mathlib.Core.Path.{_≡_, refl, ap, ap₂, sym, subst, _∙_}
+use mathlib.Core.Path.{_≡_, refl, ap, sym, subst, _∙_}
 use mathlib.Core.Bool.{Bool, true, false, not, _||_, _&&_}
 use mathlib.Core.List.{List, [], _∷_}
 use Prim.Native.Nat.{ℕ, zero, suc, _+_, _*_, _-_, _<_, _≤_}
@@ -7,12 +7,12 @@ use native.Mathlib.Omega.{arith}
 use native.Mathlib.Numerals.{add-one}
 use lib.ListN.{length, getD, take, drop}
 use lib.Seq.{drop-cons}
-use lib.Dec.{eqb, ltb}
+use lib.Dec.{eqb}
 use native.Mathlib.Decide.{ℕ-discrete}
 use borrow.Author.Tests.{eq-eqb, ne-eqb, eqb-true, lt-ltb, le-ltb, ltb-false, not-false}
-use Rattle.sheet.specs.Tests.{allOf, oneOf}
+use Rattle.sheet.specs.Tests.{allOf}
 use Rattle.sheet.specs.Kind.{isKind}
-use Rattle.sheet.specs.Head.{word, quadAt, headAt}
+use Rattle.sheet.specs.Head.{quadAt, headAt}
 use Rattle.sheet.specs.Read.{recordsOf, labelsOf}
 use Rattle.sheet.specs.Refusals.{allZero, anyFrom, torn}
 use Rattle.refusals.specs.Limits.{Fits}

@@ -1,19 +1,18 @@
 -- What `check` answers, from what it found. Assumes nothing.
 use mathlib.Core.Path.{_≡_, refl, ap, ap₂, sym, subst, _∙_}
 use mathlib.Core.Bool.{Bool, true, false, cond, not, _||_, _&&_, or-assoc, or-false}
-use mathlib.Core.List.{List, [], _∷_, _++_}
-use Prim.Native.Nat.{ℕ, zero, suc, _+_, _*_, _-_, _<_, _≤_}
+use mathlib.Core.List.{List, [], _∷_}
+use Prim.Native.Nat.{ℕ, _+_, _-_, _≤_}
 use native.Mathlib.Omega.{arith}
-use lib.ListN.{length}
-use lib.Dec.{eqb, ltb}
-use borrow.Author.Tests.{eq-eqb, ne-eqb, eqb-true, eqb-false}
+use lib.Dec.{eqb}
+use borrow.Author.Tests.{eq-eqb, ne-eqb, eqb-true}
 use Rattle.sheet.specs.Kind as Kind
 use Rattle.sheet.specs.Kind.{isKind}
 use Rattle.sheet.specs.Types.{Fields, end, field, count}
 use Rattle.sheet.specs.Head.{headAt, labelled}
 use Rattle.sheet.specs.Read.{recordsOf, labelsOf, start, read, walkFrom}
 use Rattle.sheet.specs.Names.{hasName, repeats, namesDiffer}
-use Rattle.sheet.specs.Refusals.{Met, met, walk, torn, anyFrom, badKind, linked, badChain, recordRight, anyWrong, badFigure, labelRight, misplaced, badLabel, refusal, Verdict, verdict, numberOf}
+use Rattle.sheet.specs.Refusals.{Met, walk, torn, anyFrom, badKind, linked, badChain, recordRight, anyWrong, badFigure, labelRight, misplaced, badLabel, refusal, Verdict, verdict, numberOf}
 use Rattle.sheet.specs.Holds.{Plain, Holds}
 use Rattle.refusals.specs.Walk.{passHead, passAll, Says, Walks}
 use Rattle.refusals.specs.Limits.{Fits}
@@ -25,7 +24,7 @@ use Rattle.refusals.specs.declared.Walked.{Walked}
 use Rattle.refusals.specs.declared.Walked.the-variants.{Came, Lost}
 use Rattle.sheet.proofs.Tests.{all-not, all-cons, all-nil, one-is, one-cons, one-nil, not-of}
 use Rattle.refusals.proofs.Walking.{pass-due, met-length}
-use Rattle.sheet.proofs.Accepted.{Sound, sound-holds}
+use Rattle.sheet.proofs.Accepted.{sound-holds}
 
 -- what the scan over the kinds says
 pub odd-kinds : (s : List ℕ) (n : ℕ) {b w : Bool} → n ≡ recordsOf s → b ≡ anyFrom (λ r. not (isKind (headAt s r .kind))) 1 (n - 1) → b ≡ w → badKind s ≡ w

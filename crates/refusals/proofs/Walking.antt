@@ -1,8 +1,8 @@
 -- The returns of `walk`, each from what its calls ensure. Assumes nothing.
 use mathlib.Core.Path.{_≡_, refl, ap, ap₂, sym, subst, _∙_}
-use mathlib.Core.Bool.{Bool, true, false, not, _||_, _&&_}
+use mathlib.Core.Bool.{Bool, true, false, not, _&&_}
 use mathlib.Core.List.{List, [], _∷_, _++_}
-use Prim.Native.Nat.{ℕ, zero, suc, _+_, _*_, _<_, _≤_}
+use Prim.Native.Nat.{ℕ, zero, suc, _+_, _<_, _≤_}
 use native.Mathlib.Omega.{arith}
 use lib.ListN.{length, length-append}
 use lib.Dec.{eqb, ltb}
@@ -11,8 +11,8 @@ use Rattle.sheet.specs.Kind.{partsRight}
 use Rattle.sheet.specs.Types.{Fields, end, field, arity, count}
 use Rattle.sheet.specs.Head.{headAt}
 use Rattle.sheet.specs.Read.{fieldOf, walkFrom}
-use Rattle.sheet.specs.Refusals.{Met, met, linked, recordRight, labelRight}
-use Rattle.refusals.specs.Walk.{passHead, passAll, Ready, Grows, Says, Walks}
+use Rattle.sheet.specs.Refusals.{Met, met, linked}
+use Rattle.refusals.specs.Walk.{passHead, passAll, Ready, Says, Walks}
 use Rattle.sheet.specs.declared.Head.{Head}
 use Rattle.refusals.specs.declared.Progress.{Progress}
 use Rattle.refusals.specs.declared.Walked.{Walked}

@@ -1,6 +1,6 @@
 -- What the walk over a whole sheet found, as the code carries it.
 use mathlib.Core.Path.{_≡_}
-use Prim.Native.Nat.{ℕ, _+_}
+use Prim.Native.Nat.{ℕ}
 use mathlib.Core.Bool.{true, false}
 use mathlib.Core.List.{List}
 use Rattle.sheet.specs.Read.{start, read}

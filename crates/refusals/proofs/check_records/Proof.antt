@@ -1,13 +1,6 @@
-use native.Mathlib.Omega.{arith}
 use borrow.Author.Needs.{needs}
-use Prim.Native.Nat.{ℕ, _-_, _+_, _*_, _≤_}
-use mathlib.Core.Path.{_≡_, refl, sym, _∙_, ap, ap₂}
-use mathlib.Core.Bool.{Bool, true, false, not, _&&_}
-use borrow.Author.Tests.{eq-eqb, ne-eqb, lt-ltb, le-ltb}
-use Rattle.sheet.specs.Refusals.{badKind, anyFrom}
-use Rattle.sheet.specs.Kind.{isKind}
-use Rattle.sheet.specs.Head.{headAt}
-use Rattle.refusals.proofs.Verdicts.{says-torn, says-kind, chain-lost, chain-found, found-short, found-figure, found-label, found-end, found-twins, found-sheet, odd-kinds}
+use Prim.Native.Nat.{_-_}
+use Rattle.refusals.proofs.Verdicts.{says-kind, chain-lost, chain-found, odd-kinds}
 use borrow.Author.Needs.{needs}
 use Rattle.refusals.proofs.check_records.Statement.{statement}
 use Rattle.refusals.proofs.check_records.Tie as tie

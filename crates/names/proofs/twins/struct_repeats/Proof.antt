@@ -1,4 +1,3 @@
-use native.Mathlib.Omega.{arith}
 use Rattle.names.proofs.Rows.{found-struct, found-plain}
 use borrow.Author.Needs.{needs}
 use Rattle.names.proofs.twins.struct_repeats.Statement.{statement}

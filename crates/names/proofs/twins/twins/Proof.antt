@@ -1,6 +1,6 @@
-use Prim.Native.Nat.{ℕ, _-_, _+_, _<_, _≤_}
+use Prim.Native.Nat.{ℕ, _-_, _<_, _≤_}
 use mathlib.Core.Path.{sym, ap, _∙_}
-use mathlib.Core.Bool.{Bool, false, not}
+use mathlib.Core.Bool.{false, not}
 use native.Mathlib.Omega.{arith}
 use Rattle.names.specs.Twins.{Finds}
 use Rattle.names.proofs.Rows.{none-found, one-found, found-more}
