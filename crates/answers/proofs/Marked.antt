@@ -12,7 +12,7 @@ use lib.Seq.{take-at}
 use Rattle.sheet.specs.Tests.{allOf, oneOf, between}
 use Rattle.sheet.specs.Kind as Kind
 use Rattle.sheet.specs.Kind.{isKind, isDecimal, cap, sized, lastUnit, partsRight, namesParts}
-use Rattle.sheet.specs.Types.{Zone, present, Fields, end, field, arity, count, labels}
+use Rattle.sheet.specs.Types.{present, Fields, end, field, arity, count, labels}
 use Rattle.sheet.specs.Head.{headAt}
 use Rattle.sheet.specs.Names.{sameBytes, hasName, repeats, namesDiffer}
 use Rattle.sheet.specs.Encode.{records, encode}

@@ -6,11 +6,11 @@ use Prim.Native.Nat.{ℕ, suc, _+_, _*_, _%_, _<_, _≤_}
 use native.Mathlib.Omega.{arith}
 use lib.ListN.{length}
 use lib.Dec.{eqb}
-use borrow.Author.Tests.{eq-eqb, ne-eqb, lt-ltb, le-ltb, eqb-true}
+use borrow.Author.Tests.{eq-eqb, ne-eqb, lt-ltb, le-ltb}
 use Rattle.sheet.specs.Types.{Fields, end, field, arity, count, labels}
 use Rattle.sheet.specs.Encode.{linkTo}
 use Rattle.sheet.specs.Head.{headAt}
-use Rattle.sheet.specs.Read.{recordsOf, labelsOf, start, read}
+use Rattle.sheet.specs.Read.{start, read}
 use Rattle.sheet.specs.Holds.{Plain, Holds, Leads}
 use Rattle.sheet.specs.Refusals.{Condition, firstMet, Verdict, verdict}
 use Rattle.sheet.specs.Refusals as Sheet

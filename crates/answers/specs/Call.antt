@@ -1,11 +1,11 @@
 -- A whole call on bytes: everything that can be seen after it.
 use Prim.Native.Nat.{ℕ, _+_, _*_, _%_, _^_}
-use mathlib.Core.Bool.{Bool, true, false, cond, not, _&&_, _||_}
+use mathlib.Core.Bool.{Bool, false, cond, not, _&&_, _||_}
 use mathlib.Core.List.{List, [], _∷_, _++_}
 use mathlib.Core.Option.{Option, none, some}
 use lib.ListN.{length, drop, replicate}
 use lib.Dec.{eqb, ltb}
-use Rattle.sheet.specs.Types.{Fields, arity}
+use Rattle.sheet.specs.Types.{arity}
 use Rattle.sheet.specs.Encode.{encode}
 use Rattle.sheet.specs.Read.{read}
 use Rattle.sheet.specs.Refusals.{Condition, firstMet}

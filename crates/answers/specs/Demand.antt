@@ -1,14 +1,13 @@
 -- Demand 3: one claim about every list of one family, every order of it and every cutting.
 use mathlib.Core.Path.{_≡_}
-use Prim.Native.Nat.{ℕ, _<_}
 use mathlib.Core.List.{List, [], _∷_, Perm, flatten}
 use lib.ListN.{length, take}
 use Rattle.sheet.specs.Encode.{encode}
 use Rattle.sheet.specs.Read.{read}
 use Rattle.sheet.specs.Holds.{Plain}
-use Rattle.coercion.specs.Data.{DataType, single, typesOf, Question, list}
+use Rattle.coercion.specs.Data.{DataType, single, typesOf, list}
 use Rattle.coercion.specs.Families.{Family, Common, AllIn, SomeIn}
-use Rattle.answers.specs.Call.{Call, refusal, Reply, refused, nothing, written, Outcome, outcome}
+use Rattle.answers.specs.Call.{Call, refusal, written, outcome}
 
 -- a list call on a sheet of these types, which no refusal condition meets; mask, output and work space are its own
 pub record Asks (c : Call) (types : List DataType) : Type 0 where

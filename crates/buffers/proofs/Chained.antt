@@ -1,9 +1,9 @@
 -- A chain that was copied, record by record. Assumes nothing.
-use mathlib.Core.Path.{_≡_, refl, ap, ap₂, sym, subst, subst₂, _∙_}
-use mathlib.Core.Bool.{Bool, true, false}
+use mathlib.Core.Path.{_≡_, refl, ap, sym, subst, subst₂, _∙_}
+use mathlib.Core.Bool.{Bool}
 use mathlib.Core.List.{List, [], _∷_, _++_}
 use mathlib.Core.Logic.{_⊎_, inl, inr, ⊎-elim}
-use Prim.Native.Nat.{ℕ, zero, suc, _+_, _*_, _-_, _<_, _≤_}
+use Prim.Native.Nat.{ℕ, _+_, _-_, _≤_}
 use native.Mathlib.Omega.{arith}
 use types.Run.{OneOf, miss}
 use denote.Enum.Declared.{tagOf}
@@ -11,12 +11,11 @@ use lib.ListN.{length, length-append}
 use Rattle.sheet.specs.Types.{Shape, Fields, end, field, count, ownLabels, labels}
 use Rattle.sheet.specs.Names.{namesDiffer}
 use Rattle.sheet.specs.Head.{headAt}
-use Rattle.sheet.specs.Holds.{Stands, Holds}
+use Rattle.sheet.specs.Holds.{Holds}
 use Rattle.sheet.specs.declared.Head.{Head}
 use Rattle.sheet.proofs.Tests.{all-at}
-use Rattle.buffers.specs.Source.{Source}
 use Rattle.buffers.specs.Writes.{side}
-use Rattle.buffers.specs.Region.{Room, region, Kept, Held, Inside, Grows, Short, Wrote, CopiedRecord, ChainMeans, CopiedChain}
+use Rattle.buffers.specs.Region.{Room, region, Kept, Held, Inside, Short, Wrote, CopiedRecord, CopiedChain}
 use Rattle.buffers.specs.declared.Space.{Space}
 use Rattle.buffers.specs.declared.Spot.{Spot}
 use Rattle.buffers.specs.declared.Out.{Out}

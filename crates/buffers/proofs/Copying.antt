@@ -1,29 +1,27 @@
 -- A record that was copied. Assumes nothing.
 use mathlib.Core.Path.{_≡_, refl, ap, ap₂, sym, subst, subst₂, _∙_}
-use mathlib.Core.Bool.{Bool, true, false, cond, not}
-use mathlib.Core.List.{List, [], _∷_, _++_}
-use mathlib.Core.Logic.{_⊎_, inl, inr}
-use Prim.Native.Nat.{ℕ, zero, suc, _+_, _*_, _-_, _/_, _%_, _<_, _≤_}
+use mathlib.Core.Bool.{Bool, true, false, cond}
+use mathlib.Core.List.{List, [], _∷_}
+use Prim.Native.Nat.{ℕ, suc, _+_, _*_, _-_, _/_, _%_, _<_, _≤_}
 use native.Mathlib.Omega.{arith}
-use lib.ListN.{length, getD, take, drop, length-append, length-take, length-drop}
+use lib.ListN.{length, take, drop, length-append, length-take, length-drop}
 use lib.Seq.{drop-drop, getD-drop}
-use lib.Dec.{eqb, ltb}
-use borrow.Author.Tests.{eq-eqb, ne-eqb, lt-ltb, le-ltb}
+use lib.Dec.{eqb}
+use borrow.Author.Tests.{ne-eqb, lt-ltb, le-ltb}
 use Rattle.sheet.specs.Types.{Zone, absent, present, Shape, Fields, end, field, count, zoneBytes, ownLabels, labels}
 use Rattle.sheet.specs.Head.{headAt, bytesOf, nullableIn, zonedIn, zoneAt, zoneLen, labelled}
 use Rattle.sheet.specs.Encode.{linkTo, offset, bit, flagsOf, quadOf, headOf}
-use Rattle.sheet.specs.Read.{labelAt, zoneOf, shapeOf}
-use Rattle.sheet.specs.Carried.{Label, FieldRight, isZoned}
-use Rattle.sheet.specs.Holds.{Span, Stands, Holds}
+use Rattle.sheet.specs.Read.{labelAt, zoneOf}
+use Rattle.sheet.specs.Carried.{Label, FieldRight}
+use Rattle.sheet.specs.Holds.{Span, Stands}
 use Rattle.sheet.specs.declared.Head.{Head}
 use Rattle.sheet.proofs.Spans.{span-join, span-move}
 use Rattle.sheet.proofs.Heads.{span-head}
 use Rattle.sheet.proofs.Reading.{flag-zone, quad-length}
 use Rattle.sheet.proofs.Repeating.{head-is}
 use Rattle.sheet.proofs.Carrying.{own-length}
-use Rattle.buffers.specs.Source.{Source}
 use Rattle.buffers.specs.Writes.{side, Put}
-use Rattle.buffers.specs.Region.{Room, region, Kept, Held, Inside, Grows, Further, movedLink, movedLabel, goalHead, Ready, Named, HeadMeans, Passes, CopiedHead, CopiedBare, CopyMeans, CopiedRecord}
+use Rattle.buffers.specs.Region.{Room, region, Kept, Held, Inside, movedLink, movedLabel, goalHead, Ready, Named, CopiedHead, CopiedBare, CopiedRecord}
 use Rattle.buffers.specs.declared.Space.{Space}
 use Rattle.buffers.specs.declared.Spot.{Spot}
 use Rattle.buffers.specs.declared.Goal.{Goal}

@@ -1,19 +1,18 @@
 -- What stands in bytes stands in others that agree with them. Assumes nothing.
-use mathlib.Core.Path.{_≡_, refl, ap, ap₂, sym, subst, _∙_}
-use mathlib.Core.Bool.{Bool, true, false, cond}
+use mathlib.Core.Path.{_≡_, refl, ap, ap₂, sym, _∙_}
+use mathlib.Core.Bool.{Bool, cond}
 use mathlib.Core.List.{List, [], _∷_, _++_}
-use Prim.Native.Nat.{ℕ, zero, suc, _+_, _*_, _-_, _/_, _<_, _≤_}
+use Prim.Native.Nat.{ℕ, _+_, _*_, _-_, _/_, _<_, _≤_}
 use native.Mathlib.Omega.{arith}
-use lib.ListN.{length, getD, take, drop, length-append, length-drop}
+use lib.ListN.{length, getD, drop, length-append, length-drop}
 use lib.Seq.{getD-drop}
 use lib.Dec.{ltb}
 use Rattle.sheet.specs.Types.{Shape, Fields, end, field, count, ownLabels, labels}
 use Rattle.sheet.specs.Head.{headAt, headFrom, blank}
-use Rattle.sheet.specs.Holds.{Span, Stands, Holds, Leads}
+use Rattle.sheet.specs.Holds.{Span, Stands, Holds}
 use Rattle.sheet.specs.declared.Head.{Head}
 use Rattle.sheet.proofs.Spans.{at-span, span-at, span-inside, span-nil}
-use Rattle.buffers.specs.Source.{Source}
-use Rattle.buffers.specs.Region.{Room, region, Kept, Held}
+use Rattle.buffers.specs.Region.{region, Kept, Held}
 use Rattle.buffers.specs.declared.Space.{Space}
 
 -- the same bytes from i up to e

@@ -1,30 +1,29 @@
 -- A type that was written at a goal. Assumes nothing.
-use mathlib.Core.Path.{_≡_, refl, ap, ap₂, sym, subst, subst₂, _∙_}
-use mathlib.Core.Bool.{Bool, true, false, cond}
-use mathlib.Core.List.{List, [], _∷_, _++_}
+use mathlib.Core.Path.{_≡_, ap, sym, subst₂, _∙_}
+use mathlib.Core.Bool.{Bool, false}
+use mathlib.Core.List.{List, [], _++_}
 use mathlib.Core.Logic.{_⊎_, inl, inr, ⊎-elim}
-use mathlib.Core.Option.{Option, none, some}
-use Prim.Native.Nat.{ℕ, zero, suc, _+_, _*_, _-_, _<_, _≤_}
+use mathlib.Core.Option.{some}
+use Prim.Native.Nat.{ℕ, _+_, _*_, _-_, _<_, _≤_}
 use native.Mathlib.Omega.{arith}
-use lib.ListN.{length, getD, drop, length-append, length-drop}
+use lib.ListN.{length, length-append, length-drop}
 use lib.Seq.{getD-drop}
-use Rattle.sheet.specs.Types.{Zone, absent, present, Shape, Fields, end, field, count, zoneBytes, ownLabels, labels}
+use Rattle.sheet.specs.Types.{Shape, Fields, field, count, zoneBytes, ownLabels, labels}
 use Rattle.sheet.specs.Head.{headAt, bytesOf}
-use Rattle.sheet.specs.Encode.{linkTo, offset, bit, headOf}
-use Rattle.sheet.specs.Holds.{Span, Stands, Holds}
+use Rattle.sheet.specs.Encode.{offset, bit, headOf}
+use Rattle.sheet.specs.Holds.{Stands, Holds}
 use Rattle.sheet.specs.declared.Head.{Head}
 use Rattle.sheet.proofs.Spans.{span-join, span-nil, span-move}
 use Rattle.sheet.proofs.Heads.{span-head}
-use Rattle.coercion.specs.Data.{DataType, size}
 use Rattle.buffers.specs.Writes.{side, Put}
-use Rattle.buffers.specs.Region.{Room, region, Kept, Held, Inside, Ready, Named, Passes, Wrote, Short, movedLabel, CopiedHead, CopiedChain}
-use Rattle.buffers.specs.Goal.{letters, spotOf, fieldFor, NoRoom, Means, Writes, Laid, LaidPlain, LaidZoned, CopiedType, typeOf, shapeFor, zonedShape}
+use Rattle.buffers.specs.Region.{Room, region, Kept, Held, Ready, Named, movedLabel, CopiedHead, CopiedChain}
+use Rattle.buffers.specs.Goal.{letters, NoRoom, Writes, Laid, LaidPlain, LaidZoned, CopiedType, shapeFor, zonedShape}
 use Rattle.buffers.specs.declared.Space.{Space}
 use Rattle.buffers.specs.declared.Spot.{Spot}
 use Rattle.buffers.specs.declared.Goal.{Goal}
 use Rattle.buffers.specs.declared.Out.{Out}
 use Rattle.buffers.specs.declared.Out.the-variants.{Done, No, Full}
-use Rattle.buffers.proofs.Frames.{span-frame, stands-frame, wrote-frame, kept-self, kept-trans, kept-wider}
+use Rattle.buffers.proofs.Frames.{span-frame, stands-frame, kept-self, kept-trans, kept-wider}
 use Rattle.buffers.proofs.Copying.{span-region, label-kept, head-kept, held-side, moved-name}
 use Rattle.buffers.proofs.Chained.{held-first}
 

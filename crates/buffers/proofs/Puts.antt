@@ -1,8 +1,8 @@
 -- Bytes that were put into a buffer. Assumes nothing.
 use mathlib.Core.Path.{_≡_, refl, ap, ap₂, sym, subst, _∙_}
-use mathlib.Core.Bool.{Bool, true, false, not}
+use mathlib.Core.Bool.{Bool, true, false}
 use mathlib.Core.List.{List, [], _∷_, _++_, append-nil}
-use Prim.Native.Nat.{ℕ, zero, suc, _+_, _*_, _-_, _/_, _%_, _<_, _≤_}
+use Prim.Native.Nat.{ℕ, _+_, _*_, _-_, _/_, _%_, _<_, _≤_}
 use native.Mathlib.Decide.{ℕ-discrete}
 use native.Mathlib.Omega.{arith}
 use lib.ListN.{length, getD, set, take, drop, length-set, length-append, length-take, length-drop, drop-of-length-le, List·getD-append}
@@ -13,7 +13,7 @@ use Rattle.sheet.specs.Read.{labelAt}
 use Rattle.sheet.specs.Holds.{Span}
 use Rattle.sheet.specs.Bounds.{Filled}
 use Rattle.sheet.proofs.Spans.{at-eq, at-span, span-at, span-join}
-use Rattle.buffers.specs.Writes.{side, Put}
+use Rattle.buffers.specs.Writes.{Put}
 
 -- u in the middle of a list
 pub put-list : (w v u : List ℕ) (i : ℕ) → i + length u ≤ length w → v ≡ take i w ++ (u ++ drop (i + length u) w) → Put w v i u

@@ -1,15 +1,14 @@
 -- What a record of a source is read as, and where its links lead. Assumes nothing.
-use mathlib.Core.Path.{_≡_, refl, ap, ap₂, sym, subst, _∙_}
-use mathlib.Core.Bool.{Bool, true, false}
-use mathlib.Core.List.{List, [], _∷_, _++_}
-use Prim.Native.Nat.{ℕ, zero, suc, _+_, _*_, _<_, _≤_}
+use mathlib.Core.Path.{_≡_, refl, ap, _∙_}
+use mathlib.Core.Bool.{Bool, false}
+use mathlib.Core.List.{List, [], _++_}
+use Prim.Native.Nat.{ℕ, _+_, _<_, _≤_}
 use native.Mathlib.Omega.{arith}
 use lib.ListN.{length, length-append}
-use Rattle.sheet.specs.Types.{Zone, absent, Shape, Fields, end, field, count, zoneBytes, ownLabels, labels}
+use Rattle.sheet.specs.Types.{absent, Shape, Fields, end, field, count, zoneBytes, ownLabels, labels}
 use Rattle.sheet.specs.Head.{headAt, nullableIn}
-use Rattle.sheet.specs.Encode.{linkTo, headOf}
+use Rattle.sheet.specs.Encode.{linkTo}
 use Rattle.sheet.specs.Read.{labelAt, shapeOf, fieldOf}
-use Rattle.sheet.specs.Holds.{Leads}
 use Rattle.sheet.specs.declared.Head.{Head}
 use Rattle.sheet.proofs.Reading.{field-back}
 use Rattle.sheet.proofs.Repeating.{head-is, first-leads, next-leads}

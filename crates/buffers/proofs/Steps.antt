@@ -1,6 +1,6 @@
 -- The returns of the rules for types without parts. Assumes nothing.
 use mathlib.Core.Path.{_≡_, refl, ap, ap₂, sym, subst, _∙_}
-use mathlib.Core.Bool.{Bool, true, false, cond, _&&_, _||_}
+use mathlib.Core.Bool.{Bool, true, false, _&&_}
 use mathlib.Core.Option.{Option, none}
 use Prim.Native.Nat.{ℕ, _<_}
 use native.Mathlib.Omega.{arith}
@@ -14,17 +14,15 @@ use Rattle.sheet.specs.declared.Head.{Head}
 use Rattle.sheet.proofs.Tests.{never}
 use Rattle.coercion.specs.declared.Figures.{Figures}
 use Rattle.coercion.specs.Data.{DataType, Question, list, union, compare, figuresOf, asType}
-use Rattle.coercion.specs.Kinds.{isString, isDate, isTime, isList}
+use Rattle.coercion.specs.Kinds.{isString, isDate, isTime}
 use Rattle.coercion.specs.Times.{isTimeWithValidUnit, zoneCoercion, temporalCoercion, temporalCoercionNonstrictTimezone}
 use Rattle.coercion.specs.Rules.{timeOfString, stringTemporalCoercion}
-use Rattle.coercion.specs.Nested.{shapeOfKind, listShape}
 use Rattle.coercion.specs.Answers.{ofKindType}
 use Rattle.coercion.proofs.Maybe.{cond-is}
 use Rattle.coercion.proofs.Ranked.{kind-from}
 use Rattle.rules.proofs.Moments.{left-string, right-string, no-string}
-use Rattle.buffers.specs.Goal.{shapeFor}
 use Rattle.buffers.specs.Plain.{isListQuestion, stringTime}
-use Rattle.buffers.specs.Steps.{Reads, Figured, KeepsZone, listKind, listSize}
+use Rattle.buffers.specs.Steps.{Reads, Figured, KeepsZone}
 
 -- a kind is below 64
 pub kind-low : {h : Figures} {t : DataType} → Figured h t → h .kind < 64

@@ -1,19 +1,19 @@
 -- A record that was tied to the next of its chain. Assumes nothing.
-use mathlib.Core.Path.{_≡_, refl, ap, sym, subst, subst₂, _∙_}
-use mathlib.Core.Bool.{Bool, true, false}
-use mathlib.Core.List.{List, [], _∷_, _++_}
-use Prim.Native.Nat.{ℕ, zero, suc, _+_, _*_, _-_, _<_, _≤_}
+use mathlib.Core.Path.{_≡_, ap, sym, subst₂, _∙_}
+use mathlib.Core.Bool.{Bool}
+use mathlib.Core.List.{List, [], _++_}
+use Prim.Native.Nat.{ℕ, _+_, _*_, _-_, _<_, _≤_}
 use native.Mathlib.Omega.{arith}
-use lib.ListN.{length, getD, take, drop, length-append, length-drop}
+use lib.ListN.{length, getD, take, length-append, length-drop}
 use lib.Seq.{getD-drop, take-all}
 use Rattle.sheet.specs.Types.{Shape, Fields, end, field, count, ownLabels, labels}
 use Rattle.sheet.specs.Head.{headAt, bytesOf}
 use Rattle.sheet.specs.Encode.{linkTo, headOf}
-use Rattle.sheet.specs.Holds.{Span, Stands, Holds}
+use Rattle.sheet.specs.Holds.{Holds}
 use Rattle.sheet.specs.declared.Head.{Head}
 use Rattle.sheet.proofs.Heads.{span-head}
 use Rattle.buffers.specs.Writes.{Put}
-use Rattle.buffers.specs.Region.{Room, region, Kept, Wrote}
+use Rattle.buffers.specs.Region.{region, Kept, Wrote}
 use Rattle.buffers.specs.Goal.{Tied, tiedTo}
 use Rattle.buffers.specs.declared.Space.{Space}
 use Rattle.buffers.specs.declared.Spot.{Spot}

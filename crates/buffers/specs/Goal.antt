@@ -1,18 +1,18 @@
 -- A type that is written at a goal, and what is said of it.
 use mathlib.Core.Path.{_≡_}
 use Prim.Native.Nat.{ℕ, _+_, _*_, _<_, _≤_}
-use mathlib.Core.Bool.{Bool, true, false, cond}
-use mathlib.Core.List.{List, [], _∷_}
+use mathlib.Core.Bool.{Bool, false}
+use mathlib.Core.List.{List}
 use mathlib.Core.Logic.{_⊎_}
 use mathlib.Core.Option.{Option, none, some}
 use lib.ListN.{length, getD}
-use Rattle.sheet.specs.Types.{Zone, absent, present, Shape, Fields, end, field, labels, zoneBytes}
+use Rattle.sheet.specs.Types.{absent, present, Shape, Fields, end, field, labels, zoneBytes}
 use Rattle.sheet.specs.Head.{headAt}
 use Rattle.sheet.specs.Holds.{Stands}
 use Rattle.sheet.specs.declared.Head.{Head}
 use Rattle.coercion.specs.Data.{DataType, size}
 pub use Rattle.buffers.specs.Source.{typeOf}
-use Rattle.buffers.specs.Region.{region, Kept, Held, Inside, Wrote, Named, Passes}
+use Rattle.buffers.specs.Region.{region, Kept, Held, Wrote, Named, Passes}
 use Rattle.buffers.specs.declared.Space.{Space}
 use Rattle.buffers.specs.declared.Spot.{Spot}
 use Rattle.buffers.specs.declared.Goal.{Goal}

@@ -2,7 +2,7 @@
 use Prim.Native.Nat.{ℕ}
 use mathlib.Core.Bool.{Bool, true, false}
 use mathlib.Core.List.{List, [], _∷_}
-use mathlib.Core.Option.{Option, none, some}
+use mathlib.Core.Option.{Option, none}
 use Rattle.coercion.specs.Data.{DataType, Rules, firstOf, figuresOf, asType}
 use Rattle.coercion.specs.Data as Data
 use Rattle.coercion.specs.Strings.{stringCoercion, binaryCoercion}

@@ -1,12 +1,12 @@
 -- The destination in the work space: records from its front, labels after the room of all records.
 use mathlib.Core.Path.{_≡_}
 use Prim.Native.Nat.{ℕ, _+_, _*_, _-_, _/_, _<_, _≤_}
-use mathlib.Core.Bool.{Bool, true, false, cond, _&&_}
-use mathlib.Core.List.{List, [], _∷_}
+use mathlib.Core.Bool.{Bool, true, cond, _&&_}
+use mathlib.Core.List.{List}
 use mathlib.Core.Logic.{_⊎_}
-use lib.ListN.{length, getD, take, drop}
+use lib.ListN.{length, getD, drop}
 use lib.Dec.{ltb, eqb}
-use Rattle.sheet.specs.Types.{Fields, end, field, count, labels}
+use Rattle.sheet.specs.Types.{Fields, field, count, labels}
 use Rattle.sheet.specs.Types.{Shape, zoneBytes, ownLabels}
 use Rattle.sheet.specs.Names.{namesDiffer}
 use Rattle.sheet.specs.Encode.{linkTo, bit}
@@ -14,7 +14,6 @@ use Rattle.sheet.specs.Holds.{Span, Stands, Holds}
 use Rattle.buffers.specs.Source.{Source}
 use Rattle.sheet.specs.Head.{headAt, zonedIn, zoneLen}
 use Rattle.sheet.specs.declared.Head.{Head}
-use Rattle.buffers.specs.Writes.{side}
 use Rattle.buffers.specs.declared.Space.{Space}
 use Rattle.buffers.specs.declared.Spot.{Spot}
 use Rattle.buffers.specs.declared.Goal.{Goal}

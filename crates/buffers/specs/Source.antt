@@ -4,7 +4,7 @@ use Prim.Native.Nat.{ℕ, _+_, _<_}
 use mathlib.Core.Bool.{Bool, false}
 use mathlib.Core.List.{List}
 use lib.ListN.{length}
-use Rattle.sheet.specs.Types.{Shape, Fields, end, field, labels}
+use Rattle.sheet.specs.Types.{Shape, Fields, field, labels}
 use Rattle.sheet.specs.Carried.{FieldsRight}
 use Rattle.sheet.specs.Holds.{Leads}
 use Rattle.coercion.specs.Data.{DataType}

@@ -1,13 +1,13 @@
 -- What the rules for types without parts look at, and what their answers say.
 use mathlib.Core.Path.{_≡_}
 use Prim.Native.Nat.{ℕ, _+_, _*_, min}
-use mathlib.Core.Bool.{Bool, true, false, cond, _&&_, _||_}
+use mathlib.Core.Bool.{true, false, cond, _&&_, _||_}
 use mathlib.Core.List.{List}
 use mathlib.Core.Option.{Option, none, some}
 use lib.Dec.{eqb}
 use Rattle.sheet.specs.Kind as Kind
 use Rattle.sheet.specs.Kind.{isKind}
-use Rattle.sheet.specs.Types.{Zone, absent, present}
+use Rattle.sheet.specs.Types.{absent, present}
 use Rattle.sheet.specs.Head.{zonedIn, zoneAt, zoneLen}
 use Rattle.sheet.specs.Read.{labelAt}
 use Rattle.sheet.specs.declared.Head.{Head}

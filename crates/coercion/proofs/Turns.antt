@@ -1,15 +1,14 @@
 -- "Wrong turns", on types: in a list the later zone wins, two widths are not clamped, and nullability goes by place. Assumes nothing.
 use mathlib.Core.Path.{_≡_, refl}
-use mathlib.Core.Bool.{Bool, true, false}
-use mathlib.Core.List.{List, [], _∷_}
-use mathlib.Core.Option.{Option, none, some}
-use Prim.Native.Nat.{ℕ, _+_}
+use mathlib.Core.List.{[], _∷_}
+use mathlib.Core.Option.{some}
+use Prim.Native.Nat.{ℕ}
 use Rattle.sheet.specs.Tests.{allOf, between}
 use Rattle.sheet.specs.Kind as Kind
-use Rattle.sheet.specs.Kind.{isDecimal, cap}
-use Rattle.sheet.specs.Types.{Zone, present, Fields, end, field, arity, count}
+use Rattle.sheet.specs.Kind.{isDecimal}
+use Rattle.sheet.specs.Types.{present, arity, count}
 use Rattle.sheet.specs.Names.{sameBytes}
-use Rattle.coercion.specs.Data.{DataType, list, Rules, firstOf, plain, zoned, ofKind, ofUnit}
+use Rattle.coercion.specs.Data.{DataType, list, Rules, firstOf, zoned, ofUnit}
 use Rattle.coercion.specs.Numbers as Numbers
 use Rattle.coercion.specs.Times as Times
 use Rattle.coercion.specs.Strings as Strings

@@ -6,7 +6,7 @@ use mathlib.Core.Option.{Option, none, some}
 use lib.Dec.{eqb}
 use Rattle.sheet.specs.Kind as Kind
 use Rattle.sheet.specs.Types.{Shape, Fields, end, field, arity}
-use Rattle.coercion.specs.Data.{DataType, size, Question, list, union, compare, Rules, orElse, andThen, firstOf, figuresOf, plain, asType, ofKind}
+use Rattle.coercion.specs.Data.{DataType, size, Question, list, union, compare, Rules, andThen, firstOf, figuresOf, plain, asType, ofKind}
 use Rattle.coercion.specs.Kinds.{isNumeric, isString, isDate, isTime, isSpan, isList}
 use Rattle.coercion.specs.Strings.{stringCoercion, binaryCoercion}
 use Rattle.coercion.specs.Times.{temporalCoercionNonstrictTimezone}

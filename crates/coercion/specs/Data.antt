@@ -1,10 +1,10 @@
 -- Types, the question with its mask, and answers that may be missing.
-use Prim.Native.Nat.{ℕ, _+_, _*_, _/_, _%_, _^_}
-use mathlib.Core.Bool.{Bool, true, false, _||_}
+use Prim.Native.Nat.{ℕ, _+_, _/_, _%_, _^_}
+use mathlib.Core.Bool.{Bool, false}
 use mathlib.Core.List.{List, [], _∷_}
 use mathlib.Core.Option.{Option, none, some}
 use lib.Dec.{eqb}
-use Rattle.sheet.specs.Types.{Zone, absent, present, Shape, Fields, end, field, count}
+use Rattle.sheet.specs.Types.{Zone, absent, Shape, Fields, end, field, count}
 use Rattle.coercion.specs.declared.Figures.{Figures}
 
 -- a type: a shape with its parts, and neither a name nor a nullability of its own

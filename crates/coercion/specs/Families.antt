@@ -3,7 +3,7 @@ use mathlib.Core.Path.{_≡_}
 use Prim.Native.Nat.{ℕ, _+_, _-_, _*_, _^_, _<_, _≤_}
 use mathlib.Core.Bool.{Bool, true, false, cond, _&&_, _||_}
 use mathlib.Core.List.{List, [], _∷_}
-use lib.Dec.{leb, eqb}
+use lib.Dec.{leb}
 use Rattle.sheet.specs.Kind as Kind
 use Rattle.sheet.specs.Kind.{isDecimal, cap}
 use Rattle.sheet.specs.Refusals.{biased, decimalRight}

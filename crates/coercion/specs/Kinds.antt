@@ -1,6 +1,6 @@
 -- Kinds that belong together.
 use Prim.Native.Nat.{ℕ}
-use mathlib.Core.Bool.{Bool, true, false, _&&_, _||_}
+use mathlib.Core.Bool.{Bool, _&&_, _||_}
 use lib.Dec.{eqb}
 use Rattle.sheet.specs.Tests.{between}
 use Rattle.sheet.specs.Kind as Kind

@@ -1,10 +1,8 @@
 -- What the answers of the code say.
-use mathlib.Core.Path.{_≡_}
 use Prim.Native.Nat.{ℕ}
 use mathlib.Core.Bool.{Bool, true, false}
-use mathlib.Core.List.{List}
 use mathlib.Core.Option.{Option, none, some}
-use Rattle.sheet.specs.Types.{Zone, absent, present, Shape, Fields, end, field}
+use Rattle.sheet.specs.Types.{Fields, end, field}
 use Rattle.sheet.specs.Kind as Kind
 use Rattle.coercion.specs.Data.{DataType, ofUnit, zoned}
 use Rattle.coercion.specs.Times.{nanosecond}

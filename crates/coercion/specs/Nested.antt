@@ -5,10 +5,10 @@ use mathlib.Core.List.{List}
 use mathlib.Core.Option.{Option, none, some}
 use lib.Dec.{eqb}
 use Rattle.sheet.specs.Kind as Kind
-use Rattle.sheet.specs.Types.{Zone, absent, Shape, Fields, end, field, arity}
+use Rattle.sheet.specs.Types.{absent, Shape, Fields, end, field, arity}
 use Rattle.sheet.specs.Names.{sameBytes, hasName}
 use Rattle.coercion.specs.Kinds.{isList}
-use Rattle.coercion.specs.Data.{DataType, andThen, ofKind, plain}
+use Rattle.coercion.specs.Data.{DataType, andThen}
 use Rattle.coercion.specs.Wrappers.{isOf}
 
 -- one field before a chain

@@ -7,7 +7,7 @@ use Rattle.sheet.specs.Tests.{between}
 use Rattle.sheet.specs.Kind as Kind
 use Rattle.sheet.specs.Kind.{isDecimal, cap}
 use Rattle.sheet.specs.Refusals.{biased}
-use Rattle.coercion.specs.Kinds.{isNumeric, isInteger, isSigned, oneIs, withKind}
+use Rattle.coercion.specs.Kinds.{isNumeric, isSigned, oneIs, withKind}
 use Rattle.coercion.specs.Data.{orElse, andThen, ofKind}
 use Rattle.coercion.specs.declared.Figures.{Figures}
 

@@ -1,11 +1,11 @@
 -- Null and string rules: `null_coercion`, `string_numeric_coercion`, `string_numeric_union_coercion`, `string_temporal_coercion`.
 use Prim.Native.Nat.{ℕ}
-use mathlib.Core.Bool.{Bool, cond, _&&_, _||_}
+use mathlib.Core.Bool.{Bool, cond, _&&_}
 use mathlib.Core.Option.{Option, none, some}
 use lib.Dec.{eqb}
 use Rattle.sheet.specs.Kind as Kind
 use Rattle.coercion.specs.Kinds.{isNumeric, isString, isDate, isTime}
-use Rattle.coercion.specs.Data.{DataType, Rules, mayBecome, orElse, ofUnit, zoned}
+use Rattle.coercion.specs.Data.{DataType, mayBecome, orElse, ofUnit, zoned}
 use Rattle.coercion.specs.Times.{nanosecond, isTimeWithValidUnit}
 
 abbrev pub isNull : DataType → Bool

@@ -1,7 +1,6 @@
 -- Sameness and alikeness of types.
-use Prim.Native.Nat.{ℕ}
-use mathlib.Core.Bool.{Bool, true, false, cond, not, _&&_, _||_, Bool·beq}
-use mathlib.Core.List.{List, [], _∷_}
+use mathlib.Core.Bool.{Bool, true, false, _&&_, Bool·beq}
+use mathlib.Core.List.{[], _∷_}
 use lib.Dec.{eqb}
 use Rattle.sheet.specs.Tests.{allOf, implies}
 use Rattle.sheet.specs.Types.{Zone, absent, present, Shape, Fields, end, field}

@@ -7,7 +7,7 @@ use Rattle.sheet.specs.Tests.{between}
 use Rattle.sheet.specs.Kind as Kind
 use Rattle.sheet.specs.Types.{Zone, absent, present}
 use Rattle.coercion.specs.Kinds.{isInteger, isDate, isTime, isSpan, withKind}
-use Rattle.coercion.specs.Data.{DataType, ofKind, ofUnit, zoned, asType, figuresOf}
+use Rattle.coercion.specs.Data.{DataType, ofKind, ofUnit, zoned, asType}
 use Rattle.coercion.specs.declared.Figures.{Figures}
 
 abbrev pub nanosecond : ℕ

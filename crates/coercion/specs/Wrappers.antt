@@ -4,7 +4,7 @@ use mathlib.Core.Bool.{Bool, cond, _&&_}
 use mathlib.Core.Option.{Option, none, some}
 use lib.Dec.{eqb}
 use Rattle.sheet.specs.Kind as Kind
-use Rattle.sheet.specs.Types.{Shape, Fields, end, field}
+use Rattle.sheet.specs.Types.{Fields, end, field}
 use Rattle.coercion.specs.Data.{DataType, andThen}
 use Rattle.coercion.specs.Same.{equal}
 

@@ -10,7 +10,7 @@ use lib.Dec.{ltb}
 use borrow.Author.Tests.{ltb-true, eq-eqb, ne-eqb}
 use Rattle.sheet.specs.Head.{headAt}
 use Rattle.sheet.proofs.Tests.{never, and-fst, and-snd}
-use Rattle.coercion.specs.Data.{DataType, Rules, size}
+use Rattle.coercion.specs.Data.{DataType, Rules}
 use Rattle.coercion.specs.Data as Data
 use Rattle.coercion.specs.Same.{sameType}
 use Rattle.coercion.specs.Answers.{coercion}
@@ -27,7 +27,7 @@ use Rattle.buffers.specs.declared.Goal.{Goal}
 use Rattle.buffers.specs.declared.Question.{Question}
 use Rattle.buffers.specs.declared.Question.the-variants as Question
 use Rattle.buffers.specs.declared.Out.{Out}
-use Rattle.buffers.specs.declared.Out.the-variants.{Done, No, Full}
+use Rattle.buffers.specs.declared.Out.the-variants.{No}
 use Rattle.merge.proofs.Orders.{ask-turns, bare-turns, plain-turns}
 use Rattle.merge.proofs.Merging.{typed-same, any-known, none-known, known-as, as-known, merges-left, merges-none}
 use Rattle.merge.proofs.Turning.{resolve-dictionary, resolve-runs, wrap-left}

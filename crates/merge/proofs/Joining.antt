@@ -1,15 +1,15 @@
 -- The rows of two chains that were merged. Assumes nothing.
-use mathlib.Core.Path.{_≡_, refl, ap, sym, subst, subst₂, _∙_}
-use mathlib.Core.Bool.{Bool, true, false, cond, not, _||_}
-use mathlib.Core.List.{List, [], _++_}
+use mathlib.Core.Path.{_≡_, refl, ap, sym, subst, _∙_}
+use mathlib.Core.Bool.{Bool, true, false, cond, not}
+use mathlib.Core.List.{List}
 use mathlib.Core.Logic.{_⊎_, inl, inr, ⊎-elim}
 use mathlib.Core.Option.{Option, none, some, Option·some-injective}
-use Prim.Native.Nat.{ℕ, suc, _+_, _*_, _-_, _<_, _≤_}
+use Prim.Native.Nat.{ℕ, _+_, _-_, _<_, _≤_}
 use native.Mathlib.Omega.{arith}
 use lib.ListN.{length, length-append}
 use lib.Dec.{eqb}
 use borrow.Author.Tests.{eq-eqb, ne-eqb}
-use Rattle.sheet.specs.Types.{Shape, Fields, end, field, arity, count, zoneBytes, ownLabels, labels}
+use Rattle.sheet.specs.Types.{Shape, Fields, end, field, arity, count, zoneBytes, labels}
 use Rattle.sheet.specs.Head.{headAt}
 use Rattle.sheet.specs.Encode.{linkTo}
 use Rattle.sheet.specs.declared.Head.{Head}
@@ -18,8 +18,8 @@ use Rattle.coercion.specs.Data.{DataType, Rules, size, andThen}
 use Rattle.coercion.specs.Answers.{coercion}
 use Rattle.coercion.specs.Nested.{before, joinFields, byName}
 use Rattle.buffers.specs.Writes.{side}
-use Rattle.buffers.specs.Region.{Room, Kept, Inside, Grows, Short, Wrote, Ready, Named}
-use Rattle.buffers.specs.Goal.{letters, spotOf, fieldFor, NoRoom, Means, Tied}
+use Rattle.buffers.specs.Region.{Room, Kept, Inside, Grows, Wrote}
+use Rattle.buffers.specs.Goal.{letters, spotOf, fieldFor, Means, Tied}
 use Rattle.buffers.specs.Feeds.{Feeds, Fed, Unfed, RowIs}
 use Rattle.buffers.specs.Typed.{Chain, Typed, ChainIs, goalAt, NamedAt}
 use Rattle.buffers.specs.Part.{sameFirst}
@@ -34,7 +34,6 @@ use Rattle.buffers.specs.declared.Out.{Out}
 use Rattle.buffers.specs.declared.Out.the-variants.{Done, No, Full}
 use Rattle.buffers.proofs.Frames.{kept-self, kept-trans, kept-wider, wrote-frame}
 use Rattle.buffers.proofs.Chained.{labels-sum}
-use Rattle.buffers.proofs.Laying.{named-kept}
 use Rattle.buffers.proofs.Tying.{tied-kept, chain-tied}
 use Rattle.merge.proofs.Merging.{chain-side, typed-side, chain-some, common-fits}
 use Rattle.buffers.proofs.Rows.{chain-link, chain-typed, chain-next}

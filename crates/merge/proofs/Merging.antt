@@ -1,26 +1,25 @@
 -- Two types that were merged, by one rule and by another. Assumes nothing.
-use mathlib.Core.Path.{_≡_, refl, ap, sym, subst, subst₂, _∙_}
+use mathlib.Core.Path.{_≡_, refl, ap, sym, subst, _∙_}
 use mathlib.Core.Bool.{Bool, true, false, not}
 use mathlib.Core.List.{List, [], _++_}
-use mathlib.Core.Logic.{_⊎_, inl, inr, ⊎-elim}
+use mathlib.Core.Logic.{inl}
 use mathlib.Core.Option.{Option, none, some}
-use Prim.Native.Nat.{ℕ, _+_, _*_, _<_, _≤_}
+use Prim.Native.Nat.{ℕ, _+_, _<_, _≤_}
 use native.Mathlib.Omega.{arith}
 use lib.ListN.{length, length-append}
-use Rattle.sheet.specs.Types.{Shape, Fields, end, field, count, zoneBytes, labels}
+use Rattle.sheet.specs.Types.{Shape, Fields, field, zoneBytes, labels}
 use Rattle.sheet.specs.Names.{namesDiffer}
 use Rattle.sheet.specs.Head.{headAt}
 use Rattle.sheet.specs.declared.Head.{Head}
-use Rattle.sheet.proofs.Repeating.{head-is}
 use Rattle.coercion.specs.Data.{DataType, Rules, size, single}
 use Rattle.coercion.specs.Answers.{coercion}
 use Rattle.coercion.proofs.Shorter.{coercion-smaller, coercion-shorter}
 use Rattle.sheet.proofs.Tests.{never, and-fst, and-snd, all-at, all-cons, all-nil}
 use Rattle.coercion.specs.Same.{sameType}
-use Rattle.buffers.specs.Source.{Source, SameTypes}
+use Rattle.buffers.specs.Source.{SameTypes}
 use Rattle.buffers.specs.Writes.{side}
-use Rattle.buffers.specs.Region.{Room, Kept, Held, Inside, Ready, Wrote}
-use Rattle.buffers.specs.Goal.{letters, NoRoom, Means, Writes, CopiedType}
+use Rattle.buffers.specs.Region.{Room, Kept}
+use Rattle.buffers.specs.Goal.{letters, Means, CopiedType}
 use Rattle.buffers.specs.Typed.{Chain, Typed, Merges}
 use Rattle.buffers.specs.Part.{sameButPart, sameFirst, LoneParts}
 use Rattle.merge.specs.Merge.{Differ, DifferInPart, MergesKnown}
@@ -28,7 +27,7 @@ use Rattle.buffers.specs.declared.Space.{Space}
 use Rattle.buffers.specs.declared.Goal.{Goal}
 use Rattle.buffers.specs.declared.Out.{Out}
 use Rattle.buffers.specs.declared.Out.the-variants.{Done, No, Full}
-use Rattle.buffers.proofs.Sources.{source-lower, read-nullable}
+use Rattle.buffers.proofs.Sources.{source-lower}
 use Rattle.buffers.proofs.Frames.{kept-self}
 use Rattle.buffers.proofs.Copying.{held-side}
 use Rattle.buffers.proofs.Laying.{no-record, named-kept}

@@ -3,7 +3,7 @@ use mathlib.Core.Path.{_≡_, ap, _∙_}
 use Prim.Native.Nat.{ℕ}
 use mathlib.Core.List.{List}
 use Rattle.answers.specs.Call.{Reply, Outcome}
-use Rattle.pemzhulaq.specs.Number.{numberOf, Seen, exported}
+use Rattle.pemzhulaq.specs.Number.{numberOf, exported}
 
 -- the number of the reply, beside the lent bytes as the call left them
 pub shown : {k : ℕ} {r : Reply} {output work : List ℕ} {o : Outcome} → k ≡ numberOf r → record { reply = r; output = output; work = work } ≡ o

@@ -1,12 +1,11 @@
 -- Kinds laid over a buffer one by one, along a chain. Assumes nothing.
 use mathlib.Core.Path.{_≡_, refl, ap, ap₂, sym, _∙_}
-use mathlib.Core.Bool.{Bool}
 use mathlib.Core.List.{List, [], _∷_}
 use Prim.Native.Nat.{ℕ, zero, suc, _+_, _-_, _<_, _≤_}
 use native.Mathlib.Omega.{arith}
 use lib.ListN.{set, length, length-set}
 use borrow.Author.Tests.{ne-eqb}
-use Rattle.sheet.specs.Types.{Shape, Fields, end, field, arity, count}
+use Rattle.sheet.specs.Types.{Fields, end, field, arity, count}
 use Rattle.sheet.specs.Read.{recordsOf, read}
 use Rattle.sheet.specs.Refusals.{refusal, numberOf, verdict}
 use Rattle.sheet.specs.Holds.{Plain}

@@ -1,8 +1,8 @@
 -- What a reader says where it stands at a chain of types. Assumes nothing.
-use mathlib.Core.Path.{_≡_, refl, ap, ap₂, sym, _∙_}
+use mathlib.Core.Path.{_≡_, ap, _∙_}
 use mathlib.Core.Bool.{Bool}
 use mathlib.Core.List.{List}
-use Prim.Native.Nat.{ℕ, _+_, _*_, _<_, _≤_}
+use Prim.Native.Nat.{ℕ, _+_, _<_, _≤_}
 use native.Mathlib.Omega.{arith}
 use lib.ListN.{length}
 use borrow.Author.Tests.{ne-eqb}
@@ -11,7 +11,7 @@ use Rattle.sheet.specs.Head.{headAt}
 use Rattle.sheet.specs.Encode.{linkTo, headOf}
 use Rattle.sheet.specs.Read.{recordsOf, labelAt, read}
 use Rattle.sheet.specs.Refusals.{refusal}
-use Rattle.sheet.specs.Holds.{Plain, Leads}
+use Rattle.sheet.specs.Holds.{Plain}
 use Rattle.sheet.specs.declared.Head.{Head}
 use Rattle.sheet.proofs.Accepted.{accepted-holds, accepted-n}
 use Rattle.sheet.proofs.Reading.{label-back}

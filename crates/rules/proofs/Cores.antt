@@ -1,18 +1,17 @@
 -- The category of a type is that of the value below its wrappers. Assumes nothing.
 use mathlib.Core.Path.{_≡_, refl, ap, sym, _∙_}
-use mathlib.Core.Bool.{Bool, true, false, cond, _||_}
+use mathlib.Core.Bool.{Bool, true, false, _||_}
 use mathlib.Core.List.{List}
-use Prim.Native.Nat.{ℕ, _+_, _<_, _≤_}
+use Prim.Native.Nat.{ℕ, _<_, _≤_}
 use native.Mathlib.Omega.{arith}
 use lib.Dec.{eqb}
-use lib.ListN.{length}
 use Rattle.sheet.specs.Tests.{between}
-use Rattle.sheet.specs.Types.{Shape, Fields, end, field, count, ownLabels, labels}
+use Rattle.sheet.specs.Types.{Shape, Fields, end, field, count}
 use Rattle.sheet.specs.Head.{headAt}
 use Rattle.sheet.specs.Holds.{Leads}
 use Rattle.sheet.specs.declared.Head.{Head}
-use Rattle.sheet.proofs.Repeating.{head-is, kind-is, first-leads, next-leads}
-use Rattle.coercion.specs.Answers.{Category, notSupported, ownCategory, categoryOf}
+use Rattle.sheet.proofs.Repeating.{kind-is, first-leads, next-leads}
+use Rattle.coercion.specs.Answers.{notSupported, ownCategory, categoryOf}
 use Rattle.coercion.specs.Meaning.{valueCategory}
 
 -- a wrapper has its value's category, another type its own

@@ -1,24 +1,23 @@
 -- What is accepted is spelled once: the three laws of the sheet. Assumes nothing.
-use mathlib.Core.Path.{_≡_, refl, ap, ap₂, sym, subst, _∙_}
-use mathlib.Core.Bool.{Bool, true, false, cond, not, _&&_, _||_}
+use mathlib.Core.Path.{_≡_, refl, ap, ap₂, sym, _∙_}
+use mathlib.Core.Bool.{Bool, true, false, cond, not, _&&_}
 use mathlib.Core.List.{List, [], _∷_, _++_, append-nil, append-assoc}
-use Prim.Native.Nat.{ℕ, zero, suc, _+_, _*_, _-_, _/_, _%_, _<_, _≤_}
+use Prim.Native.Nat.{ℕ, zero, suc, _+_, _*_, _-_, _/_, _<_, _≤_}
 use native.Mathlib.Omega.{arith}
-use lib.ListN.{length, getD, take, drop, length-append, replicate, getD-replicate}
+use lib.ListN.{length, getD, take, drop, length-append, getD-replicate}
 use lib.Seq.{getD-take, getD-drop}
-use lib.Dec.{eqb, ltb, leb}
+use lib.Dec.{eqb, ltb}
 use borrow.Author.Tests.{ltb-true, ltb-false, eqb-true, not-false}
-use Rattle.sheet.specs.Kind.{isKind, partsRight}
-use Rattle.sheet.specs.Types.{Shape, Fields, end, field, arity, count, ownLabels, labels}
-use Rattle.sheet.specs.Head.{headFrom, blank, headAt, labelled, nullableIn, word}
+use Rattle.sheet.specs.Kind.{isKind}
+use Rattle.sheet.specs.Types.{Fields, end, field, count, ownLabels, labels}
+use Rattle.sheet.specs.Head.{headFrom, blank, headAt, labelled, nullableIn}
 use Rattle.sheet.specs.Encode.{linkTo, headOf, header, encode}
 use Rattle.sheet.specs.Read.{recordsOf, labelsOf, labelAt, shapeOf, fieldOf, walkFrom, start, read}
 use Rattle.sheet.specs.Names.{namesDiffer}
 use Rattle.sheet.specs.Refusals.{allZero, torn, anyFrom, badKind, linked, badChain, Met, met, recordRight, anyWrong, badFigure, labelRight, misplaced, walk, badLabel, Condition, conditions, firstMet, refusal}
-use Rattle.sheet.specs.Carried.{FieldRight, FieldsRight, Carried}
-use Rattle.sheet.specs.Holds.{Plain, Span, Stands, Holds}
-use Rattle.sheet.specs.declared.Head.{Head}
-use Rattle.sheet.proofs.Tests.{all-at, one-at, or-fst, or-snd, and-fst, and-snd, never}
+use Rattle.sheet.specs.Carried.{FieldsRight, Carried}
+use Rattle.sheet.specs.Holds.{Plain, Span, Holds}
+use Rattle.sheet.proofs.Tests.{all-at, one-at, or-fst, or-snd, and-fst, and-snd}
 use Rattle.sheet.proofs.Spans.{at-eq, at-span}
 use Rattle.sheet.proofs.Chains.{holds-encode}
 use Rattle.sheet.proofs.Accepting as Accepting

@@ -1,25 +1,25 @@
 -- What is accepted is the spelling of what is read from it, and may be carried. Assumes nothing.
-use mathlib.Core.Path.{_≡_, refl, ap, ap₂, sym, subst, _∙_}
-use mathlib.Core.Bool.{Bool, true, false, cond, not, _&&_, _||_}
-use mathlib.Core.List.{List, [], _∷_, _++_, append-nil, append-assoc}
+use mathlib.Core.Path.{_≡_, refl, ap, ap₂, sym, _∙_}
+use mathlib.Core.Bool.{Bool, true, false, cond, not}
+use mathlib.Core.List.{List, [], _∷_}
 use Prim.Native.Nat.{ℕ, zero, suc, _+_, _*_, _-_, _/_, _%_, _<_, _≤_}
 use native.Mathlib.Omega.{arith}
 use native.Mathlib.Decide.{decLt, ℕ-discrete}
 use lib.ListN.{length, getD, take, drop, length-append, length-take, List·getD-eq-default}
 use lib.Seq.{getD-take, getD-drop}
-use lib.Dec.{eqb, ltb, leb}
-use borrow.Author.Tests.{eq-eqb, ne-eqb, ltb-true, ltb-false, eqb-true, not-false, not-true}
-use Rattle.sheet.specs.Tests.{allOf, oneOf, implies}
-use Rattle.sheet.specs.Kind.{isKind, partsRight, namesParts}
-use Rattle.sheet.specs.Types.{Zone, absent, present, Shape, Fields, end, field, arity, count, zoneBytes, ownLabels, labels}
-use Rattle.sheet.specs.Head.{headFrom, blank, headAt, bytesOf, nullableIn, sortedIn, zonedIn, sizeIn, zoneAt, zoneLen, labelled}
-use Rattle.sheet.specs.Encode.{linkTo, offset, flagsOf, quadOf, headOf}
-use Rattle.sheet.specs.Read.{recordsOf, labelsOf, labelAt, zoneOf, shapeOf, fieldOf, walkFrom}
-use Rattle.sheet.specs.Refusals.{linked, Met, met, figuresRight, recordRight, anyWrong, placed, labelRight, misplaced}
-use Rattle.sheet.specs.Carried.{Label, isNamed, isZoned, FieldRight, FieldsRight}
-use Rattle.sheet.specs.Holds.{Plain, Span, Stands, Holds}
+use lib.Dec.{eqb, ltb}
+use borrow.Author.Tests.{eq-eqb, ne-eqb, ltb-true, eqb-true}
+use Rattle.sheet.specs.Tests.{implies}
+use Rattle.sheet.specs.Kind.{isKind, partsRight}
+use Rattle.sheet.specs.Types.{absent, present, Fields, arity, zoneBytes, ownLabels, labels}
+use Rattle.sheet.specs.Head.{nullableIn, zonedIn, sizeIn, zoneAt, zoneLen, labelled}
+use Rattle.sheet.specs.Encode.{offset, flagsOf, quadOf, headOf}
+use Rattle.sheet.specs.Read.{labelsOf, labelAt, zoneOf, shapeOf}
+use Rattle.sheet.specs.Refusals.{recordRight, placed, labelRight}
+use Rattle.sheet.specs.Carried.{Label, isNamed, isZoned, FieldRight}
+use Rattle.sheet.specs.Holds.{Plain, Span}
 use Rattle.sheet.specs.declared.Head.{Head}
-use Rattle.sheet.proofs.Tests.{all-at, or-fst, or-snd, never}
+use Rattle.sheet.proofs.Tests.{all-at}
 use Rattle.sheet.proofs.Spans.{part-length, span-join, span-nil, span-move}
 
 -- byte 1 is what it says

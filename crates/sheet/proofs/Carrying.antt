@@ -1,25 +1,22 @@
 -- What may be carried is accepted, and is read back. Assumes nothing.
-use mathlib.Core.Path.{_≡_, refl, ap, ap₂, sym, subst, _∙_}
-use mathlib.Core.Bool.{Bool, true, false, cond, not, _&&_, _||_}
+use mathlib.Core.Path.{_≡_, refl, ap, sym, _∙_}
+use mathlib.Core.Bool.{Bool, true, false, cond, not}
 use mathlib.Core.List.{List, [], _∷_, _++_, append-nil, append-assoc}
 use Prim.Native.Nat.{ℕ, zero, suc, _+_, _*_, _-_, _/_, _%_, _<_, _≤_}
 use native.Mathlib.Omega.{arith}
 use native.Mathlib.Decide.{decLt, ℕ-discrete}
-use native.Mathlib.Numerals.{add-one}
 use lib.ListN.{length, getD, take, drop, length-append, replicate}
-use lib.Dec.{eqb, ltb, leb}
-use borrow.Author.Tests.{eq-eqb, ne-eqb, lt-ltb, le-ltb, le-leb, eqb-true}
-use Rattle.sheet.specs.Tests.{allOf, oneOf, implies}
-use Rattle.sheet.specs.Kind.{isKind, partsRight, namesParts}
-use Rattle.sheet.specs.Types.{Zone, absent, present, Shape, Fields, end, field, arity, count, zoneBytes, ownLabels, labels}
-use Rattle.sheet.specs.Head.{headAt, nullableIn, sortedIn, zonedIn, sizeIn, zoneAt, zoneLen, labelled}
+use lib.Dec.{eqb, ltb}
+use borrow.Author.Tests.{eq-eqb, ne-eqb, lt-ltb, le-ltb}
+use Rattle.sheet.specs.Tests.{implies}
+use Rattle.sheet.specs.Kind.{isKind, namesParts}
+use Rattle.sheet.specs.Types.{Zone, absent, present, Shape, Fields, end, field, count, zoneBytes, ownLabels, labels}
+use Rattle.sheet.specs.Head.{headAt, labelled}
 use Rattle.sheet.specs.Encode.{linkTo, offset, flagsOf, quadOf, headOf, header, records, encode}
-use Rattle.sheet.specs.Read.{recordsOf, labelsOf, start, walkFrom, read}
-use Rattle.sheet.specs.Names.{namesDiffer}
-use Rattle.sheet.specs.Refusals.{allZero, torn, anyFrom, badKind, linked, badChain, Met, met, figuresRight, recordRight, anyWrong, badFigure, placed, labelRight, misplaced, badLabel, conditions, firstMet, refusal}
+use Rattle.sheet.specs.Read.{recordsOf, labelsOf, start, read}
+use Rattle.sheet.specs.Refusals.{allZero, torn, anyFrom, badKind, linked, badChain, Met, met, recordRight, anyWrong, badFigure, placed, labelRight, misplaced, badLabel, refusal}
 use Rattle.sheet.specs.Carried.{Label, isNamed, isZoned, FieldRight, FieldsRight, Carried}
-use Rattle.sheet.specs.Holds.{Span, Stands, Holds}
-use Rattle.sheet.specs.declared.Head.{Head}
+use Rattle.sheet.specs.Holds.{Span, Holds}
 use Rattle.sheet.proofs.Tests.{all-nil, all-cons, one-nil, one-cons, not-of}
 use Rattle.sheet.proofs.Spans.{at-eq, span-left, span-right, span-whole, span-at}
 use Rattle.sheet.proofs.Chains.{encode-holds, encode-length}

@@ -1,14 +1,14 @@
 -- A chain stands in bytes just where its records and its labels do. Assumes nothing.
-use mathlib.Core.Path.{_≡_, refl, ap, sym, subst, _∙_}
-use mathlib.Core.List.{List, [], _∷_, _++_}
-use Prim.Native.Nat.{ℕ, zero, suc, _+_, _*_, _<_, _≤_}
+use mathlib.Core.Path.{_≡_, refl, ap, sym, _∙_}
+use mathlib.Core.List.{List, _++_}
+use Prim.Native.Nat.{ℕ, _+_, _*_, _≤_}
 use native.Mathlib.Omega.{arith}
-use lib.ListN.{length, getD, length-append, replicate}
+use lib.ListN.{length, length-append}
 use lib.Seq.{take-length}
-use Rattle.sheet.specs.Types.{Shape, Fields, end, field, count, ownLabels, labels}
-use Rattle.sheet.specs.Head.{headAt, bytesOf}
+use Rattle.sheet.specs.Types.{Fields, end, field, count, ownLabels, labels}
+use Rattle.sheet.specs.Head.{bytesOf}
 use Rattle.sheet.specs.Encode.{linkTo, headOf, records, header, encode}
-use Rattle.sheet.specs.Holds.{Plain, Span, Stands, Holds}
+use Rattle.sheet.specs.Holds.{Plain, Span, Holds}
 use Rattle.sheet.proofs.Spans.{span-join, span-left, span-right, span-whole, span-nil, span-move}
 use Rattle.sheet.proofs.Heads.{head-span, span-head}
 

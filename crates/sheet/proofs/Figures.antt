@@ -1,14 +1,14 @@
 -- The tests of a record, put together. Assumes nothing.
-use mathlib.Core.Path.{_≡_, refl, sym, _∙_, ap}
+use mathlib.Core.Path.{_≡_, refl, _∙_, ap}
 use mathlib.Core.Bool.{Bool, true, false, not, cond}
 use mathlib.Core.List.{List, [], _∷_}
 use Prim.Native.Nat.{ℕ, _+_, _/_, _%_, _<_}
 use native.Mathlib.Omega.{arith}
-use lib.Dec.{eqb, leb, ltb}
+use lib.Dec.{eqb, ltb}
 use borrow.Author.Tests.{eq-eqb, ne-eqb, le-leb, lt-leb, lt-ltb}
 use Rattle.sheet.specs.Tests.{allOf, implies, between}
 use Rattle.sheet.specs.Kind.{isDecimal, sized, lastUnit, partsRight, namesParts}
-use Rattle.sheet.specs.Head.{nullableIn, sortedIn, zonedIn, sizeIn, zoneAt, zoneLen}
+use Rattle.sheet.specs.Head.{nullableIn, sortedIn, zonedIn, zoneAt, zoneLen}
 use Rattle.sheet.specs.Refusals.{figureRight, sizeRight, figuresRight, recordRight, placed, labelRight}
 use Rattle.sheet.specs.declared.Head.{Head}
 use Rattle.sheet.proofs.Tests.{all-nil, all-cons, and-true}

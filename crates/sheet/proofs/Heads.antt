@@ -1,12 +1,11 @@
 -- A head and the sixteen bytes that hold it. Assumes nothing.
-use mathlib.Core.Path.{_≡_, refl, ap, sym, subst, _∙_}
+use mathlib.Core.Path.{_≡_, refl, ap, sym, _∙_}
 use mathlib.Core.List.{List, [], _∷_}
-use mathlib.Core.Bool.{true, cond}
 use Prim.Native.Nat.{ℕ, zero, suc, _+_, _*_, _/_, _%_, _<_, _≤_}
 use native.Mathlib.Omega.{arith}
 use lib.ListN.{length, getD}
 use borrow.Author.Tests.{lt-ltb}
-use Rattle.sheet.specs.Head.{word, quadAt, headFrom, byQuads, headAt, blank, bytesOf}
+use Rattle.sheet.specs.Head.{word, quadAt, headFrom, byQuads, headAt, bytesOf}
 use Rattle.sheet.specs.Holds.{Span, Plain}
 use Rattle.sheet.specs.declared.Head.{Head}
 use Rattle.sheet.proofs.Spans.{at-eq, at-span, span-at, span-inside}

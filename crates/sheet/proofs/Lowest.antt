@@ -1,11 +1,10 @@
 -- "The lowest number wins". Assumes nothing.
-use mathlib.Core.Path.{_≡_, refl, ap, sym, _∙_}
+use mathlib.Core.Path.{_≡_, refl}
 use mathlib.Core.Bool.{Bool, true, false, cond}
 use mathlib.Core.List.{List, [], _∷_}
-use Prim.Native.Nat.{ℕ, zero, suc, _+_, _<_, _≤_}
+use Prim.Native.Nat.{ℕ, _<_, _≤_}
 use native.Mathlib.Omega.{arith}
 use Rattle.sheet.specs.Refusals.{Condition, conditions, firstMet, refusal}
-use Rattle.sheet.proofs.Tests.{never}
 
 -- a condition of a list is met
 pub data Applies : List Condition → ℕ → Type 0 where

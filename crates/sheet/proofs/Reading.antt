@@ -1,23 +1,23 @@
 -- What stands in bytes is what is read from them. Assumes nothing.
-use mathlib.Core.Path.{_≡_, refl, ap, ap₂, sym, subst, _∙_}
-use mathlib.Core.Bool.{Bool, true, false, cond, _&&_, _||_}
-use mathlib.Core.List.{List, [], _∷_, _++_, append-nil}
+use mathlib.Core.Path.{_≡_, refl, ap, ap₂, sym, _∙_}
+use mathlib.Core.Bool.{Bool, true, false, cond, _||_}
+use mathlib.Core.List.{List, [], _∷_, _++_}
 use Prim.Native.Nat.{ℕ, zero, suc, _+_, _*_, _/_, _%_, _<_, _≤_}
 use native.Mathlib.Omega.{arith}
-use lib.ListN.{length, getD, take, drop, length-append}
+use lib.ListN.{length, length-append}
 use lib.Dec.{eqb, ltb}
 use borrow.Author.Tests.{eq-eqb, ne-eqb, lt-ltb, le-ltb, eqb-true}
 use Rattle.sheet.specs.Kind as Kind
 use Rattle.sheet.specs.Kind.{sized}
 use Rattle.sheet.specs.Types.{Zone, absent, present, Shape, Fields, end, field, count, zoneBytes, ownLabels, labels}
-use Rattle.sheet.specs.Head.{headAt, nullableIn, sortedIn, zonedIn, sizeIn, zoneAt, zoneLen}
-use Rattle.sheet.specs.Encode.{linkTo, offset, bit, zoneBit, flagsOf, quadOf, headOf}
-use Rattle.sheet.specs.Read.{start, labelAt, zoneOf, shapeOf, fieldOf, walkFrom}
+use Rattle.sheet.specs.Head.{headAt}
+use Rattle.sheet.specs.Encode.{linkTo, offset, flagsOf, quadOf, headOf}
+use Rattle.sheet.specs.Read.{start, labelAt, fieldOf, walkFrom}
 use Rattle.sheet.specs.Refusals.{figuresRight, sizeRight}
 use Rattle.sheet.specs.Carried.{Label, FieldRight, FieldsRight, isZoned}
 use Rattle.sheet.specs.Holds.{Span, Stands, Holds}
 use Rattle.sheet.specs.declared.Head.{Head}
-use Rattle.sheet.proofs.Tests.{all-at, never}
+use Rattle.sheet.proofs.Tests.{all-at}
 use Rattle.sheet.proofs.Spans.{span-left, span-right, span-move}
 
 -- the link to the listed types

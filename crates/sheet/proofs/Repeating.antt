@@ -1,15 +1,15 @@
 -- A link and the chain that it leads to: its first record. Assumes nothing.
-use mathlib.Core.Path.{_≡_, refl, ap, ap₂, sym, subst, _∙_}
-use mathlib.Core.Bool.{Bool, true, false, not, _||_, _&&_}
-use mathlib.Core.List.{List, [], _∷_, _++_}
-use Prim.Native.Nat.{ℕ, zero, suc, _+_, _*_, _<_, _≤_}
+use mathlib.Core.Path.{_≡_, ap, _∙_}
+use mathlib.Core.Bool.{Bool}
+use mathlib.Core.List.{List}
+use Prim.Native.Nat.{ℕ, _+_}
 use native.Mathlib.Omega.{arith}
 use lib.ListN.{length}
-use Rattle.sheet.specs.Types.{Shape, Fields, end, field, count, zoneBytes, ownLabels, labels}
+use Rattle.sheet.specs.Types.{Shape, Fields, field, count, zoneBytes, ownLabels, labels}
 use Rattle.sheet.specs.Head.{headAt}
 use Rattle.sheet.specs.Encode.{linkTo, headOf}
 use Rattle.sheet.specs.Read.{labelAt}
-use Rattle.sheet.specs.Holds.{Span, Stands, Holds, Leads}
+use Rattle.sheet.specs.Holds.{Leads}
 use Rattle.sheet.specs.declared.Head.{Head}
 use Rattle.sheet.proofs.Spans.{span-left}
 use Rattle.sheet.proofs.Reading.{label-back}

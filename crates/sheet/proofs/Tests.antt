@@ -1,10 +1,10 @@
 -- Laws of tests that are joined. Assumes nothing.
-use mathlib.Core.Path.{_≡_, refl, ap, sym, subst, _∙_}
-use mathlib.Core.Bool.{Bool, true, false, not, _&&_, _||_, cond, false≢true}
+use mathlib.Core.Path.{_≡_, refl, ap, sym}
+use mathlib.Core.Bool.{Bool, true, false, not, _&&_, _||_, false≢true}
 use mathlib.Core.List.{List, [], _∷_}
 use Prim.Native.Nat.{ℕ, zero, suc}
 use lib.ListN.{getD}
-use Rattle.sheet.specs.Tests.{allOf, oneOf, implies}
+use Rattle.sheet.specs.Tests.{allOf, oneOf}
 
 pub never {ℓ} : {A : Type ℓ} → false ≡ true → A
 never e = absurd (false≢true e)

@@ -1,6 +1,6 @@
 -- "the four precision caps 9, 18, 38 and 76 belong to the width"
 use Prim.Native.Nat.{ℕ}
-use mathlib.Core.Bool.{Bool, cond}
+use mathlib.Core.Bool.{cond}
 use lib.Dec.{eqb}
 use Rattle.sheet.specs.Kind as Kind
 use Rattle.sheet.specs.declared.caps.Width.{Width}

@@ -3,7 +3,7 @@ use Prim.Native.Nat.{ℕ, _+_, _*_, _/_, _%_}
 use mathlib.Core.Bool.{Bool, true, false}
 use mathlib.Core.List.{List, [], _∷_, _++_}
 use lib.ListN.{length, replicate}
-use Rattle.sheet.specs.Types.{Zone, absent, present, Shape, Fields, end, field, count, zoneBytes, ownLabels, labels}
+use Rattle.sheet.specs.Types.{Zone, absent, present, Shape, Fields, end, field, count, ownLabels, labels}
 use Rattle.sheet.specs.Head.{bytesOf}
 use Rattle.sheet.specs.declared.Head.{Head}
 

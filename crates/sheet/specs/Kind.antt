@@ -1,7 +1,7 @@
 -- The 38 kinds of a record (document 01, "byte 0: kind"), and what belongs to each.
 use Prim.Native.Nat.{ℕ}
-use mathlib.Core.Bool.{Bool, true, false, cond, _&&_, _||_}
-use lib.Dec.{leb, eqb}
+use mathlib.Core.Bool.{Bool, cond, _||_}
+use lib.Dec.{eqb}
 use Rattle.sheet.specs.Tests.{between}
 
 abbrev pub null : ℕ

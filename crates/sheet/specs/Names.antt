@@ -1,11 +1,11 @@
 -- Names: byte strings that are equal or not, and "Names in one Struct differ".
 use Prim.Native.Nat.{ℕ, _+_, _*_, _/_, _%_}
-use mathlib.Core.Bool.{Bool, true, false, cond, not, _&&_, _||_}
+use mathlib.Core.Bool.{Bool, true, false, not, _&&_, _||_}
 use mathlib.Core.List.{List, [], _∷_}
 use lib.Dec.{eqb}
 use Rattle.sheet.specs.Tests.{allOf}
 use Rattle.sheet.specs.Kind as Kind
-use Rattle.sheet.specs.Types.{Shape, Fields, end, field}
+use Rattle.sheet.specs.Types.{Fields, end, field}
 
 unfoldable pub sameBytes : List ℕ → List ℕ → Bool
 sameBytes [] [] = true

@@ -2,12 +2,12 @@
 use Prim.Native.Nat.{ℕ, zero, suc, _+_, _*_, _-_, _%_}
 use mathlib.Core.Bool.{Bool, true, false, cond, not, _&&_, _||_}
 use mathlib.Core.List.{List, [], _∷_, _++_}
-use lib.ListN.{length, getD, take, drop}
+use lib.ListN.{length, take, drop}
 use lib.Dec.{leb, ltb, eqb}
 use Rattle.sheet.specs.Tests.{allOf, oneOf, implies}
 use Rattle.sheet.specs.Kind as Kind
 use Rattle.sheet.specs.Kind.{isKind, isDecimal, cap, sized, lastUnit, partsRight, namesParts}
-use Rattle.sheet.specs.Types.{Shape, Fields, end, field, arity, count}
+use Rattle.sheet.specs.Types.{Fields, end, field, arity, count}
 use Rattle.sheet.specs.Head.{headAt, nullableIn, sortedIn, zonedIn, sizeIn, zoneAt, zoneLen, labelled}
 use Rattle.sheet.specs.Read.{recordsOf, labelsOf, start, read}
 use Rattle.sheet.specs.Names.{namesDiffer}

@@ -1,8 +1,7 @@
 -- Type trees: what a sheet says, without its bytes.
 use Prim.Native.Nat.{ℕ, _+_}
 use mathlib.Core.Bool.{Bool}
-use mathlib.Core.List.{List, [], _∷_, _++_}
-use lib.ListN.{length}
+use mathlib.Core.List.{List, [], _++_}
 
 -- "A zone that is present may be empty"
 pub data Zone : Type 0 where

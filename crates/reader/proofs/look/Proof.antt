@@ -15,14 +15,13 @@ use prog.Memory.{Memory}
 use prog.Routine.{Routine}
 use prog.Wp.{Heap, Calls, Loops, WpFn, Tables}
 use ghost.Atoms.{Atoms, sem}
-use contract.Lifetimes.{Lfts}
 use contract.Monad.{Fun, fact}
 use contract.Running.{givenOf, tables, tablesOf}
 use types.Kit.{Given, ‵, raw, _⊛_, ⋆, some, later, _$_, _∵_, !, qed, by, move, drop, use1, use2, split, join, pick, fsplit, fjoin, suffices, frame, await, done, rewrite}
 use types.Part.{whole, sub, look-in, agg}
 use types.Run.{look, init, forget, stop, fld, from, load, of-opd, and-then, no-more, assigns, land, returns, enter, alloc1, alloc0, params1, pass1, pass0, free1, free0}
 use sound.WpLaws.{FmC, fmOf, WpFn-mono}
-use denote.RattleType.{RattleType, owns}
+use denote.RattleType.{owns}
 use denote.Laws.{Is, shows}
 use denote.Plain.{uint-makes, uint-lawful, uint-vals, uint-tells}
 use denote.Builtin.{u8, usize}
@@ -43,7 +42,6 @@ use denote.Exit.{yes}
 use denote.Triple.Clauses.{ensured, lasts}
 use Rattle.reader.specs.Record.{kindAt, firstAt, nextAt}
 use Rattle.reader.specs.declared.Reader.{Reader}
-use Rattle.reader.specs.declared.Entry.{Entry}
 use Rattle.reader.proofs.Taking.{B, Own}
 use Rattle.reader.proofs.Reader as T
 use Rattle.reader.proofs.Reader.Laws as T′

@@ -1,10 +1,6 @@
-use native.Mathlib.Omega.{arith}
 use borrow.Author.Needs.{needs}
-use Prim.Native.Nat.{ℕ, _-_, _+_, _*_, _<_, _≤_, _/_, _%_}
-use mathlib.Core.Path.{_≡_, refl, sym, _∙_, ap, ap₂}
-use mathlib.Core.Bool.{Bool, true, false, not, _&&_}
-use borrow.Author.Tests.{eq-eqb, ne-eqb}
-use Rattle.buffers.proofs.Copying.{head-full, head-copied, record-full, record-copied}
+use Prim.Native.Nat.{_-_, _/_}
+use Rattle.buffers.proofs.Copying.{record-full, record-copied}
 use borrow.Author.Needs.{needs}
 use Rattle.buffers.proofs.copy.copy_record.Statement.{statement}
 use Rattle.buffers.proofs.copy.copy_record.Tie as tie

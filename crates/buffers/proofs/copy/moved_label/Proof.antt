@@ -1,10 +1,6 @@
 use native.Mathlib.Omega.{arith}
-use borrow.Author.Needs.{needs}
-use Prim.Native.Nat.{ℕ, _-_, _+_, _*_, _<_, _≤_, _/_, _%_}
-use mathlib.Core.Path.{_≡_, refl, sym, _∙_, ap, ap₂}
-use mathlib.Core.Bool.{Bool, true, false, not, _&&_}
-use lib.ListN.{length, take, drop, length-take}
-use borrow.Author.Tests.{eq-eqb, ne-eqb, lt-ltb, le-ltb}
+use Prim.Native.Nat.{_-_, _/_}
+use borrow.Author.Tests.{eq-eqb, ne-eqb}
 use Rattle.buffers.proofs.copy.moved_label.Statement.{statement}
 use Rattle.buffers.proofs.copy.moved_label.Tie as tie
 use Rattle.buffers.proofs.copy.moved_label.Reads as reads

@@ -1,10 +1,4 @@
-use native.Mathlib.Omega.{arith}
-use borrow.Author.Needs.{needs}
-use Prim.Native.Nat.{ℕ, _-_, _+_, _*_, _<_, _≤_}
-use mathlib.Core.Path.{_≡_, refl, sym, _∙_, ap, ap₂}
-use mathlib.Core.Bool.{Bool, true, false, not, _&&_}
-use Rattle.buffers.proofs.Chained.{room-kept}
-use Rattle.buffers.proofs.Laying.{head-laid, plain-full, plain-laid, type-none, type-full, type-copied}
+use Prim.Native.Nat.{_-_}
 use Rattle.buffers.proofs.lay.flags_of.Statement.{statement}
 use Rattle.buffers.proofs.lay.flags_of.Tie as tie
 use Rattle.buffers.proofs.lay.flags_of.Reads as reads

@@ -1,12 +1,5 @@
-use native.Mathlib.Omega.{arith}
 use borrow.Author.Needs.{needs}
-use Prim.Native.Nat.{_-_, _+_, _*_}
-use mathlib.Core.Path.{_≡_, refl, sym, _∙_, ap, ap₂}
-use mathlib.Core.Bool.{Bool, true, false, not, _&&_}
-use lib.ListN.{length, take, drop, length-take}
-use lib.Seq.{length-take-le}
-use Rattle.buffers.specs.Writes.{side}
-use Rattle.buffers.proofs.Puts.{put-part, put-same, filled-fits}
+use Prim.Native.Nat.{_-_}
 use borrow.Author.Needs.{needs}
 use Rattle.buffers.proofs.write.look.Statement.{statement}
 use Rattle.buffers.proofs.write.look.Tie as tie

@@ -1,6 +1,5 @@
 use Prim.Native.Nat.{_-_}
 use native.Mathlib.Omega.{arith}
-use borrow.Author.Needs.{needs}
 use Rattle.sheet.specs.Read.{recordsOf}
 use Rattle.reader.proofs.Laying.{Along, along-start, along-less, along-next, along-done, along-few}
 use Rattle.reader.proofs.list.list_kinds.Statement.{statement}

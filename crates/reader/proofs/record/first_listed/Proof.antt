@@ -1,5 +1,5 @@
 use borrow.Author.Tests.{lt-ltb, le-ltb}
-use mathlib.Core.Path.{_≡_, subst, sym, _∙_, ap}
+use mathlib.Core.Path.{sym}
 use borrow.Author.Needs.{needs}
 use Rattle.reader.proofs.record.first_listed.Statement.{statement}
 use Rattle.reader.proofs.record.first_listed.Tie as tie

@@ -1,4 +1,4 @@
-use mathlib.Core.Path.{ap, ap₂, _∙_}
+use mathlib.Core.Path.{ap₂, _∙_}
 use Prim.Native.Nat.{ℕ}
 use Rattle.sheet.specs.Read.{labelAt}
 use Rattle.sheet.specs.declared.Head.{Head}

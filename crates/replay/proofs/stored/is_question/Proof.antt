@@ -1,6 +1,5 @@
 -- `replay::stored::is_question` is the definition. Assumes nothing.
 use borrow.Author.Tests.{eq-eqb, ne-eqb}
-use borrow.Author.Needs.{needs}
 use Rattle.replay.proofs.stored.is_question.Statement.{statement}
 use Rattle.replay.proofs.stored.is_question.Tie as tie
 

@@ -1,7 +1,6 @@
 use native.Mathlib.Omega.{arith}
 use borrow.Author.Needs.{needs}
 use Prim.Native.Nat.{_+_, _*_, _-_}
-use mathlib.Core.Path.{sym, _∙_}
 use Rattle.rules.proofs.Cores.{core-own, core-value, value-none, value-short, value-past, value-found}
 use Prim.Native.Nat.{ℕ, _<_}
 use borrow.Fn.Kinds.{In}

@@ -1,7 +1,4 @@
-use mathlib.Core.Path.{_≡_, refl, sym, _∙_, ap}
-use Prim.Native.Nat.{ℕ, _≤_}
 use native.Mathlib.Omega.{arith}
-use borrow.Author.Tests.{eq-eqb, ne-eqb}
 use Rattle.sheet.specs.Kind.{cap}
 use Rattle.sheet.proofs.Capped.{cap-is, cap-most}
 use borrow.Author.Needs.{needs}

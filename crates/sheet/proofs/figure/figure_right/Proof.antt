@@ -1,5 +1,4 @@
 use mathlib.Core.Path.{sym, _∙_, ap}
-use mathlib.Core.Bool.{Bool}
 use borrow.Author.Tests.{eq-eqb, ne-eqb}
 use Rattle.sheet.specs.Refusals.{figureRight}
 use Rattle.sheet.proofs.Tests.{all-nil, all-cons, all-not}

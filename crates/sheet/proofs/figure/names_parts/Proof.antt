@@ -1,15 +1,6 @@
-use mathlib.Core.Path.{_≡_, refl, sym, _∙_, ap, ap₂}
-use mathlib.Core.Bool.{Bool, true, false, _&&_}
-use mathlib.Core.List.{List, [], _∷_, _++_}
-use Prim.Native.Nat.{ℕ, zero, suc, _+_, _*_, _-_, _/_, _<_, _≤_}
-use native.Mathlib.Omega.{arith}
-use lib.Dec.{eqb, leb, ltb}
-use lib.ListN.{length, getD, take, drop}
-use borrow.Author.Tests.{eq-eqb, ne-eqb, le-leb, lt-leb, lt-ltb, le-ltb}
-use Rattle.sheet.specs.Tests.{allOf, implies, between}
-use Rattle.sheet.specs.Kind.{isKind, isDecimal, cap, sized, lastUnit, partsRight, namesParts}
-use Rattle.sheet.specs.Refusals.{biased, decimalRight, figureRight, sizeRight, figuresRight, recordRight, placed, labelRight}
-use Rattle.sheet.proofs.Tests.{and-true}
+use mathlib.Core.Path.{sym, _∙_}
+use Prim.Native.Nat.{_-_, _/_}
+use Rattle.sheet.specs.Kind.{namesParts}
 use borrow.Author.Needs.{needs}
 use Rattle.sheet.proofs.figure.names_parts.Statement.{statement}
 use Rattle.sheet.proofs.figure.names_parts.Tie as tie

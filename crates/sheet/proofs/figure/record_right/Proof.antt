@@ -1,6 +1,5 @@
 use mathlib.Core.Path.{sym, _∙_, ap}
 use borrow.Author.Tests.{ne-eqb}
-use native.Mathlib.Omega.{arith}
 use Rattle.sheet.specs.Tests.{implies}
 use Rattle.sheet.specs.Head.{nullableIn}
 use Rattle.sheet.specs.Refusals.{recordRight}

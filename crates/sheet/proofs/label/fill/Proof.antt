@@ -1,16 +1,10 @@
-use mathlib.Core.Path.{_≡_, refl, sym, _∙_, ap, ap₂}
-use mathlib.Core.Bool.{Bool, true, false, _&&_}
-use mathlib.Core.List.{List, [], _∷_, _++_}
-use Prim.Native.Nat.{ℕ, zero, suc, _+_, _*_, _-_, _/_, _<_, _≤_, min}
+use mathlib.Core.Path.{_≡_, sym, _∙_, ap}
+use Prim.Native.Nat.{ℕ, _+_, _-_, _/_}
 use native.Mathlib.Omega.{arith}
 use borrow.Author.Needs.{needs}
-use lib.ListN.{length, getD, take, drop, length-drop, length-take}
-use lib.Seq.{length-take-le, take-all, take-length}
-use borrow.Author.Tests.{eq-eqb, ne-eqb, le-leb, lt-leb, lt-ltb, le-ltb}
-use Rattle.sheet.specs.Head.{headAt, headFrom}
-use Rattle.sheet.specs.Names.{sameBytes}
-use Rattle.sheet.proofs.Bytewise.{same-lengths, same-done, cut-part, fill-none, fill-all}
-use Rattle.sheet.proofs.Heads.{head-inside}
+use lib.ListN.{length, take, drop, length-drop, length-take}
+use lib.Seq.{take-all}
+use Rattle.sheet.proofs.Bytewise.{fill-none, fill-all}
 use borrow.Author.Needs.{needs}
 use Rattle.sheet.proofs.label.fill.Statement.{statement}
 use Rattle.sheet.proofs.label.fill.Tie as tie

@@ -1,15 +1,9 @@
-use mathlib.Core.Path.{_≡_, refl, sym, _∙_, ap, ap₂}
-use mathlib.Core.Bool.{Bool, true, false, _&&_}
-use mathlib.Core.List.{List, [], _∷_, _++_}
-use Prim.Native.Nat.{ℕ, zero, suc, _+_, _*_, _-_, _/_, _<_, _≤_, min}
+use mathlib.Core.Path.{sym, _∙_}
+use Prim.Native.Nat.{_-_, _/_}
 use native.Mathlib.Omega.{arith}
 use borrow.Author.Needs.{needs}
-use lib.ListN.{length, getD, take, drop, length-drop, length-take}
-use lib.Seq.{length-take-le, take-all, take-length}
-use borrow.Author.Tests.{eq-eqb, ne-eqb, le-leb, lt-leb, lt-ltb, le-ltb}
-use Rattle.sheet.specs.Head.{headAt, headFrom}
-use Rattle.sheet.specs.Names.{sameBytes}
-use Rattle.sheet.proofs.Bytewise.{same-lengths, same-done, cut-part, fill-none, fill-all}
+use borrow.Author.Tests.{le-ltb}
+use Rattle.sheet.specs.Head.{headAt}
 use Rattle.sheet.proofs.Heads.{head-inside}
 use borrow.Author.Needs.{needs}
 use Rattle.sheet.proofs.record.head_at.Statement.{statement}

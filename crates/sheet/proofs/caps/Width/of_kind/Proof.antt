@@ -1,9 +1,4 @@
-use mathlib.Core.Path.{_≡_, refl, sym, _∙_, ap}
-use Prim.Native.Nat.{ℕ, _≤_}
-use native.Mathlib.Omega.{arith}
 use borrow.Author.Tests.{eq-eqb, ne-eqb}
-use Rattle.sheet.specs.Kind.{cap}
-use Rattle.sheet.proofs.Capped.{cap-is, cap-most}
 use Rattle.sheet.proofs.caps.Width.of_kind.Statement.{statement}
 use Rattle.sheet.proofs.caps.Width.of_kind.Tie as tie
 use Rattle.sheet.proofs.caps.Width.of_kind.Reads as reads
