@@ -51,22 +51,26 @@ answered space w v z y No none p q a = tt
 answered space w v z y No (some t) p q a = a
 answered space w v z y Full m p q a = ⊎-elim (λ h. omega arith) (λ h. omega arith) a
 
-enclosed : (space : Space) (o : Out) → Passes space foremost o → Enclosed space o
-enclosed space (Done d) a = a .0
-enclosed space No a = tt
-enclosed space Full a = tt
+pub enclosed : (space : Space) (g : Goal) (o : Out) → Passes space g o → Enclosed space o
+enclosed space g (Done d) a = a .0
+enclosed space g No a = tt
+enclosed space g Full a = tt
+
+-- the candidate was moved, then something was written in the second half
+pub shifted-within : {space : Space} {w v u : List ℕ} {at label : ℕ} {d : Spot} → Room w space → Shifted space w v d → Kept space v u at label → Within space w u
+shifted-within room a k =
+    record {
+      long = k .long ∙ a .long;
+      above = λ j h. k .above j (omega (arith, room .half)) ∙ a .above j (omega arith);
+    }
 
 -- the candidate was moved, then merged
 pub stepped : {A : DataType → DataType → Option DataType} (space : Space) {s w v u : List ℕ} {link : ℕ} {d : Spot} (o : Out) → Room w space → Inside space d → Shifted space w v d
     → Merges A space (2 * space .n) false s v u link 1 foremost o → Steps A space (Candidate space w d) s w u link o
 stepped {A} space {w = w} {v} {u} {d = d} o room inside a m =
     record {
-      within =
-          record {
-            long = m .writes .kept .long ∙ a .long;
-            above = λ j h. m .writes .kept .above j (omega (arith, room .half)) ∙ a .above j (omega arith);
-          };
-      inside = enclosed space o (m .writes .passes);
+      within = shifted-within room a (m .writes .kept);
+      inside = enclosed space foremost o (m .writes .passes);
       means =
           λ x c t k h l.
           answered space v u (size x + size c) (letters x + letters c) o (A x c) h l (m .means x c t (candidate-typed space w v d c room inside a k) (omega arith));
@@ -82,7 +86,7 @@ met {A} space {s} {w} {v} {u} o room a m =
             long = m .writes .kept .long ∙ a .long;
             above = λ j h. m .writes .kept .above j (omega (arith, room .half)) ∙ a .above j (omega arith);
           };
-      inside = enclosed space o (m .writes .passes);
+      inside = enclosed space foremost o (m .writes .passes);
       means = λ x c t k h l. answered space v u (size x + size c) (letters x + letters c) o (A x c) h l (m .means x c t (mirrored-typed space s w v room a k) (omega arith));
     }
 

@@ -1,4 +1,5 @@
 pub mod Shifting
 pub mod Folding
+pub mod Cores
 pub mod Listing
 pub mod Leaves

@@ -21,12 +21,13 @@ use Rattle.sheet.specs.Holds.{Holds}
 use Rattle.sheet.proofs.Heads.{head-inside}
 use Rattle.sheet.proofs.Spans.{at-eq, at-span, span-at, span-inside}
 use Rattle.coercion.specs.Data.{DataType, single}
-use Rattle.buffers.specs.Region.{Room, region, Inside}
+use Rattle.buffers.specs.Region.{Room, region, Held, Inside}
 use Rattle.buffers.specs.Typed.{Typed}
 use Rattle.buffers.specs.declared.Space.{Space}
 use Rattle.buffers.specs.declared.Spot.{Spot}
 use Rattle.buffers.proofs.Frames.{head-bytes}
 use Rattle.buffers.proofs.Chained.{labels-sum}
+use Rattle.buffers.proofs.Rows.{chain-typed}
 use Rattle.values.specs.Keeps.{CoreAt, CoreIf}
 use Rattle.resolution.specs.Reached.{Moved, Shifted, Candidate, Mirrored}
 
@@ -110,52 +111,66 @@ holds-moved w v n r o up (field name nullable shape parts rest) q l f g k a =
       ),
     )
 
--- a candidate, wherever its records and labels stand
+-- a candidate stands at the front of the second half
 module _ (space : Space) (w : List ℕ) (d : Spot) (c : DataType) (room : Room w space) (inside : Inside space d) (k : Candidate space w d c) where
-  front-typed : (v : List ℕ) → Holds v (space .n) 1 0 (single c) → Typed space v 1 c
-  front-typed v h =
+  pub candidate-held : Held space (region space w) 0 1 1 0 0 (single c)
+  candidate-held =
       record {
-        name = [];
-        nullable = false;
-        rest = end;
-        chain =
+        source =
             record {
-              floor = 0;
-              at = 1;
-              label = 0;
-              up = 0;
-              held =
-                  record {
-                    source =
-                        record {
-                          leads = record { holds = h; is = refl; above = omega arith; inside = omega (arith, k .wrote .records, inside .records) };
-                          right = k .right;
-                          short = omega (arith, k .wrote .letters, inside .letters, room .short);
-                        };
-                    low = omega (arith, k .wrote .letters, inside .letters);
-                    differ = k .differ;
-                  };
+              leads = record { holds = k .wrote .holds; is = refl; above = omega arith; inside = omega (arith, k .wrote .records, inside .records) };
+              right = k .right;
+              short = omega (arith, k .wrote .letters, inside .letters, room .short);
             };
+        low = omega (arith, k .wrote .letters, inside .letters);
+        differ = k .differ;
       }
 
-  -- it is a type of the second half
   pub candidate-stands : Typed space (region space w) 1 c
-  candidate-stands = front-typed (region space w) (k .wrote .holds)
+  candidate-stands = chain-typed (record { floor = 0; at = 1; label = 0; up = 0; held = candidate-held })
+
+-- what stands in the bytes of a candidate that was moved stands in the first half
+pub held-shifted : (space : Space) (w v : List ℕ) (d : Spot) {floor link r o up : ℕ} (t : Fields) → Room w space → Inside space d → Shifted space w v d → r + count t ≤ d .at
+    → o + length (labels t) ≤ d .label → Held space (region space w) floor link r o up t → Held space v floor link r o up t
+held-shifted space w v d {r = r} {o} {up} t room inside a few short h =
+    let l = h .source .leads in
+    record {
+      source =
+          record {
+            leads =
+                record {
+                  holds =
+                      holds-moved (region space w) v (space .n) r o up t (omega (arith, room .half, room .inside, inside .records, a .long))
+                      (omega (arith, room .half, room .inside, inside .letters, a .long)) (λ j lo hi q. a .records j (omega arith) ∙ sym (getD-drop (space .half) w j 0)) moved (h .source .right)
+                      (l .holds);
+                  is = l .is;
+                  above = l .above;
+                  inside = l .inside;
+                };
+            right = h .source .right;
+            short = h .source .short;
+          };
+      low = h .low;
+      differ = h .differ;
+    }
+  where
+    moved : Matches (region space w) v (16 * space .n + o) (16 * space .n + (o + length (labels t)))
+    moved j lo hi q =
+        at-eq v {i = j} {j = 16 * space .n + (j - 16 * space .n)} (omega arith) ∙ a .letters (j - 16 * space .n) (omega arith)
+        ∙ at-eq w {i = space .half + (16 * space .n + (j - 16 * space .n))} {j = space .half + j} (omega arith) ∙ sym (getD-drop (space .half) w j 0)
 
 -- a candidate that was moved is a type in the first half
 pub candidate-typed : (space : Space) (w v : List ℕ) (d : Spot) (c : DataType) → Room w space → Inside space d → Shifted space w v d → Candidate space w d c → Typed space v 1 c
 candidate-typed space w v d c room inside a k =
-    let records = k .wrote .records in
-    let letters = k .wrote .letters in
-    let long = length-drop (space .half) w in
-    front-typed space w d c room inside k v
-    (holds-moved (region space w) v (space .n) 1 0 0 (single c) (omega (arith, room .half, room .inside, inside .records, a .long))
-    (omega (arith, room .half, room .inside, inside .letters, a .long)) (λ j lo hi q. a .records j (omega arith) ∙ sym (getD-drop (space .half) w j 0)) moved (k .right) (k .wrote .holds))
-  where
-    moved : Matches (region space w) v (16 * space .n + 0) (16 * space .n + (0 + length (labels (single c))))
-    moved j lo hi q =
-        at-eq v {i = j} {j = 16 * space .n + (j - 16 * space .n)} (omega arith) ∙ a .letters (j - 16 * space .n) (omega (arith, k .wrote .letters))
-        ∙ at-eq w {i = space .half + (16 * space .n + (j - 16 * space .n))} {j = space .half + j} (omega arith) ∙ sym (getD-drop (space .half) w j 0)
+    chain-typed
+    (record {
+      floor = 0;
+      at = 1;
+      label = 0;
+      up = 0;
+      held =
+          held-shifted space w v d (single c) room inside a (omega (arith, k .wrote .records)) (omega (arith, k .wrote .letters)) (candidate-held space w d c room inside k);
+    })
 
 -- the sheet's bytes, put into the first half
 pub mirrored : (space : Space) (s w y : List ℕ) (r : ℕ) → space .half ≤ length w → Filled (take (space .half) (drop 0 s)) (take (space .half) w) y r → Mirrored space s w (y ++ drop (space .half) w)
@@ -222,12 +237,14 @@ module _ (space : Space) (w : List ℕ) where
   second-half : second ≡ region space w
   second-half = take-all (length w - space .half) (region space w) (omega (arith, length-drop (space .half) w))
 
+  pub head-second : (h : Head) (r : ℕ) → h ≡ headAt second r → h ≡ headAt (region space w) r
+  head-second h r e = e ∙ ap (λ (u : List ℕ). headAt u r) second-half
+
   pub core-second : {k l : ℕ} → (CoreIf space second k → CoreAt space second 1 l) → CoreIf space (region space w) k → CoreAt space (region space w) 1 l
   core-second {k} {l} f a = subst (λ (u : List ℕ). CoreAt space u 1 l) second-half (f (subst (λ (u : List ℕ). CoreIf space u k) (sym second-half) a))
 
-  pub keeps-candidate : {A : DataType → DataType → Option DataType} {s : List ℕ} {link k : ℕ} {d : Spot} → Room w space → Inside space d → CoreAt space (region space w) 1 k
-      → (CoreAt space second 1 k → (x c : DataType) → Typed space s link x → Typed space second 1 c → A x c ≡ some c)
-      → (x c : DataType) → Typed space s link x → Candidate space w d c → A x c ≡ some c
-  keeps-candidate {k = k} {d} room inside at f x c a b =
+  pub on-candidate : {P : DataType → DataType → Type 0} {s : List ℕ} {link k : ℕ} {d : Spot} → Room w space → Inside space d → CoreAt space (region space w) 1 k
+      → (CoreAt space second 1 k → (x c : DataType) → Typed space s link x → Typed space second 1 c → P x c) → (x c : DataType) → Typed space s link x → Candidate space w d c → P x c
+  on-candidate {k = k} {d} room inside at f x c a b =
       f (subst (λ (u : List ℕ). CoreAt space u 1 k) (sym second-half) at) x c a
       (subst (λ (u : List ℕ). Typed space u 1 c) (sym second-half) (candidate-stands space w d c room inside b))

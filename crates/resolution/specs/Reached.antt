@@ -9,7 +9,7 @@ use lib.Bits.{bitOr}
 use Rattle.sheet.specs.Types.{Fields, field, count, labels}
 use Rattle.sheet.specs.Names.{namesDiffer}
 use Rattle.sheet.specs.Carried.{FieldsRight}
-use Rattle.coercion.specs.Data.{DataType, size, single, typesOf}
+use Rattle.coercion.specs.Data.{DataType, Rules, size, single, typesOf}
 use Rattle.coercion.specs.Answers.{categoryOf, hasCategory, notSupported}
 use Rattle.coercion.specs.Meaning.{categoryBit}
 use Rattle.buffers.specs.Region.{Held, Inside, Wrote}
@@ -22,6 +22,7 @@ use Rattle.buffers.specs.declared.Out.the-variants.{Done, No, Full}
 use Rattle.values.specs.declared.value.Leaf.{Leaf}
 use Rattle.values.specs.declared.value.Joint.{Joint}
 use Rattle.values.specs.Value.{Valued, JointIs}
+use Rattle.values.specs.Keeps.{CoreAlone}
 
 -- where an answer is written: record 1, and the first label
 abbrev pub front : Spot
@@ -67,6 +68,10 @@ pub record Candidate (space : Space) (w : List ℕ) (d : Spot) (c : DataType) : 
   pub wrote : Wrote space w front d (single c)
   pub right : FieldsRight 0 (single c)
   pub differ : namesDiffer (single c) ≡ true
+
+-- a type of the sheet changes only the core of the candidate
+pub record Cored (rules : Rules) (space : Space) (s w : List ℕ) (link : ℕ) (d : Spot) : Type 0 where
+  pub is : (x c : DataType) → Typed space s link x → Candidate space w d c → CoreAlone rules x c
 
 -- the candidate's bytes were moved to the first half, and nothing else has changed
 pub record Shifted (space : Space) (w v : List ℕ) (d : Spot) : Type 0 where

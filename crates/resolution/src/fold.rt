@@ -4,17 +4,19 @@ ghost use Prim.Native.Nat.{ℕ, _+_, _<_, _≤_};
 ghost use Rattle.sheet.specs.Types.{Fields};
 ghost use Rattle.coercion.specs.Data.{DataType};
 ghost use Rattle.coercion.specs.Answers.{coercion, foldFrom, foldTypes, typeUnionResolution, pairAnswer};
-ghost use Rattle.buffers.specs.Region.{Room, Inside};
+ghost use Rattle.buffers.specs.Region.{Room, region, Inside};
 ghost use Rattle.buffers.specs.Plain.{rulesOf};
 ghost use Rattle.buffers.specs.Typed.{Typed};
 ghost use Rattle.resolution.specs.Reached.{Reached, Candidate, Entry, Steps, Folds};
 ghost use Rattle.values.specs.Value.{Valued};
+ghost use Rattle.values.specs.Keeps.{CoreAt};
 use crate::front::lay_front;
 use crate::front::lay_joint;
 use crate::list::all_equal;
 use crate::list::is_fitting;
 use crate::shift::mirror;
 use crate::shift::shift;
+use crate::wrapped::step_core;
 use buffers::Goal;
 use buffers::Out;
 use buffers::Question;
@@ -24,6 +26,7 @@ use buffers::field::copy_field;
 use merge::coerce::coerce;
 use sheet::record::head_at;
 use values::keep::core_of;
+use values::keep::is_core_alone;
 use values::keep::keeps;
 use values::taken::is_taken;
 use values::taken::taken_kinds;
@@ -55,6 +58,27 @@ fn step(
     };
     let left = 2 * space.n;
     coerce(sheet, work, space, question, mask, left, false, link, 1, g)
+}
+
+// The same in a list, of a candidate whose core is at a record. Where the core alone changes, only that is written.
+fn step_list(
+    sheet: &[u8],
+    work: &mut [u8],
+    space: Space,
+    mask: u64,
+    core: usize,
+    link: usize,
+    d: Spot,
+) -> Out
+    requires { ⌜ Room (now work) space × (Inside space d × (1 < space .n)) ⌝ }
+    requires { ⌜ CoreAt space (region space (now work)) 1 core ⌝ }
+    ensures { λ o. ⌜ Steps (coercion (rulesOf Question.List mask)) space (Candidate space (now (work .entry)) d) (now (sheet .entry)) (now (work .entry)) (now (work .exit)) link o ⌝ }
+{
+    let half = space.half;
+    if is_core_alone(sheet, &work[half..], space, mask, link, core) {
+        return step_core(sheet, work, space, mask, link, d);
+    }
+    step(sheet, work, space, Question::List, mask, link, d)
 }
 
 // The common type of the types at two links of the sheet. The second is read from a copy of the sheet's bytes.
@@ -119,7 +143,7 @@ fn fold_from(
         if h.kind != 1 {
             core = core_of(&work[half..], space, core);
             if !keeps(sheet, &work[half..], space, mask, at, core) {
-                match step(sheet, work, space, Question::List, mask, at, end) {
+                match step_list(sheet, work, space, mask, core, at, end) {
                     Out::Done(e) => end = e,
                     Out::No => return Out::No,
                     Out::Full => return Out::No,

@@ -3,6 +3,7 @@ mod fold;
 mod front;
 mod list;
 mod shift;
+mod wrapped;
 
 ghost use mathlib.Core.Path.{_≡_};
 ghost use Rattle.sheet.specs.Read.{start};

@@ -18,7 +18,7 @@ use Rattle.sheet.specs.Head.{headAt, zonedIn, zoneAt, zoneLen}
 use Rattle.sheet.specs.declared.Head.{Head}
 use Rattle.sheet.proofs.Tests.{never, and-fst, and-snd, all-at}
 use Rattle.kinds.proofs.Chain.{first}
-use Rattle.coercion.specs.Data.{DataType, Rules, figuresOf, ofUnit, zoned}
+use Rattle.coercion.specs.Data.{DataType, Rules, andThen, figuresOf, ofUnit, zoned}
 use Rattle.coercion.specs.Data as Data
 use Rattle.coercion.specs.Same.{equal, sameType}
 use Rattle.coercion.specs.Times.{timeunitCoercion, zoneCoercion, temporalCoercionNonstrictTimezone}
@@ -28,12 +28,14 @@ use Rattle.coercion.proofs.Fuel.{coercion-asks}
 use Rattle.coercion.proofs.Sameness.{equal-same, equal-self}
 use Rattle.buffers.specs.Goal.{typeOf}
 use Rattle.buffers.specs.Region.{Held}
-use Rattle.buffers.specs.Plain.{rulesOf}
+use Rattle.buffers.specs.Plain.{rulesOf, plainRules}
 use Rattle.buffers.specs.Source.{SameTypes}
-use Rattle.buffers.specs.Steps.{Figured}
+use Rattle.buffers.specs.Steps.{Figured, Reads, stepOf}
 use Rattle.buffers.specs.Typed.{Typed}
 use Rattle.buffers.specs.declared.Question.the-variants as Question
 use Rattle.buffers.specs.declared.Space.{Space}
+use Rattle.buffers.specs.declared.Step.{Step}
+use Rattle.buffers.specs.declared.Step.the-variants as Step
 use Rattle.buffers.proofs.Sources.{link-inside, read-shape}
 use Rattle.buffers.proofs.Chained.{held-first, held-next}
 use Rattle.buffers.proofs.Fielding.{typed-reads}
@@ -46,10 +48,10 @@ use Rattle.values.specs.declared.value.Leaf.{Leaf}
 use Rattle.values.specs.declared.value.Joint.{Joint}
 use Rattle.values.specs.declared.value.Joint.the-variants as Joint
 use Rattle.values.specs.Value.{isPlain, leafOf, leafType, Valued, JointIs, Joins}
-use Rattle.values.specs.Keeps.{coreOf, CoreAt, staysZoned}
+use Rattle.values.specs.Keeps.{coreOf, withCore, CoreAlone, laysView, CoreAt, staysZoned}
 use Rattle.values.proofs.Valuing.{typed-right, no-parts, leaf-low, plain-valued, plain-coercion}
 
-by-test : {A : Type 0} (b : Bool) → (b ≡ true → A) → (b ≡ false → A) → A
+pub by-test : {A : Type 0} (b : Bool) → (b ≡ true → A) → (b ≡ false → A) → A
 by-test true f g = f refl
 by-test false f g = g refl
 
@@ -58,24 +60,56 @@ cond-self true a = refl
 cond-self false a = refl
 
 -- a field whose parent names no parts
+plain-name : {up : ℕ} (name : List ℕ) (nullable : Bool) {shape : Shape} {parts : Fields} → namesParts up ≡ false → FieldRight up name nullable shape parts → (s : Shape) (p : Fields)
+    → field name nullable s p end ≡ field [] false s p end
+plain-name [] false n a s p = refl
+plain-name [] true n a s p = never (sym n ∙ a .mayBeNull)
+plain-name (b ∷ bs) nullable n a s p = never (sym n ∙ a .mayBeNamed)
+
 pub plain-field : {up : ℕ} (name : List ℕ) (nullable : Bool) (shape : Shape) (parts : Fields) → namesParts up ≡ false → FieldRight up name nullable shape parts
     → field name nullable shape parts end ≡ field [] false shape parts end
-plain-field [] false shape parts n a = refl
-plain-field [] true shape parts n a = never (sym n ∙ a .mayBeNull)
-plain-field (b ∷ bs) nullable shape parts n a = never (sym n ∙ a .mayBeNamed)
+plain-field name nullable shape parts n a = plain-name name nullable n a shape parts
 
 -- the core of a type that is no wrapper, and of one that is
-core-bare : (s : Shape) (p : Fields) → isWrapper (s .kind) ≡ false → coreOf s p ≡ typeOf s p
+pub core-bare : (s : Shape) (p : Fields) → isWrapper (s .kind) ≡ false → coreOf s p ≡ typeOf s p
 unfolding coreOf
 core-bare s end h = refl
 core-bare s (field n b s₁ p₁ end) h = refl
 core-bare s (field n b s₁ p₁ (field n₂ b₂ s₂ p₂ q)) h = rw h
 
-core-wrap : (s : Shape) (p : Fields) (v : DataType) → isWrapper (s .kind) ≡ true → valueIn p ≡ some v → coreOf s p ≡ coreOf (v .shape) (v .parts)
+pub core-wrap : (s : Shape) (p : Fields) (v : DataType) → isWrapper (s .kind) ≡ true → valueIn p ≡ some v → coreOf s p ≡ coreOf (v .shape) (v .parts)
 unfolding coreOf
 core-wrap s end v w e = missing e
 core-wrap s (field n b s₁ p₁ end) v w e = missing e
 core-wrap s (field n b s₁ p₁ (field n₂ b₂ s₂ p₂ q)) v w e = rw w (ap (λ (t : DataType). coreOf (t .shape) (t .parts)) (Option·some-inj .0 e))
+
+-- a type with another core
+pub with-bare : (s : Shape) (p : Fields) (t : DataType) → isWrapper (s .kind) ≡ false → withCore s p t ≡ t
+unfolding withCore
+with-bare s end t h = refl
+with-bare s (field n b s₁ p₁ end) t h = refl
+with-bare s (field n b s₁ p₁ (field n₂ b₂ s₂ p₂ q)) t h = rw h
+
+pub with-wrap : (s : Shape) (n : List ℕ) (b : Bool) (s₁ : Shape) (p₁ : Fields) (n₂ : List ℕ) (b₂ : Bool) (s₂ : Shape) (p₂ : Fields) (t : DataType) → isWrapper (s .kind) ≡ true
+    → withCore s (field n b s₁ p₁ (field n₂ b₂ s₂ p₂ end)) t ≡ typeOf s (field n b s₁ p₁ (field n₂ b₂ (withCore s₂ p₂ t .shape) (withCore s₂ p₂ t .parts) end))
+unfolding withCore
+with-wrap s n b s₁ p₁ n₂ b₂ s₂ p₂ t h = rw h
+
+-- a type with its own core
+with-own : (s : Shape) (p : Fields) → withCore s p (coreOf s p) ≡ typeOf s p
+unfolding coreOf withCore
+with-own s end = refl
+with-own s (field n b s₁ p₁ end) = refl
+with-own s (field n b s₁ p₁ (field n₂ b₂ s₂ p₂ q)) =
+    by-test (isWrapper (s .kind)) (λ e. rw e (ap (λ (t : DataType). typeOf s (field n b s₁ p₁ (field n₂ b₂ (t .shape) (t .parts) q))) (with-own s₂ p₂))) (λ e. rw e refl)
+
+-- a wrapper is no Utf8View, whatever its core
+with-view : (s : Shape) (p : Fields) (t : DataType) → (t .shape .kind ≡ 27 → ⊥) → withCore s p t .shape .kind ≡ 27 → ⊥
+unfolding withCore
+with-view s end t n e = n e
+with-view s (field n₁ b s₁ p₁ end) t n e = n e
+with-view s (field n₁ b s₁ p₁ (field n₂ b₂ s₂ p₂ q)) t n e =
+    by-test (isWrapper (s .kind)) (λ w. let k = rw w at e in never (sym (ap (λ (i : ℕ). isWrapper i) k) ∙ w)) (λ w. n (rw w at e))
 
 -- the second of two parts
 second-above : {space : Space} {s : List ℕ} {at link r o up : ℕ} {f : Fields} (x : Two f) → Held space s at link r o up f → (g : Head) → g ≡ headAt s link → at < g .next
@@ -129,6 +163,16 @@ module _ (t : DataType) (h : FieldRight 0 [] false (t .shape) (t .parts)) (e : t
   own-figured : Figured (figuresOf t) t
   own-figured = record { kind = refl; figure = refl; scale = refl; known = h .known; bare = λ q. never (sym q ∙ eq-eqb (t .shape .kind) 22 e) }
 
+-- a step that lays no Utf8View makes none of two other types
+step-view : (step : Step) (l r u : DataType) (b : Bool) → laysView step ≡ false → (l .shape .kind ≡ 27 → ⊥) → (r .shape .kind ≡ 27 → ⊥) → cond b (some l) (stepOf step l r) ≡ some u
+    → u .shape .kind ≡ 27 → ⊥
+step-view step l r u true h n m q e = n (ap (λ (t : DataType). t .shape .kind) (Option·some-inj .0 q) ∙ e)
+step-view (Step.Lay f) l r u false h n m q e = never (sym h ∙ eq-eqb (f .kind) 27 (ap (λ (t : DataType). t .shape .kind) (Option·some-inj .0 q) ∙ e))
+step-view (Step.Stamp unit) l r u false h n m q e = let k : _≡_ {A = ℕ} 22 27 = ap (λ (t : DataType). t .shape .kind) (Option·some-inj .0 q) ∙ e in omega (arith, k)
+step-view Step.Left l r u false h n m q e = n (ap (λ (t : DataType). t .shape .kind) (Option·some-inj .0 q) ∙ e)
+step-view Step.Right l r u false h n m q e = m (ap (λ (t : DataType). t .shape .kind) (Option·some-inj .0 q) ∙ e)
+step-view Step.Nothing l r u false h n m q e = missing q
+
 module _ (mask : ℕ) where
   abbrev rules : Rules
   rules = rulesOf Question.List mask
@@ -157,64 +201,91 @@ module _ (mask : ℕ) where
     other k h = ne-eqb (x .shape .kind) k (λ e. omega arith)
 
     -- both orders give what is made of the value
-    Both : DataType → Type 0
-    Both d = (coercion rules d x ≡ some d) × (coercion rules x d ≡ some d)
+    Both : DataType → Option DataType → Type 0
+    Both d m = (coercion rules d x ≡ m) × (coercion rules x d ≡ m)
 
-    both-orders : (d : DataType) (m : Option DataType) → m ≡ some d → ask Data.list rules (coercion rules) d x ≡ cond (equal d x) (some d) m
-        → ask Data.list rules (coercion rules) x d ≡ cond (equal x d) (some x) m → Both d
-    unfolding Both
-    both-orders d m e p q =
-        (coercion-asks rules d x ∙ p ∙ ap (cond (equal d x) (some d)) e ∙ cond-self (equal d x) (some d), coercion-asks rules x d ∙ q ∙ ap (cond (equal x d) (some x)) e ∙ right (equal x d) refl)
+    unequal : (l r : DataType) (m : Option DataType) → (l .shape .kind ≡ r .shape .kind → ⊥) → cond (equal l r) (some l) m ≡ m
+    unequal l r m n = go (equal l r) refl
       where
-        right : (b : Bool) → equal x d ≡ b → cond b (some x) (some d) ≡ some d
-        right true h = ap (λ (t : DataType). some t) (equal-same x d h)
-        right false h = refl
+        go : (b : Bool) → equal l r ≡ b → cond b (some l) m ≡ m
+        go true h = absurd (n (ap (λ (t : DataType). t .shape .kind) (equal-same l r h)))
+        go false h = refl
 
-    dictionary-orders : (d : DataType) → d .shape .kind ≡ 37 → wrapped (coercion rules) d x keepDictionary ≡ some d → Both d
-    dictionary-orders d e m =
-        both-orders d (wrapped (coercion rules) d x keepDictionary) m (rw (eq-eqb (d .shape .kind) 37 e, other 37 (omega arith)) refl)
+    both-orders : (d : DataType) (m : Option DataType) → 32 ≤ d .shape .kind → ask Data.list rules (coercion rules) d x ≡ cond (equal d x) (some d) m
+        → ask Data.list rules (coercion rules) x d ≡ cond (equal x d) (some x) m → Both d m
+    unfolding Both
+    both-orders d m h p q = (coercion-asks rules d x ∙ p ∙ unequal d x m (λ e. omega arith), coercion-asks rules x d ∙ q ∙ unequal x d m (λ e. omega arith))
+
+    dictionary-orders : (d : DataType) → d .shape .kind ≡ 37 → Both d (wrapped (coercion rules) d x keepDictionary)
+    dictionary-orders d e =
+        both-orders d (wrapped (coercion rules) d x keepDictionary) (omega arith) (rw (eq-eqb (d .shape .kind) 37 e, other 37 (omega arith)) refl)
         (rw (other 37 (omega arith), eq-eqb (d .shape .kind) 37 e) refl)
 
-    run-ends-orders : (d : DataType) → d .shape .kind ≡ 38 → wrapped (coercion rules) d x (λ d t. runEndsOf d (d .parts) t) ≡ some d → Both d
-    run-ends-orders d e m =
+    run-ends-orders : (d : DataType) → d .shape .kind ≡ 38 → Both d (wrapped (coercion rules) d x (λ d t. runEndsOf d (d .parts) t))
+    run-ends-orders d e =
         let n = ne-eqb (d .shape .kind) 37 (λ q. omega arith) in
-        both-orders d (wrapped (coercion rules) d x (λ d t. runEndsOf d (d .parts) t)) m
+        both-orders d (wrapped (coercion rules) d x (λ d t. runEndsOf d (d .parts) t)) (omega arith)
         (rw (n, other 37 (omega arith), eq-eqb (d .shape .kind) 38 e, other 38 (omega arith)) refl)
         (rw (other 37 (omega arith), n, other 38 (omega arith), eq-eqb (d .shape .kind) 38 e) refl)
 
-    -- a wrapper whose value stays
-    wrapper-stays : (up : ℕ) (name : List ℕ) (nullable : Bool) (shape : Shape) (n : List ℕ) (b : Bool) (s : Shape) (p : Fields) (n₂ : List ℕ) (b₂ : Bool) (s₂ : Shape) (p₂ q rest : Fields)
-        → FieldsRight up (field name nullable shape (field n b s p (field n₂ b₂ s₂ p₂ q)) rest) → isWrapper (shape .kind) ≡ true → (s₂ .kind ≡ 27 → ⊥)
-        → coercion rules (typeOf s₂ p₂) x ≡ some (typeOf s₂ p₂) → Both (typeOf shape (field n b s p (field n₂ b₂ s₂ p₂ q)))
-    unfolding arity namesParts between
-    wrapper-stays up name nullable shape n b s p n₂ b₂ s₂ p₂ (field n₃ b₃ s₃ p₃ q) rest h w v k = absurd (omega (arith, two-parts _ _ w (h .0 .filled)))
-    wrapper-stays up name nullable shape n b s p n₂ b₂ s₂ p₂ end rest h w v k = go (wrapper-is (shape .kind) w)
+    -- what is made of a core is no Utf8View
+    NoView : Option DataType → Type 0
+    NoView m = (t : DataType) → m ≡ some t → t .shape .kind ≡ 27 → ⊥
+
+    -- a wrapper around a value with another core
+    wrapper-with : (up : ℕ) (name : List ℕ) (nullable : Bool) (shape : Shape) (n : List ℕ) (b : Bool) (s : Shape) (p : Fields) (n₂ : List ℕ) (b₂ : Bool) (s₂ : Shape) (p₂ q rest : Fields)
+        → FieldsRight up (field name nullable shape (field n b s p (field n₂ b₂ s₂ p₂ q)) rest) → isWrapper (shape .kind) ≡ true → (m : Option DataType) → NoView m
+        → coercion rules (typeOf s₂ p₂) x ≡ andThen m (λ t. some (withCore s₂ p₂ t))
+        → Both (typeOf shape (field n b s p (field n₂ b₂ s₂ p₂ q)))
+        (andThen m (λ t. some (typeOf shape (field n b s p (field n₂ b₂ (withCore s₂ p₂ t .shape) (withCore s₂ p₂ t .parts) q)))))
+    unfolding arity namesParts between Both NoView
+    wrapper-with up name nullable shape n b s p n₂ b₂ s₂ p₂ (field n₃ b₃ s₃ p₃ q) rest h w m v k = absurd (omega (arith, two-parts _ _ w (h .0 .filled)))
+    wrapper-with up name nullable shape n b s p n₂ b₂ s₂ p₂ end rest h w m v k = go (wrapper-is (shape .kind) w)
       where
-        go : (shape .kind ≡ 37) ⊎ (shape .kind ≡ 38) → Both (typeOf shape (field n b s p (field n₂ b₂ s₂ p₂ end)))
+        d : DataType
+        d = typeOf shape (field n b s p (field n₂ b₂ s₂ p₂ end))
+
+        made : Option DataType
+        made = andThen m (λ t. some (typeOf shape (field n b s p (field n₂ b₂ (withCore s₂ p₂ t .shape) (withCore s₂ p₂ t .parts) end))))
+
+        kept : shape .kind ≡ 37 → (m : Option DataType) → NoView m → andThen (andThen m (λ t. some (withCore s₂ p₂ t))) (λ t. keepDictionary d t)
+            ≡ andThen m (λ t. some (typeOf shape (field n b s p (field n₂ b₂ (withCore s₂ p₂ t .shape) (withCore s₂ p₂ t .parts) end))))
+        kept e none v = refl
+        kept e (some t) v =
+            rw (ne-eqb (withCore s₂ p₂ t .shape .kind) 27 (with-view s₂ p₂ t (v t refl)))
+            (ap (λ (f : Fields). some (typeOf shape (field n b s p f)))
+            (sym (plain-name n₂ b₂ (ap (λ (i : ℕ). namesParts i) e) (h .1 .0 .1 .1 .0) (withCore s₂ p₂ t .shape) (withCore s₂ p₂ t .parts))))
+
+        ends : (m : Option DataType) → andThen (andThen m (λ t. some (withCore s₂ p₂ t))) (λ t. runEndsOf d (d .parts) t)
+            ≡ andThen m (λ t. some (typeOf shape (field n b s p (field n₂ b₂ (withCore s₂ p₂ t .shape) (withCore s₂ p₂ t .parts) end))))
+        ends none = refl
+        ends (some t) = refl
+
+        go : (shape .kind ≡ 37) ⊎ (shape .kind ≡ 38) → Both d made
         go (inl e) =
-            dictionary-orders (typeOf shape (field n b s p (field n₂ b₂ s₂ p₂ end))) e
-            (rw (k, ne-eqb (s₂ .kind) 27 v)
-            (ap (λ (f : Fields). some (typeOf shape (field n b s p f))) (sym (plain-field n₂ b₂ s₂ p₂ (ap (λ (i : ℕ). namesParts i) e) (h .1 .0 .1 .1 .0)))))
-        go (inr e) = run-ends-orders (typeOf shape (field n b s p (field n₂ b₂ s₂ p₂ end))) e (rw k refl)
+            let a = dictionary-orders d e in let g = ap (λ (o : Option DataType). andThen o (λ t. keepDictionary d t)) k ∙ kept e m v in (a .0 ∙ g, a .1 ∙ g)
+        go (inr e) =
+            let a = run-ends-orders d e in let g = ap (λ (o : Option DataType). andThen o (λ t. runEndsOf d (d .parts) t)) k ∙ ends m in (a .0 ∙ g, a .1 ∙ g)
 
-    -- the value is no Utf8View where the core is none
-    no-view : (s : Shape) (p : Fields) → (coreOf s p .shape .kind ≡ 27 → ⊥) → s .kind ≡ 27 → ⊥
-    no-view s p v e = v (ap (λ (t : DataType). t .shape .kind) (core-bare s p (ap (λ (k : ℕ). isWrapper k) e)) ∙ e)
+    itself : (m : Option DataType) → m ≡ andThen m (λ t. some t)
+    itself none = refl
+    itself (some t) = refl
 
-    -- so does a type whose core stays
-    core-stays : (up : ℕ) (name : List ℕ) (nullable : Bool) (shape : Shape) (parts rest : Fields) → FieldsRight up (field name nullable shape parts rest)
-        → (coreOf shape parts .shape .kind ≡ 27 → ⊥) → coercion rules (coreOf shape parts) x ≡ some (coreOf shape parts)
-        → (coercion rules (typeOf shape parts) x ≡ some (typeOf shape parts)) × (isWrapper (shape .kind) ≡ true → coercion rules x (typeOf shape parts) ≡ some (typeOf shape parts))
-    unfolding coreOf arity Both
-    core-stays up name nullable shape end rest h v k = (k, λ w. absurd (omega (arith, two-parts _ _ w (h .0 .filled))))
-    core-stays up name nullable shape (field n b s p end) rest h v k = (k, λ w. absurd (omega (arith, two-parts _ _ w (h .0 .filled))))
-    core-stays up name nullable shape (field n b s p (field n₂ b₂ s₂ p₂ q)) rest h v k =
+    -- so is a type whose core is made another
+    core-with : (up : ℕ) (name : List ℕ) (nullable : Bool) (shape : Shape) (parts rest : Fields) → FieldsRight up (field name nullable shape parts rest)
+        → NoView (coercion rules (coreOf shape parts) x)
+        → (coercion rules (typeOf shape parts) x ≡ andThen (coercion rules (coreOf shape parts) x) (λ t. some (withCore shape parts t)))
+        × (isWrapper (shape .kind) ≡ true → coercion rules x (typeOf shape parts) ≡ andThen (coercion rules (coreOf shape parts) x) (λ t. some (withCore shape parts t)))
+    unfolding coreOf withCore arity Both NoView
+    core-with up name nullable shape end rest h v = (itself _, λ w. absurd (omega (arith, two-parts _ _ w (h .0 .filled))))
+    core-with up name nullable shape (field n b s p end) rest h v = (itself _, λ w. absurd (omega (arith, two-parts _ _ w (h .0 .filled))))
+    core-with up name nullable shape (field n b s p (field n₂ b₂ s₂ p₂ q)) rest h v =
         by-test (isWrapper (shape .kind))
         (λ e.
         let u = rw e at v in
-        let both = wrapper-stays up name nullable shape n b s p n₂ b₂ s₂ p₂ q rest h e (no-view s₂ p₂ u) (core-stays (shape .kind) n₂ b₂ s₂ p₂ q (h .1 .0 .1 .1) u (rw e at k) .0) in
-        (both .0, λ w. both .1))
-        (λ e. (rw e at k, λ w. never (sym e ∙ w)))
+        let both = wrapper-with up name nullable shape n b s p n₂ b₂ s₂ p₂ q rest h e (coercion rules (coreOf s₂ p₂) x) u (core-with (shape .kind) n₂ b₂ s₂ p₂ q (h .1 .0 .1 .1) u .0) in
+        rw e (both .0, λ w. both .1))
+        (λ e. rw e (itself _, λ w. never w))
 
   -- a Timestamp with a zone keeps it, to the left of a Timestamp
   stamp-stays : (l r : DataType) (z : List ℕ) → FieldRight 0 [] false (l .shape) (l .parts) → FieldRight 0 [] false (r .shape) (r .parts) → l .shape .kind ≡ 22 → r .shape .kind ≡ 22
@@ -240,16 +311,36 @@ module _ (mask : ℕ) where
     core-typed : Typed space u core inner
     core-typed = at .is c d
 
-    -- a wrapper whose core stays
-    keeps-core : 32 ≤ h .kind → x .kind < 32 → v .kind < 32 → (v .kind ≡ 27 → ⊥) → coercion rules inner t ≡ some inner → coercion rules t c ≡ some c
-    keeps-core high low bare n f =
+    -- a wrapper whose core alone changes
+    core-changes : 32 ≤ h .kind → x .kind < 32 → v .kind < 32 → ((u : DataType) → coercion rules inner t ≡ some u → u .shape .kind ≡ 27 → ⊥) → CoreAlone rules t c
+    unfolding NoView
+    core-changes high low bare n =
         by-test (isWrapper (c .shape .kind))
         (λ e.
-        core-stays t (omega (arith, typed-reads a ex .kind)) (d .chain .up) (d .name) (d .nullable) (c .shape) (c .parts) (d .rest) (d .chain .held .source .right)
-        (λ q. n (sym (typed-reads core-typed ev .kind) ∙ q)) f .1 e)
+        record {
+          low = omega (arith, typed-reads core-typed ev .kind);
+          is = core-with t (omega (arith, typed-reads a ex .kind)) (d .chain .up) (d .name) (d .nullable) (c .shape) (c .parts) (d .rest) (d .chain .held .source .right) n .1 e;
+        })
         (λ e.
         let k = ap (λ (y : DataType). y .shape .kind) (core-bare (c .shape) (c .parts) e) in
         absurd (omega (arith, k, typed-reads core-typed ev .kind, typed-reads d eh .kind)))
+
+    -- a wrapper whose core stays
+    keeps-core : 32 ≤ h .kind → x .kind < 32 → v .kind < 32 → (v .kind ≡ 27 → ⊥) → coercion rules inner t ≡ some inner → coercion rules t c ≡ some c
+    keeps-core high low bare n f =
+        core-changes high low bare (λ u q e. n (sym (typed-reads core-typed ev .kind) ∙ ap (λ (y : DataType). y .shape .kind) (Option·some-inj .0 (sym f ∙ q)) ∙ e)) .is
+        ∙ ap (λ (m : Option DataType). andThen m (λ u. some (withCore (c .shape) (c .parts) u))) f
+        ∙ ap (λ (u : DataType). some u) (with-own (c .shape) (c .parts))
+
+    -- one whose core takes a step
+    pub core-steps : 32 ≤ h .kind → x .kind < 32 → v .kind < 32 → (x .kind ≡ 27 → ⊥) → (v .kind ≡ 27 → ⊥) → (step : Step)
+        → ((l r : DataType) → Reads v l → Reads x r → stepOf step l r ≡ plainRules rules l r) → laysView step ≡ false → CoreAlone rules t c
+    core-steps high low bare n m step f b =
+        let rv = typed-reads core-typed ev in
+        let rx = typed-reads a ex in
+        core-changes high low bare
+        (λ u q. step-view step inner t u (equal inner t) b (λ e. m (sym (rv .kind) ∙ e)) (λ e. n (sym (rx .kind) ∙ e))
+        (ap (cond (equal inner t) (some inner)) (f inner t rv rx) ∙ sym (plain-coercion rules inner t (omega (arith, rv .kind)) (omega (arith, rx .kind))) ∙ q))
 
     -- around a Timestamp with a zone
     pub keeps-zoned : 32 ≤ h .kind → staysZoned v x ≡ true → coercion rules t c ≡ some c

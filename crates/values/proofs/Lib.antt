@@ -1,4 +1,5 @@
 pub mod Low
 pub mod Valuing
 pub mod Keeping
+pub mod Coring
 pub mod Taking

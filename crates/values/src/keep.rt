@@ -8,7 +8,7 @@ ghost use Rattle.coercion.specs.Answers.{coercion};
 ghost use Rattle.buffers.specs.Plain.{rulesOf};
 ghost use Rattle.buffers.specs.Typed.{Typed};
 ghost use Rattle.values.specs.Value.{Valued};
-ghost use Rattle.values.specs.Keeps.{CoreAt, CoreIf, staysZoned};
+ghost use Rattle.values.specs.Keeps.{CoreAt, CoreIf, staysZoned, CoreAlone, laysView};
 use crate::value::Joint;
 use crate::value::Leaf;
 use crate::value::common_type;
@@ -17,7 +17,9 @@ use crate::value::is_same;
 use crate::value::leaf_of;
 use buffers::Question;
 use buffers::Space;
+use buffers::Step;
 use buffers::alike::same_type;
+use buffers::plain::plain;
 use kinds::tests::both;
 use kinds::tests::either;
 use rules::times::timeunit_coercion;
@@ -101,4 +103,48 @@ pub fn keeps(sheet: &[u8], second: &[u8], space: Space, mask: u64, link: usize, 
         return true;
     }
     same_type(sheet, space.n, link, second, space.n, 1, true)
+}
+
+fn lays_view(step: Step) -> bool
+    ensures { λ b. ⌜ b ≡ laysView step ⌝ }
+{
+    match step {
+        Step::Lay(f) => f.kind == 27,
+        Step::Stamp(unit) => false,
+        Step::Left => false,
+        Step::Right => false,
+        Step::Nothing => false,
+    }
+}
+
+// Whether the candidate at record 1 of the second half is wrappers around a core without parts, which alone changes under the type at a link of the sheet. A
+// Dictionary gives way to Utf8View.
+pub fn is_core_alone(
+    sheet: &[u8],
+    second: &[u8],
+    space: Space,
+    mask: u64,
+    link: usize,
+    core: usize,
+) -> bool
+    ensures { λ b. ⌜ (b ≡ true → CoreAt space (now (second .entry)) 1 core → (x c : DataType) → Typed space (now (sheet .entry)) link x → Typed space (now (second .entry)) 1 c → CoreAlone (rulesOf Question.List mask) x c) ⌝ }
+{
+    let x = head_at(sheet, link);
+    let y = head_at(second, core);
+    if head_at(second, 1).kind < 32 {
+        return false;
+    }
+    if 32 <= x.kind {
+        return false;
+    }
+    if 32 <= y.kind {
+        return false;
+    }
+    if x.kind == 27 {
+        return false;
+    }
+    if y.kind == 27 {
+        return false;
+    }
+    !lays_view(plain(Question::List, mask, y, x))
 }

@@ -10,13 +10,13 @@ use Rattle.buffers.specs.Plain.{rulesOf}
 use Rattle.buffers.specs.declared.Question.the-variants as Question
 use Rattle.values.specs.Keeps.{CoreIf}
 use Rattle.resolution.proofs.Listing.{unnot}
-use Rattle.resolution.proofs.Shifting.{core-second, keeps-candidate}
+use Rattle.resolution.proofs.Shifting.{core-second, on-candidate}
 use Rattle.resolution.proofs.Folding.{FoldsOn, candidate-right, room-within, folds-end, folds-lost, folds-null, folds-kept, folds-on, folds-no, folds-full}
 use Rattle.resolution.proofs.fold.fold_from.Statement.{statement}
 use Rattle.resolution.proofs.fold.fold_from.Tie as tie
 use Rattle.resolution.proofs.fold.fold_from.Reads as reads
 use Rattle.resolution.proofs.fold.fold_from.Lts as lts
-use Rattle.resolution.proofs.fold.step.Reads as step-reads
+use Rattle.resolution.proofs.fold.step_list.Reads as step-list-reads
 use Rattle.values.proofs.keep.core_of.Reads as core-of-reads
 use Rattle.values.proofs.keep.keeps.Reads as keeps-reads
 use Rattle.sheet.proofs.record.head_at.Reads as head-at-reads
@@ -91,9 +91,9 @@ keeps-requires c κs =
     (c .before .before .before .before .before .before .before .before .before .before .before .loop .inv .0 .0 .few)
 
 -- src/fold.rt:112:23
-step-requires : tie.Need-step-requires Inv-loop μ-loop
-step-requires c κs =
-    (c .before .before .before .before .before .before .before .before .before .before .before .before .before .before .loop .inv .0)
+step-list-requires : tie.Need-step-list-requires Inv-loop μ-loop
+step-list-requires c κs =
+    ((c .before .before .before .before .before .before .before .before .before .before .before .before .before .before .loop .inv .0), core-second (c .before .before .before .before .before .before .before .before .before .before .before .before .before .before .before .before .before .args .space) (c .before .before .before .before .before .before .before .before .before .before .before .before .before .before .loop .work) (c .before .before .before .before .before .core-of .ensures) (c .before .before .before .before .before .before .before .before .before .before .before .before .before .before .loop .inv .1 .1 .1))
 
 -- src/fold.rt:113:31
 enum-known-e : tie.Need-enum-known-e Inv-loop μ-loop
@@ -108,12 +108,12 @@ enum-told c =
 -- src/fold.rt:114:32
 same-length-2 : tie.Need-same-length-2 Inv-loop μ-loop
 same-length-2 c =
-    (c .before .before .before .before .step .ensures .within .long) ∙ (c .before .before .before .before .before .before .before .before .before .before .before .before .before .before .before .before .before .before .before .loop .inv .1 .0)
+    (c .before .before .before .before .step-list .ensures .within .long) ∙ (c .before .before .before .before .before .before .before .before .before .before .before .before .before .before .before .before .before .before .before .loop .inv .1 .0)
 
 -- src/fold.rt:114:32
 returns-2 : tie.Need-returns-2 Inv-loop μ-loop
 returns-2 c =
-    (c .before .before .before .before .before .before .before .before .before .before .before .before .before .before .before .before .before .before .before .loop .inv .1 .1 .0) _ _ (folds-no (rulesOf Question.List _) _ _ (c .before .before .before .before .before .before .before .before .before .before .before .before .before .before .before .before .before .before .loop-test .taken) _ (c .before .before .before .before .before .before .before .before .before .before .before .before .before .before .before .head-at .ensures .0) (c .before .before .before .before .before .before .before .before .before .before .before .before .before .if2 .taken) (rw (c .enum-told .given .1) at (c .before .before .before .before .step .ensures)))
+    (c .before .before .before .before .before .before .before .before .before .before .before .before .before .before .before .before .before .before .before .loop .inv .1 .1 .0) _ _ (folds-no (rulesOf Question.List _) _ _ (c .before .before .before .before .before .before .before .before .before .before .before .before .before .before .before .before .before .before .loop-test .taken) _ (c .before .before .before .before .before .before .before .before .before .before .before .before .before .before .before .head-at .ensures .0) (c .before .before .before .before .before .before .before .before .before .before .before .before .before .if2 .taken) (rw (c .enum-told .given .1) at (c .before .before .before .before .step-list .ensures)))
 
 -- src/fold.rt:115:34
 enum-told-2 : tie.Need-enum-told-2 Inv-loop μ-loop
@@ -123,12 +123,12 @@ enum-told-2 c =
 -- src/fold.rt:115:34
 same-length-3 : tie.Need-same-length-3 Inv-loop μ-loop
 same-length-3 c =
-    (c .before .before .before .before .step .ensures .within .long) ∙ (c .before .before .before .before .before .before .before .before .before .before .before .before .before .before .before .before .before .before .before .loop .inv .1 .0)
+    (c .before .before .before .before .step-list .ensures .within .long) ∙ (c .before .before .before .before .before .before .before .before .before .before .before .before .before .before .before .before .before .before .before .loop .inv .1 .0)
 
 -- src/fold.rt:115:34
 returns-3 : tie.Need-returns-3 Inv-loop μ-loop
 returns-3 c =
-    (c .before .before .before .before .before .before .before .before .before .before .before .before .before .before .before .before .before .before .before .loop .inv .1 .1 .0) _ _ (folds-full (rulesOf Question.List _) _ _ (c .before .before .before .before .before .before .before .before .before .before .before .before .before .before .before .before .before .before .loop-test .taken) _ (c .before .before .before .before .before .before .before .before .before .before .before .before .before .before .before .head-at .ensures .0) (c .before .before .before .before .before .before .before .before .before .before .before .before .before .if2 .taken) (rw (c .enum-told2 .given .1) at (c .before .before .before .before .step .ensures)))
+    (c .before .before .before .before .before .before .before .before .before .before .before .before .before .before .before .before .before .before .before .loop .inv .1 .1 .0) _ _ (folds-full (rulesOf Question.List _) _ _ (c .before .before .before .before .before .before .before .before .before .before .before .before .before .before .before .before .before .before .loop-test .taken) _ (c .before .before .before .before .before .before .before .before .before .before .before .before .before .before .before .head-at .ensures .0) (c .before .before .before .before .before .before .before .before .before .before .before .before .before .if2 .taken) (rw (c .enum-told2 .given .1) at (c .before .before .before .before .step-list .ensures)))
 
 -- src/fold.rt:103:5
 loop-less : tie.Need-loop-less Inv-loop μ-loop
@@ -138,7 +138,7 @@ loop-less c =
 -- src/fold.rt:103:5
 loop-again : tie.Need-loop-again Inv-loop μ-loop
 loop-again c =
-    let m = rw (c .before .e .given .1) at (c .before .before .before .before .before .step .ensures) in (
+    let m = rw (c .before .e .given .1) at (c .before .before .before .before .before .step-list .ensures) in (
       (room-within (m .within) (c .before .before .before .before .before .before .before .before .before .before .before .before .before .before .before .before .before .before .before .before .loop .inv .0 .0), (m .inside, (c .before .before .before .before .before .before .before .before .before .before .before .before .before .before .before .before .before .before .before .before .loop .inv .0 .1 .1))),
       (
         m .within .long ∙ (c .before .before .before .before .before .before .before .before .before .before .before .before .before .before .before .before .before .before .before .before .loop .inv .1 .0),
@@ -161,7 +161,7 @@ loop-again-2 c = (
   (
     (c .before .before .before .before .before .before .before .before .before .before .before .before .before .loop .inv .1 .0),
     (
-      (λ v o g. (c .before .before .before .before .before .before .before .before .before .before .before .before .before .loop .inv .1 .1 .0) v o (folds-kept (rulesOf Question.List _) _ _ (c .before .before .before .before .before .before .before .before .before .before .before .before .loop-test .taken) _ (c .before .before .before .before .before .before .before .before .before .head-at .ensures .0) o (c .before .before .before .before .before .before .before .if2 .taken) (keeps-candidate (c .before .before .before .before .before .before .before .before .before .before .before .before .before .before .before .before .args .space) (c .before .before .before .before .before .before .before .before .before .before .before .before .before .loop .work) (c .before .before .before .before .before .before .before .before .before .before .before .before .before .loop .inv .0 .0) (c .before .before .before .before .before .before .before .before .before .before .before .before .before .loop .inv .0 .1 .0) (core-second (c .before .before .before .before .before .before .before .before .before .before .before .before .before .before .before .before .args .space) (c .before .before .before .before .before .before .before .before .before .before .before .before .before .loop .work) (c .before .before .before .before .core-of .ensures) (c .before .before .before .before .before .before .before .before .before .before .before .before .before .loop .inv .1 .1 .1)) ((c .before .keeps .ensures) (unnot _ (c .if3 .left)))) g)),
+      (λ v o g. (c .before .before .before .before .before .before .before .before .before .before .before .before .before .loop .inv .1 .1 .0) v o (folds-kept (rulesOf Question.List _) _ _ (c .before .before .before .before .before .before .before .before .before .before .before .before .loop-test .taken) _ (c .before .before .before .before .before .before .before .before .before .head-at .ensures .0) o (c .before .before .before .before .before .before .before .if2 .taken) (on-candidate (c .before .before .before .before .before .before .before .before .before .before .before .before .before .before .before .before .args .space) (c .before .before .before .before .before .before .before .before .before .before .before .before .before .loop .work) (c .before .before .before .before .before .before .before .before .before .before .before .before .before .loop .inv .0 .0) (c .before .before .before .before .before .before .before .before .before .before .before .before .before .loop .inv .0 .1 .0) (core-second (c .before .before .before .before .before .before .before .before .before .before .before .before .before .before .before .before .args .space) (c .before .before .before .before .before .before .before .before .before .before .before .before .before .loop .work) (c .before .before .before .before .core-of .ensures) (c .before .before .before .before .before .before .before .before .before .before .before .before .before .loop .inv .1 .1 .1)) ((c .before .keeps .ensures) (unnot _ (c .if3 .left)))) g)),
       (λ n. core-second (c .before .before .before .before .before .before .before .before .before .before .before .before .before .before .before .before .args .space) (c .before .before .before .before .before .before .before .before .before .before .before .before .before .loop .work) (c .before .before .before .before .core-of .ensures) (c .before .before .before .before .before .before .before .before .before .before .before .before .before .loop .inv .1 .1 .1)),
     ),
   ),
@@ -210,7 +210,7 @@ fold-from-spec =
     part-keeps-start
     part-keeps-end
     keeps-requires
-    step-requires
+    step-list-requires
     enum-known-e
     enum-told
     same-length-2
