@@ -30,37 +30,23 @@ pub(crate) fn step_core(
     ensures { λ o. ⌜ Steps (coercion (rulesOf Question.List mask)) space (Candidate space (now (work .entry)) d) (now (sheet .entry)) (now (work .entry)) (now (work .exit)) link o ⌝ }
 {
     let half = space.half;
-    let at = d.at;
-    let label = d.label;
-    if at < 2 {
+    if d.at < 2 {
         return Out::No;
     }
-    let core = at - 1;
-    let h = head_at(&work[half..], core);
+    let at = d.at - 1;
+    let h = head_at(&work[half..], at);
     let own = label_bytes(h);
-    if label < own {
+    if d.label < own {
         return Out::No;
     }
-    let nlen = h.nlen;
-    let nullable = is_nullable(h);
-    shift(work, space, d);
     let g = Goal {
-        at: core,
-        label: label - own,
-        nlen,
-        nullable,
+        at,
+        label: d.label - own,
+        nlen: h.nlen,
+        nullable: is_nullable(h),
     };
-    let records = 2 * space.n;
-    coerce(
-        sheet,
-        work,
-        space,
-        Question::List,
-        mask,
-        records,
-        true,
-        core,
-        link,
-        g,
-    )
+    shift(work, space, d);
+    let question = Question::List;
+    let left = 2 * space.n;
+    coerce(sheet, work, space, question, mask, left, true, at, link, g)
 }
