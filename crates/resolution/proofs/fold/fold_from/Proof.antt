@@ -1,7 +1,7 @@
 use native.Mathlib.Omega.{arith}
 use mathlib.Core.Path.{_≡_, refl, _∙_}
 use mathlib.Core.List.{List}
-use Prim.Native.Nat.{ℕ, _-_, _<_}
+use Prim.Native.Nat.{_-_, _<_}
 use borrow.Author.Needs.{needs}
 use lib.ListN.{length}
 use Rattle.coercion.specs.Answers.{foldFrom}
