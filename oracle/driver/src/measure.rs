@@ -1,6 +1,6 @@
 //! Times of one call, taken in turns.
 
-use crate::call::{common_type, Answer, Call};
+use crate::call::{common_type, Answer, Call, Question};
 use crate::standin::arrow::datatypes::DataType;
 use crate::{ours, rust, sheet};
 use std::hint::black_box;
@@ -36,8 +36,6 @@ pub const SIDES: [Side; 3] = [Side::Ours, Side::Rust, Side::Source];
 /// A call with warm buffers, its decoded types where no refusal applies, and the samples.
 pub struct Timed {
     pub call: Call,
-    /// Chosen once: a program that asks knows its question.
-    ask: ours::Ask,
     types: Option<Vec<DataType>>,
     sides: Vec<Side>,
     output: Vec<u8>,
@@ -67,7 +65,6 @@ impl Timed {
     fn cold(call: &Call, sides: &[Side]) -> Timed {
         Timed {
             call: call.clone(),
-            ask: ours::call_for(call.question),
             types: None,
             sides: sides.to_vec(),
             output: vec![0; call.output as usize],
@@ -91,7 +88,7 @@ impl Timed {
         let Call { question, mask, ref sheet, .. } = self.call;
         let sheet = black_box(&sheet[..]);
         match side {
-            Side::Ours => ours::run(self.ask, sheet, mask, &mut self.output, &mut self.work),
+            Side::Ours => ours::ask(question, sheet, mask, &mut self.output, &mut self.work),
             Side::Rust => rust::ask(question, sheet, mask, &mut self.output, self.work.len()),
             Side::Source => {
                 let types = black_box(self.types.as_ref().expect("an accepted call"));
@@ -100,9 +97,26 @@ impl Timed {
         }
     }
 
+    /// A loop for each, in which a function is called by its name, as a program that asks calls it.
     pub fn repeat(&mut self, side: Side, times: usize) {
+        let question = self.call.question;
+        match (side, question) {
+            (Side::Ours, Question::List) => self.again(times, ours::type_union_resolution),
+            (Side::Ours, Question::Union) => self.again(times, ours::type_union_coercion),
+            (Side::Ours, Question::Compare) => self.again(times, ours::comparison_coercion),
+            (Side::Rust, _) => self.again(times, |sheet, mask, output, work| {
+                rust::ask(question, sheet, mask, output, work.len())
+            }),
+            (Side::Source, _) => (0..times).for_each(|_| {
+                black_box(self.once(side));
+            }),
+        }
+    }
+
+    fn again(&mut self, times: usize, ask: impl Fn(&[u8], u64, &mut [u8], &mut [u8]) -> usize) {
         for _ in 0..times {
-            black_box(self.once(side));
+            let sheet = black_box(&self.call.sheet[..]);
+            black_box(ask(sheet, self.call.mask, &mut self.output, &mut self.work));
         }
     }
 
