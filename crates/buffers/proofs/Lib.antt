@@ -5,6 +5,7 @@ pub mod Puts
 pub mod Frames
 pub mod Copying
 pub mod Chained
+pub mod Partnering
 pub mod Laying
 pub mod Tying
 pub mod Fielding

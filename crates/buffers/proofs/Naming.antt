@@ -30,6 +30,7 @@ use Rattle.buffers.specs.Naming.{Picks, Finds, Tried, Guess, Guides}
 use Rattle.buffers.specs.declared.Space.{Space}
 use Rattle.buffers.proofs.Sources.{source-none, source-lower, link-inside, read-name}
 use Rattle.buffers.proofs.Chained.{held-next}
+use Rattle.buffers.proofs.Partnering.{zeros}
 
 -- a name has at most 255 bytes
 pub label-short : (s : List ℕ) (n : ℕ) {h : Head} {u : List ℕ} → Bounded h → u ≡ labelAt s n (h .name) (h .nlen) → length u ≤ 255
@@ -303,11 +304,6 @@ module _ (n : ℕ) (t want : List ℕ) (r j : ℕ) (h : Head) where
 -- no record, and the lists of an index that has none
 pub guess-none : (space : Space) (s : List ℕ) (t : Fields) → Guess space s 0 t
 guess-none space s t p = absurd (omega arith)
-
-zeros : (m k : ℕ) → _≡_ {A = ℕ} (getD (replicate m 0) k 0) 0
-zeros zero k = refl
-zeros (suc m) zero = refl
-zeros (suc m) (suc k) = zeros m k
 
 pub guides-none : (space : Space) (s : List ℕ) (t : Fields) (m : ℕ) → Guides space s t (replicate m 0)
 guides-none space s t m k = subst (λ (j : ℕ). Guess space s j t) (sym (zeros m k)) (guess-none space s t)

@@ -6,6 +6,7 @@ pub mod Region
 pub mod Goal
 pub mod Typed
 pub mod Feeds
+pub mod Partners
 pub mod Naming
 pub mod Plain
 pub mod Steps

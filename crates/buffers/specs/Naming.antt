@@ -1,27 +1,19 @@
 -- The search for a name in a chain, and the rows that it feeds.
 use mathlib.Core.Path.{_≡_}
 use Prim.Native.Nat.{ℕ, _/_, _<_}
-use mathlib.Core.Bool.{Bool, false, _||_}
+use mathlib.Core.Bool.{false, _||_}
 use mathlib.Core.List.{List}
 use lib.ListN.{getD}
-use Rattle.sheet.specs.Types.{Shape, Fields, field}
+use Rattle.sheet.specs.Types.{Fields}
 use Rattle.sheet.specs.Head.{nullableIn}
 use Rattle.sheet.specs.Names.{hasName, mixed}
 use Rattle.sheet.specs.declared.Head.{Head}
 use Rattle.buffers.specs.Region.{Held}
 use Rattle.buffers.specs.Typed.{Chain}
 use Rattle.buffers.specs.Feeds.{EndOf}
+use Rattle.buffers.specs.Partners.{Present}
 use Rattle.buffers.specs.declared.Space.{Space}
 use Rattle.buffers.specs.declared.Row.{Row}
-
--- the field at a link is one of a chain, and has a name
-pub record Present (space : Space) (s : List ℕ) (link : ℕ) (name : List ℕ) (t : Fields) : Type 0 where
-  pub nullable : Bool
-  pub shape : Shape
-  pub parts : Fields
-  pub rest : Fields
-  pub chain : Chain space s link (field name nullable shape parts rest)
-  pub ends : EndOf (field name nullable shape parts rest) t
 
 -- what a search for a name in a chain says: the link of a field of that name, or 0
 pub record Picks (space : Space) (s : List ℕ) (name : List ℕ) (t : Fields) (found : ℕ) : Type 0 where
