@@ -6,7 +6,7 @@ use mathlib.Core.Logic.{inl}
 use mathlib.Core.Option.{Option, none, some}
 use Prim.Native.Nat.{ℕ, _+_, _<_, _≤_}
 use native.Mathlib.Omega.{arith}
-use lib.ListN.{length, length-append}
+use lib.ListN.{length, replicate, length-append}
 use Rattle.sheet.specs.Types.{Shape, Fields, field, zoneBytes, labels}
 use Rattle.sheet.specs.Names.{namesDiffer}
 use Rattle.sheet.specs.Head.{headAt}
@@ -22,7 +22,7 @@ use Rattle.buffers.specs.Region.{Room, Kept}
 use Rattle.buffers.specs.Goal.{letters, Means, CopiedType}
 use Rattle.buffers.specs.Typed.{Chain, Typed, Merges}
 use Rattle.buffers.specs.Part.{sameButPart, sameFirst, LoneParts}
-use Rattle.merge.specs.Merge.{Differ, DifferInPart, MergesKnown}
+use Rattle.merge.specs.Merge.{Tabled, Differ, DifferInPart, MergesKnown}
 use Rattle.buffers.specs.declared.Space.{Space}
 use Rattle.buffers.specs.declared.Goal.{Goal}
 use Rattle.buffers.specs.declared.Out.{Out}
@@ -34,6 +34,7 @@ use Rattle.buffers.proofs.Laying.{no-record, named-kept}
 use Rattle.buffers.proofs.Fielding.{typed-reads}
 use Rattle.buffers.proofs.Stamping.{means-more}
 use Rattle.buffers.proofs.Parting.{part-differ}
+use Rattle.buffers.proofs.Partnering.{partners-zeros, partners-kept}
 use Rattle.wrappers.proofs.Values.{side-twice}
 
 -- what a source holds stays while the second half is written
@@ -46,6 +47,14 @@ pub typed-side : (swap : Bool) (space : Space) (s w v : List ℕ) (at label : �
     → Typed space (side swap s v) link t
 typed-side swap space s w v at label room k a =
     record { name = a .name; nullable = a .nullable; rest = a .rest; chain = chain-side swap space s w v at label room k (a .chain) }
+
+-- a table of partners that says nothing
+pub tabled-zeros : {space : Space} {s w : List ℕ} (m : ℕ) → Tabled space s w (replicate m 0)
+tabled-zeros {space} {s} {w} m = record { partners = partners-zeros space s w m }
+
+-- a table of partners stays true while the second half is written
+pub tabled-over : {space : Space} {u s w v : List ℕ} {at label : ℕ} {table : List ℕ} → Room u space → Kept space w v at label → Tabled space s w table → Tabled space s v table
+tabled-over {space} {u} {s} {w} {v} {at} {label} {table} room k p = record { partners = partners-kept space s w v at label table (room .half) k (p .partners) }
 
 -- the kind of a type
 pub typed-kind : {space : Space} {s : List ℕ} {link : ℕ} {t : DataType} (h : Head) → h ≡ headAt s link → Typed space s link t → h .kind ≡ t .shape .kind

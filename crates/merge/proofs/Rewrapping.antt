@@ -28,7 +28,7 @@ use Rattle.buffers.specs.Region.{Room, region, Kept, Grows, Wrote, CopiedHead}
 use Rattle.buffers.specs.Goal.{letters, Means, Writes, typeOf, shapeFor, Tied}
 use Rattle.merge.specs.Turns.{rewrap, rewrapped}
 use Rattle.buffers.specs.Typed.{Chain, Typed, Merges, ChainIs, CopiedField, isView, Viewed}
-use Rattle.merge.specs.Merge.{MergesField, fieldOf}
+use Rattle.merge.specs.Merge.{Tabled, MergesField, fieldOf}
 use Rattle.buffers.specs.declared.Space.{Space}
 use Rattle.buffers.specs.declared.Spot.{Spot}
 use Rattle.buffers.specs.declared.Goal.{Goal}
@@ -37,7 +37,7 @@ use Rattle.buffers.specs.declared.Out.the-variants.{Done, No, Full}
 use Rattle.buffers.proofs.Frames.{kept-trans, kept-wider, wrote-frame}
 use Rattle.buffers.proofs.Chained.{labels-sum}
 use Rattle.buffers.proofs.Tying.{tied-kept, chain-tied}
-use Rattle.merge.proofs.Merging.{chain-side, typed-side, typed-kind, means-for, means-after}
+use Rattle.merge.proofs.Merging.{chain-side, typed-side, tabled-over, typed-kind, means-for, means-after}
 use Rattle.buffers.proofs.Rows.{chain-next}
 use Rattle.wrappers.specs.Ways.{isWrapper}
 use Rattle.wrappers.proofs.Cores.{implies-no, absent-is, wrapper-is, two-parts}
@@ -137,6 +137,15 @@ wrapper-letters : (z : Two)
 wrapper-letters z =
     omega
     (arith, labels-sum (z .name₁) (z .null₁) (z .shape₁) (z .parts₁) (behind z), labels-sum (z .name₂) (z .null₂) (z .shape₂) (z .parts₂) (z .rest), length-append (z .name₁) (zoneBytes (z .shape₁ .zone)), length-append (z .name₂) (zoneBytes (z .shape₂ .zone)))
+
+-- a table of partners stays true where a wrapper stays or gives way
+pub viewed-tabled : {space : Space} {u s w v : List ℕ} {kind i : ℕ} {g : Goal} {e : Spot} {o : Out} {table : List ℕ} → Room u space → Viewed space w v kind i g e o → Tabled space s w table
+    → Tabled space s v table
+viewed-tabled {space} {u} {s} {w} {v} {kind} {i} {table = table} room vw p = go (isView space w kind i) refl
+  where
+    go : (c : Bool) → isView space w kind i ≡ c → Tabled space s v table
+    go true q = tabled-over room (vw .view q .writes .kept) p
+    go false q = subst (λ (x : List ℕ). Tabled space s x table) (sym (vw .stays q .1)) p
 
 module _ (rules : Rules) (space : Space) (left : ℕ) (swap : Bool) (s w : List ℕ) (k l r : ℕ) (g : Goal) (room : Room w space) (is : isWrapper k ≡ true)
     (h : Head) (eh : h ≡ headAt (side swap s w) l) (ek : headAt (side swap s w) l .kind ≡ k) (j : Head) (ej : j ≡ headAt (side swap s w) (h .first)) where

@@ -15,11 +15,16 @@ use Rattle.buffers.specs.Goal.{letters, Means, Writes}
 use Rattle.buffers.specs.Typed.{Chain, Typed, ChainIs}
 use Rattle.buffers.specs.Feeds.{Feeds}
 use Rattle.buffers.specs.Part.{sameButPart, sameFirst}
+use Rattle.buffers.specs.Partners.{Partners}
 use Rattle.buffers.specs.declared.Space.{Space}
 use Rattle.buffers.specs.declared.Spot.{Spot}
 use Rattle.buffers.specs.declared.Goal.{Goal}
 use Rattle.buffers.specs.declared.Out.{Out}
 use Rattle.buffers.specs.declared.Feed.{Feed}
+
+-- each entry of a table of partners is true
+pub record Tabled (space : Space) (s w table : List ℕ) : Type 0 where
+  pub partners : Partners space s w table
 
 -- two types are not the same, where that is known
 abbrev pub Differ : Bool → Bool → DataType → DataType → Type 0

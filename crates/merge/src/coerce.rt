@@ -1,7 +1,8 @@
 // The merge of two types. Each call hands down how many records may be left in both types, and that number falls.
 ghost use mathlib.Core.Path.{_≡_};
-ghost use mathlib.Core.Bool.{Bool, true, false, not};
-ghost use Prim.Native.Nat.{_+_, _≤_, _<_};
+ghost use mathlib.Core.Bool.{Bool, true, false, not, cond};
+ghost use Prim.Native.Nat.{_+_, _-_, _≤_, _<_};
+ghost use lib.Dec.{eqb, ltb};
 ghost use Rattle.coercion.specs.Answers.{coercion, listStruct};
 ghost use Rattle.coercion.specs.Wrappers.{wrapperCoercion};
 ghost use Rattle.coercion.specs.Nested.{structCoercion};
@@ -13,7 +14,7 @@ ghost use Rattle.buffers.specs.Plain.{asked, rulesOf, isListQuestion};
 ghost use Rattle.wrappers.specs.Ways.{isWrapper};
 ghost use Rattle.merge.specs.Turns.{resolved, unwrapped, eitherWrapped, nestedOf, bothWrapped, rewrapped, listRule, mapRule};
 ghost use Rattle.buffers.specs.Typed.{Merges};
-ghost use Rattle.merge.specs.Merge.{MergesKnown, SameKnown, DifferInPart, MergesField, Rowed, Under};
+ghost use Rattle.merge.specs.Merge.{Tabled, MergesKnown, SameKnown, DifferInPart, MergesField, Rowed, Under};
 use buffers::Feed;
 use buffers::Goal;
 use buffers::Out;
@@ -49,7 +50,27 @@ use kinds::tests::either;
 use kinds::tests::is_list;
 use wrappers::walk::way;
 
-// The common type of two types, or none.
+// Whether there are few records from a link on and before another.
+fn are_few(link: usize, end: usize) -> bool
+    ensures { λ b. ⌜ b ≡ ltb (end - link) 17 ⌝ }
+{
+    if end < link {
+        return true;
+    }
+    end - link < 17
+}
+
+// Whether the type at a link has few records. It ends where the chain goes on, or with the last record.
+fn is_small(n: usize, link: usize, next: usize) -> bool
+    ensures { λ b. ⌜ b ≡ ltb (cond (eqb next 0) n next - link) 17 ⌝ }
+{
+    if next == 0 {
+        return are_few(link, n);
+    }
+    are_few(link, next)
+}
+
+// The common type of two types, or none. The table of partners has no room where the left type is small.
 pub fn coerce(
     sheet: &[u8],
     work: &mut [u8],
@@ -65,9 +86,28 @@ pub fn coerce(
     requires { ⌜ Room (now work) space × Ready space g ⌝ }
     ensures { λ o. ⌜ Merges (coercion (rulesOf question mask)) space left swap (now (sheet .entry)) (now (work .entry)) (now (work .exit)) l r g o ⌝ }
 {
+    if is_small(space.n, l, look(sheet, &*work, swap, l).next) {
+        let mut table = [0u32; 0];
+        return common(
+            sheet,
+            work,
+            &mut table,
+            space,
+            question,
+            mask,
+            left,
+            swap,
+            false,
+            l,
+            r,
+            g,
+        );
+    }
+    let mut table = [0u32; 2048];
     common(
         sheet,
         work,
+        &mut table,
         space,
         question,
         mask,
@@ -84,6 +124,7 @@ pub fn coerce(
 fn common(
     sheet: &[u8],
     work: &mut [u8],
+    table: &mut [u32],
     space: Space,
     question: Question,
     mask: u64,
@@ -95,7 +136,9 @@ fn common(
     g: Goal,
 ) -> Out
     requires { ⌜ Room (now work) space × Ready space g ⌝ }
+    requires { ⌜ Tabled space (now sheet) (now work) (now table) ⌝ }
     ensures { λ o. ⌜ MergesKnown known (isListQuestion (asked question)) (coercion (rulesOf question mask)) space left swap (now (sheet .entry)) (now (work .entry)) (now (work .exit)) l r g o ⌝ }
+    ensures { λ o. ⌜ Tabled space (now (sheet .entry)) (now (work .exit)) (now (table .exit)) ⌝ }
 {
     if left == 0 {
         return Out::No;
@@ -113,6 +156,7 @@ fn common(
         return nested(
             sheet,
             work,
+            table,
             space,
             question,
             mask,
@@ -125,9 +169,33 @@ fn common(
         );
     }
     if list {
-        return resolve(sheet, work, space, question, mask, left - 1, swap, l, r, g);
+        return resolve(
+            sheet,
+            work,
+            table,
+            space,
+            question,
+            mask,
+            left - 1,
+            swap,
+            l,
+            r,
+            g,
+        );
     }
-    unwrap(sheet, work, space, question, mask, left - 1, swap, l, r, g)
+    unwrap(
+        sheet,
+        work,
+        table,
+        space,
+        question,
+        mask,
+        left - 1,
+        swap,
+        l,
+        r,
+        g,
+    )
 }
 
 // Whether two types are the same; they are not compared where they are known to differ.
@@ -174,6 +242,7 @@ fn differ_in_part(
 fn resolve(
     sheet: &[u8],
     work: &mut [u8],
+    table: &mut [u32],
     space: Space,
     question: Question,
     mask: u64,
@@ -185,19 +254,48 @@ fn resolve(
 ) -> Out
     requires { ⌜ Room (now work) space × Ready space g ⌝ }
     requires { ⌜ isListQuestion (asked question) ≡ true ⌝ }
+    requires { ⌜ Tabled space (now sheet) (now work) (now table) ⌝ }
     ensures { λ o. ⌜ Merges (resolved (rulesOf question mask) (coercion (rulesOf question mask))) space (left + 1) swap (now (sheet .entry)) (now (work .entry)) (now (work .exit)) l r g o ⌝ }
+    ensures { λ o. ⌜ Tabled space (now (sheet .entry)) (now (work .exit)) (now (table .exit)) ⌝ }
 {
     let k = kind_at(sheet, &*work, swap, l);
     let j = kind_at(sheet, &*work, !swap, r);
     if either(k == 37, j == 37) {
-        return resolve_wrapper(sheet, work, space, question, mask, left, swap, 37, l, r, g);
+        return resolve_wrapper(
+            sheet,
+            work,
+            table,
+            space,
+            question,
+            mask,
+            left,
+            swap,
+            37,
+            l,
+            r,
+            g,
+        );
     }
     if either(k == 38, j == 38) {
-        return resolve_wrapper(sheet, work, space, question, mask, left, swap, 38, l, r, g);
+        return resolve_wrapper(
+            sheet,
+            work,
+            table,
+            space,
+            question,
+            mask,
+            left,
+            swap,
+            38,
+            l,
+            r,
+            g,
+        );
     }
     nested(
         sheet,
         work,
+        table,
         space,
         question,
         mask,
@@ -214,6 +312,7 @@ fn resolve(
 fn resolve_wrapper(
     sheet: &[u8],
     work: &mut [u8],
+    table: &mut [u32],
     space: Space,
     question: Question,
     mask: u64,
@@ -226,17 +325,32 @@ fn resolve_wrapper(
 ) -> Out
     requires { ⌜ Room (now work) space × Ready space g ⌝ }
     requires { ⌜ (isWrapper kind ≡ true) × (isListQuestion (asked question) ≡ true) ⌝ }
+    requires { ⌜ Tabled space (now sheet) (now work) (now table) ⌝ }
     ensures { λ o. ⌜ Merges (eitherWrapped kind (coercion (rulesOf question mask))) space (left + 1) swap (now (sheet .entry)) (now (work .entry)) (now (work .exit)) l r g o ⌝ }
+    ensures { λ o. ⌜ Tabled space (now (sheet .entry)) (now (work .exit)) (now (table .exit)) ⌝ }
 {
     let k = kind_at(sheet, &*work, swap, l);
     let j = kind_at(sheet, &*work, !swap, r);
     if k == kind {
         if j == kind {
-            return both_parts(sheet, work, space, question, mask, left, swap, l, r, g);
+            return both_parts(
+                sheet,
+                work,
+                table,
+                space,
+                question,
+                mask,
+                left,
+                swap,
+                l,
+                r,
+                g,
+            );
         }
         return rewrapped(
             sheet,
             work,
+            table,
             space,
             question,
             mask,
@@ -252,6 +366,7 @@ fn resolve_wrapper(
         return rewrapped(
             sheet,
             work,
+            table,
             space,
             question,
             mask,
@@ -270,6 +385,7 @@ fn resolve_wrapper(
 fn both_parts(
     sheet: &[u8],
     work: &mut [u8],
+    table: &mut [u32],
     space: Space,
     question: Question,
     mask: u64,
@@ -280,7 +396,9 @@ fn both_parts(
     g: Goal,
 ) -> Out
     requires { ⌜ Room (now work) space × Ready space g ⌝ }
+    requires { ⌜ Tabled space (now sheet) (now work) (now table) ⌝ }
     ensures { λ o. ⌜ Merges (bothWrapped (coercion (rulesOf question mask))) space (left + 1) swap (now (sheet .entry)) (now (work .entry)) (now (work .exit)) l r g o ⌝ }
+    ensures { λ o. ⌜ Tabled space (now (sheet .entry)) (now (work .exit)) (now (table .exit)) ⌝ }
 {
     if space.n <= g.at {
         return Out::Full;
@@ -293,6 +411,7 @@ fn both_parts(
         Out::Done(d) => rows(
             sheet,
             work,
+            table,
             space,
             question,
             mask,
@@ -314,6 +433,7 @@ fn both_parts(
 fn rewrapped(
     sheet: &[u8],
     work: &mut [u8],
+    table: &mut [u32],
     space: Space,
     question: Question,
     mask: u64,
@@ -326,7 +446,9 @@ fn rewrapped(
 ) -> Out
     requires { ⌜ Room (now work) space × Ready space g ⌝ }
     requires { ⌜ (isWrapper kind ≡ true) × ((headAt (side swap (now sheet) (now work)) l .kind ≡ kind) × (isListQuestion (asked question) ≡ true)) ⌝ }
+    requires { ⌜ Tabled space (now sheet) (now work) (now table) ⌝ }
     ensures { λ o. ⌜ Merges (rewrapped kind (coercion (rulesOf question mask))) space (left + 1) swap (now (sheet .entry)) (now (work .entry)) (now (work .exit)) l r g o ⌝ }
+    ensures { λ o. ⌜ Tabled space (now (sheet .entry)) (now (work .exit)) (now (table .exit)) ⌝ }
 {
     if space.n <= g.at {
         return Out::Full;
@@ -339,6 +461,7 @@ fn rewrapped(
             Out::Done(b) => match coerce_field(
                 sheet,
                 work,
+                table,
                 space,
                 question,
                 mask,
@@ -368,6 +491,7 @@ fn rewrapped(
 fn coerce_field(
     sheet: &[u8],
     work: &mut [u8],
+    table: &mut [u32],
     space: Space,
     question: Question,
     mask: u64,
@@ -379,7 +503,9 @@ fn coerce_field(
 ) -> Out
     requires { ⌜ Room (now work) space × Inside space to ⌝ }
     requires { ⌜ isListQuestion (asked question) ≡ true ⌝ }
+    requires { ⌜ Tabled space (now sheet) (now work) (now table) ⌝ }
     ensures { λ o. ⌜ MergesField false (isListQuestion (asked question)) (coercion (rulesOf question mask)) space left swap (now (sheet .entry)) (now (work .entry)) (now (work .exit)) l r to o ⌝ }
+    ensures { λ o. ⌜ Tabled space (now (sheet .entry)) (now (work .exit)) (now (table .exit)) ⌝ }
 {
     let x = look(sheet, &*work, swap, l);
     let nlen = x.nlen;
@@ -391,7 +517,19 @@ fn coerce_field(
             nlen,
             nullable,
         };
-        return coerce_value(sheet, work, space, question, mask, left, swap, l, r, g);
+        return coerce_value(
+            sheet,
+            work,
+            table,
+            space,
+            question,
+            mask,
+            left,
+            swap,
+            l,
+            r,
+            g,
+        );
     }
     Out::Full
 }
@@ -401,6 +539,7 @@ fn coerce_field(
 fn coerce_value(
     sheet: &[u8],
     work: &mut [u8],
+    table: &mut [u32],
     space: Space,
     question: Question,
     mask: u64,
@@ -412,7 +551,9 @@ fn coerce_value(
 ) -> Out
     requires { ⌜ Room (now work) space × Ready space g ⌝ }
     requires { ⌜ isListQuestion (asked question) ≡ true ⌝ }
+    requires { ⌜ Tabled space (now sheet) (now work) (now table) ⌝ }
     ensures { λ o. ⌜ Merges (coercion (rulesOf question mask)) space left swap (now (sheet .entry)) (now (work .entry)) (now (work .exit)) l r g o ⌝ }
+    ensures { λ o. ⌜ Tabled space (now (sheet .entry)) (now (work .exit)) (now (table .exit)) ⌝ }
 {
     if left == 0 {
         return Out::No;
@@ -423,6 +564,7 @@ fn coerce_value(
         return rewrapped(
             sheet,
             work,
+            table,
             space,
             question,
             mask,
@@ -435,18 +577,45 @@ fn coerce_value(
         );
     }
     if k == j {
-        return coerce(sheet, work, space, question, mask, left, swap, l, r, g);
+        return common(
+            sheet,
+            work,
+            table,
+            space,
+            question,
+            mask,
+            left,
+            swap,
+            false,
+            l,
+            r,
+            g,
+        );
     }
     if both(k < 32, j < 32) {
         return plain_rule(sheet, work, space, question, mask, swap, l, r, g);
     }
-    coerce(sheet, work, space, question, mask, left, swap, l, r, g)
+    common(
+        sheet,
+        work,
+        table,
+        space,
+        question,
+        mask,
+        left,
+        swap,
+        false,
+        l,
+        r,
+        g,
+    )
 }
 
 // The rules of union and compare, after the test for alikeness. Of the two rules for wrappers one is asked, as the other has no answer that it lacks.
 fn unwrap(
     sheet: &[u8],
     work: &mut [u8],
+    table: &mut [u32],
     space: Space,
     question: Question,
     mask: u64,
@@ -458,12 +627,15 @@ fn unwrap(
 ) -> Out
     requires { ⌜ Room (now work) space × Ready space g ⌝ }
     requires { ⌜ isListQuestion (asked question) ≡ false ⌝ }
+    requires { ⌜ Tabled space (now sheet) (now work) (now table) ⌝ }
     ensures { λ o. ⌜ Merges (unwrapped (rulesOf question mask) (coercion (rulesOf question mask))) space (left + 1) swap (now (sheet .entry)) (now (work .entry)) (now (work .exit)) l r g o ⌝ }
+    ensures { λ o. ⌜ Tabled space (now (sheet .entry)) (now (work .exit)) (now (table .exit)) ⌝ }
 {
     let kind = way(sheet, &*work, swap, mask, left, l, r);
     match wrapper(
         sheet,
         work,
+        table,
         space,
         question,
         mask,
@@ -478,6 +650,7 @@ fn unwrap(
         Out::No => nested(
             sheet,
             work,
+            table,
             space,
             question,
             mask,
@@ -496,6 +669,7 @@ fn unwrap(
 fn wrapper(
     sheet: &[u8],
     work: &mut [u8],
+    table: &mut [u32],
     space: Space,
     question: Question,
     mask: u64,
@@ -508,7 +682,9 @@ fn wrapper(
 ) -> Out
     requires { ⌜ Room (now work) space × Ready space g ⌝ }
     requires { ⌜ isWrapper kind ≡ true ⌝ }
+    requires { ⌜ Tabled space (now sheet) (now work) (now table) ⌝ }
     ensures { λ o. ⌜ Merges (wrapperCoercion kind (coercion (rulesOf question mask))) space (left + 1) swap (now (sheet .entry)) (now (work .entry)) (now (work .exit)) l r g o ⌝ }
+    ensures { λ o. ⌜ Tabled space (now (sheet .entry)) (now (work .exit)) (now (table .exit)) ⌝ }
 {
     let k = kind_at(sheet, &*work, swap, l);
     let j = kind_at(sheet, &*work, !swap, r);
@@ -516,18 +692,57 @@ fn wrapper(
     let b = value_at(sheet, &*work, !swap, r);
     if k == kind {
         if j == kind {
-            return coerce(sheet, work, space, question, mask, left, swap, a, b, g);
+            return common(
+                sheet,
+                work,
+                table,
+                space,
+                question,
+                mask,
+                left,
+                swap,
+                false,
+                a,
+                b,
+                g,
+            );
         }
         if same_sides(sheet, &*work, space.n, swap, a, r, true) {
             return copy_type(sheet, work, space, swap, l, g);
         }
-        return coerce(sheet, work, space, question, mask, left, swap, a, r, g);
+        return common(
+            sheet,
+            work,
+            table,
+            space,
+            question,
+            mask,
+            left,
+            swap,
+            false,
+            a,
+            r,
+            g,
+        );
     }
     if j == kind {
         if same_sides(sheet, &*work, space.n, !swap, b, l, true) {
             return copy_type(sheet, work, space, !swap, r, g);
         }
-        return coerce(sheet, work, space, question, mask, left, swap, l, b, g);
+        return common(
+            sheet,
+            work,
+            table,
+            space,
+            question,
+            mask,
+            left,
+            swap,
+            false,
+            l,
+            b,
+            g,
+        );
     }
     Out::No
 }
@@ -536,6 +751,7 @@ fn wrapper(
 fn nested(
     sheet: &[u8],
     work: &mut [u8],
+    table: &mut [u32],
     space: Space,
     question: Question,
     mask: u64,
@@ -547,7 +763,9 @@ fn nested(
     g: Goal,
 ) -> Out
     requires { ⌜ Room (now work) space × Ready space g ⌝ }
+    requires { ⌜ Tabled space (now sheet) (now work) (now table) ⌝ }
     ensures { λ o. ⌜ MergesKnown known (isListQuestion (asked question)) (nestedOf (rulesOf question mask) (coercion (rulesOf question mask))) space (left + 1) swap (now (sheet .entry)) (now (work .entry)) (now (work .exit)) l r g o ⌝ }
+    ensures { λ o. ⌜ Tabled space (now (sheet .entry)) (now (work .exit)) (now (table .exit)) ⌝ }
 {
     let k = kind_at(sheet, &*work, swap, l);
     let j = kind_at(sheet, &*work, !swap, r);
@@ -555,6 +773,7 @@ fn nested(
         return list_rule(
             sheet,
             work,
+            table,
             space,
             question,
             mask,
@@ -571,6 +790,7 @@ fn nested(
             return list_struct(
                 sheet,
                 work,
+                table,
                 space,
                 question,
                 mask,
@@ -585,6 +805,7 @@ fn nested(
         return struct_rule(
             sheet,
             work,
+            table,
             space,
             question,
             mask,
@@ -600,6 +821,7 @@ fn nested(
         return map_rule(
             sheet,
             work,
+            table,
             space,
             question,
             mask,
@@ -618,6 +840,7 @@ fn nested(
 fn under(
     sheet: &[u8],
     work: &mut [u8],
+    table: &mut [u32],
     space: Space,
     question: Question,
     mask: u64,
@@ -633,7 +856,9 @@ fn under(
     g: Goal,
 ) -> Out
     requires { ⌜ (Room (now work) space × Ready space g) × (size < 4294967296) ⌝ }
+    requires { ⌜ Tabled space (now sheet) (now work) (now table) ⌝ }
     ensures { λ o. ⌜ Under known (isListQuestion (asked question)) (coercion (rulesOf question mask)) space left swap (now (sheet .entry)) (now (work .entry)) (now (work .exit)) feed (shapeFor kind 0 0 size false) l r p g o ⌝ }
+    ensures { λ o. ⌜ Tabled space (now (sheet .entry)) (now (work .exit)) (now (table .exit)) ⌝ }
 {
     let at = g.at;
     let label = g.label + g.nlen;
@@ -644,6 +869,7 @@ fn under(
     rows(
         sheet,
         work,
+        table,
         space,
         question,
         mask,
@@ -662,6 +888,7 @@ fn under(
 fn list_rule(
     sheet: &[u8],
     work: &mut [u8],
+    table: &mut [u32],
     space: Space,
     question: Question,
     mask: u64,
@@ -673,7 +900,9 @@ fn list_rule(
     g: Goal,
 ) -> Out
     requires { ⌜ Room (now work) space × Ready space g ⌝ }
+    requires { ⌜ Tabled space (now sheet) (now work) (now table) ⌝ }
     ensures { λ o. ⌜ MergesKnown known (isListQuestion (asked question)) (listRule (coercion (rulesOf question mask))) space (left + 1) swap (now (sheet .entry)) (now (work .entry)) (now (work .exit)) l r g o ⌝ }
+    ensures { λ o. ⌜ Tabled space (now (sheet .entry)) (now (work .exit)) (now (table .exit)) ⌝ }
 {
     let x = look(sheet, &*work, swap, l);
     let y = look(sheet, &*work, !swap, r);
@@ -685,6 +914,7 @@ fn list_rule(
     under(
         sheet,
         work,
+        table,
         space,
         question,
         mask,
@@ -705,6 +935,7 @@ fn list_rule(
 fn struct_rule(
     sheet: &[u8],
     work: &mut [u8],
+    table: &mut [u32],
     space: Space,
     question: Question,
     mask: u64,
@@ -716,7 +947,9 @@ fn struct_rule(
     g: Goal,
 ) -> Out
     requires { ⌜ Room (now work) space × Ready space g ⌝ }
+    requires { ⌜ Tabled space (now sheet) (now work) (now table) ⌝ }
     ensures { λ o. ⌜ MergesKnown known (isListQuestion (asked question)) (structCoercion (coercion (rulesOf question mask))) space (left + 1) swap (now (sheet .entry)) (now (work .entry)) (now (work .exit)) l r g o ⌝ }
+    ensures { λ o. ⌜ Tabled space (now (sheet .entry)) (now (work .exit)) (now (table .exit)) ⌝ }
 {
     let x = look(sheet, &*work, swap, l);
     let y = look(sheet, &*work, !swap, r);
@@ -731,6 +964,7 @@ fn struct_rule(
             return under(
                 sheet,
                 work,
+                table,
                 space,
                 question,
                 mask,
@@ -749,6 +983,7 @@ fn struct_rule(
         return under(
             sheet,
             work,
+            table,
             space,
             question,
             mask,
@@ -771,6 +1006,7 @@ fn struct_rule(
 fn list_struct(
     sheet: &[u8],
     work: &mut [u8],
+    table: &mut [u32],
     space: Space,
     question: Question,
     mask: u64,
@@ -783,7 +1019,9 @@ fn list_struct(
 ) -> Out
     requires { ⌜ Room (now work) space × Ready space g ⌝ }
     requires { ⌜ (headAt (side swap (now sheet) (now work)) l .kind ≡ 35) × (headAt (side (not swap) (now sheet) (now work)) r .kind ≡ 35) ⌝ }
+    requires { ⌜ Tabled space (now sheet) (now work) (now table) ⌝ }
     ensures { λ o. ⌜ MergesKnown known (isListQuestion (asked question)) (listStruct (coercion (rulesOf question mask))) space (left + 1) swap (now (sheet .entry)) (now (work .entry)) (now (work .exit)) l r g o ⌝ }
+    ensures { λ o. ⌜ Tabled space (now (sheet .entry)) (now (work .exit)) (now (table .exit)) ⌝ }
 {
     let a = look(sheet, &*work, swap, l).first;
     let b = look(sheet, &*work, !swap, r).first;
@@ -795,6 +1033,7 @@ fn list_struct(
         return under(
             sheet,
             work,
+            table,
             space,
             question,
             mask,
@@ -817,6 +1056,7 @@ fn list_struct(
 fn map_rule(
     sheet: &[u8],
     work: &mut [u8],
+    table: &mut [u32],
     space: Space,
     question: Question,
     mask: u64,
@@ -828,7 +1068,9 @@ fn map_rule(
     g: Goal,
 ) -> Out
     requires { ⌜ Room (now work) space × Ready space g ⌝ }
+    requires { ⌜ Tabled space (now sheet) (now work) (now table) ⌝ }
     ensures { λ o. ⌜ MergesKnown known (isListQuestion (asked question)) (mapRule (coercion (rulesOf question mask))) space (left + 1) swap (now (sheet .entry)) (now (work .entry)) (now (work .exit)) l r g o ⌝ }
+    ensures { λ o. ⌜ Tabled space (now (sheet .entry)) (now (work .exit)) (now (table .exit)) ⌝ }
 {
     let at = g.at;
     let label = g.label + g.nlen;
@@ -851,6 +1093,7 @@ fn map_rule(
     entry(
         sheet,
         work,
+        table,
         space,
         question,
         mask,
@@ -867,6 +1110,7 @@ fn map_rule(
 fn entry(
     sheet: &[u8],
     work: &mut [u8],
+    table: &mut [u32],
     space: Space,
     question: Question,
     mask: u64,
@@ -878,7 +1122,9 @@ fn entry(
     to: Spot,
 ) -> Out
     requires { ⌜ Room (now work) space × Inside space to ⌝ }
+    requires { ⌜ Tabled space (now sheet) (now work) (now table) ⌝ }
     ensures { λ o. ⌜ MergesField known (isListQuestion (asked question)) (structCoercion (coercion (rulesOf question mask))) space (left + 1) swap (now (sheet .entry)) (now (work .entry)) (now (work .exit)) l r to o ⌝ }
+    ensures { λ o. ⌜ Tabled space (now (sheet .entry)) (now (work .exit)) (now (table .exit)) ⌝ }
 {
     let x = look(sheet, &*work, swap, l);
     let nlen = x.nlen;
@@ -893,6 +1139,7 @@ fn entry(
         return struct_rule(
             sheet,
             work,
+            table,
             space,
             question,
             mask,
@@ -911,6 +1158,7 @@ fn entry(
 fn rows(
     sheet: &[u8],
     work: &mut [u8],
+    table: &mut [u32],
     space: Space,
     question: Question,
     mask: u64,
@@ -924,7 +1172,9 @@ fn rows(
     to: Spot,
 ) -> Out
     requires { ⌜ Room (now work) space × Inside space to ⌝ }
+    requires { ⌜ Tabled space (now sheet) (now work) (now table) ⌝ }
     ensures { λ o. ⌜ Rowed known (isListQuestion (asked question)) (coercion (rulesOf question mask)) space left swap (now (sheet .entry)) (now (work .entry)) (now (work .exit)) feed l r p to o ⌝ }
+    ensures { λ o. ⌜ Tabled space (now (sheet .entry)) (now (work .exit)) (now (table .exit)) ⌝ }
 {
     if l == 0 {
         return row_end(p, to);
@@ -954,6 +1204,7 @@ fn rows(
     match common(
         sheet,
         work,
+        table,
         space,
         question,
         mask,
@@ -967,6 +1218,7 @@ fn rows(
         Out::Done(d) => match rows(
             sheet,
             work,
+            table,
             space,
             question,
             mask,

@@ -1,0 +1,2386 @@
+use native.Mathlib.Omega.{arith}
+use borrow.Author.Needs.{needs}
+use Prim.Native.Nat.{_+_, _*_, _-_}
+use mathlib.Core.Path.{refl, sym, _∙_}
+use borrow.Author.Tests.{not-true, not-false, ltb-true}
+use Rattle.sheet.proofs.Tests.{and-fst, and-snd}
+use Rattle.buffers.proofs.Chained.{room-kept}
+use Rattle.buffers.proofs.Fielding.{field-ready}
+use Rattle.merge.proofs.Joining.{rows-end, rows-spent, rows-unfed, rows-crowded, rows-none, rows-full, rows-rest-none, rows-rest-full, rows-done}
+use Rattle.merge.proofs.Asking.{coerce-spent, coerce-same, coerce-plain, coerce-bare, coerce-list, coerce-pair, coerce-unlike, coerce-wrapper}
+use Rattle.merge.proofs.Merging.{any-known, none-known, merges-full, tabled-over}
+use Rattle.buffers.proofs.Tying.{tied-kept}
+use Rattle.merge.proofs.Rewrapping.{index-none, index-full, value-none, value-full, wrapper-on, viewed-tabled}
+use Rattle.merge.proofs.Parents.{under-full, under-on, head-crowded, both-on, field-crowded, field-merged, map-left-end, map-right-end, map-on, after-passes}
+use Rattle.merge.proofs.Turning.{and-are, both-are, resolve-dictionary, resolve-runs, resolve-nested, wrap-both, wrap-left, wrap-right, wrap-none, unwrap-done, unwrap-full, unwrap-nested, wrapper-none, wrapper-both, wrapper-left-same, wrapper-left, wrapper-right-same, wrapper-right, nested-list, nested-listed, nested-struct, nested-map, nested-plain, list-merged}
+use Rattle.merge.proofs.Structs.{struct-none, struct-named, struct-placed, listed-none, listed-merged}
+use Prim.Native.Nat.{ℕ, _<_}
+use borrow.Fn.Kinds.{In}
+use borrow.Fn.PlainCycle.{Measures, is, falls, and}
+use Rattle.merge.proofs.coerce.both_parts.Reads as both-parts
+use Rattle.merge.proofs.coerce.both_parts.Kinds as both-parts-kinds
+use Rattle.merge.proofs.coerce.+both_parts+coerce_field+coerce_value+common+entry+list_rule+list_struct+map_rule+nested+resolve+resolve_wrapper+rewrapped+rows+struct_rule+under+unwrap+wrapper.Lts-both_parts as both-parts-lts
+use Rattle.merge.proofs.coerce.coerce_field.Reads as coerce-field
+use Rattle.merge.proofs.coerce.coerce_field.Kinds as coerce-field-kinds
+use Rattle.merge.proofs.coerce.+both_parts+coerce_field+coerce_value+common+entry+list_rule+list_struct+map_rule+nested+resolve+resolve_wrapper+rewrapped+rows+struct_rule+under+unwrap+wrapper.Lts-coerce_field as coerce-field-lts
+use Rattle.merge.proofs.coerce.coerce_value.Reads as coerce-value
+use Rattle.merge.proofs.coerce.coerce_value.Kinds as coerce-value-kinds
+use Rattle.merge.proofs.coerce.+both_parts+coerce_field+coerce_value+common+entry+list_rule+list_struct+map_rule+nested+resolve+resolve_wrapper+rewrapped+rows+struct_rule+under+unwrap+wrapper.Lts-coerce_value as coerce-value-lts
+use Rattle.merge.proofs.coerce.common.Reads as common
+use Rattle.merge.proofs.coerce.common.Kinds as common-kinds
+use Rattle.merge.proofs.coerce.+both_parts+coerce_field+coerce_value+common+entry+list_rule+list_struct+map_rule+nested+resolve+resolve_wrapper+rewrapped+rows+struct_rule+under+unwrap+wrapper.Lts-common as common-lts
+use Rattle.merge.proofs.coerce.entry.Reads as entry
+use Rattle.merge.proofs.coerce.entry.Kinds as entry-kinds
+use Rattle.merge.proofs.coerce.+both_parts+coerce_field+coerce_value+common+entry+list_rule+list_struct+map_rule+nested+resolve+resolve_wrapper+rewrapped+rows+struct_rule+under+unwrap+wrapper.Lts-entry as entry-lts
+use Rattle.merge.proofs.coerce.list_rule.Reads as list-rule
+use Rattle.merge.proofs.coerce.list_rule.Kinds as list-rule-kinds
+use Rattle.merge.proofs.coerce.+both_parts+coerce_field+coerce_value+common+entry+list_rule+list_struct+map_rule+nested+resolve+resolve_wrapper+rewrapped+rows+struct_rule+under+unwrap+wrapper.Lts-list_rule as list-rule-lts
+use Rattle.merge.proofs.coerce.list_struct.Reads as list-struct
+use Rattle.merge.proofs.coerce.list_struct.Kinds as list-struct-kinds
+use Rattle.merge.proofs.coerce.+both_parts+coerce_field+coerce_value+common+entry+list_rule+list_struct+map_rule+nested+resolve+resolve_wrapper+rewrapped+rows+struct_rule+under+unwrap+wrapper.Lts-list_struct as list-struct-lts
+use Rattle.merge.proofs.coerce.map_rule.Reads as map-rule
+use Rattle.merge.proofs.coerce.map_rule.Kinds as map-rule-kinds
+use Rattle.merge.proofs.coerce.+both_parts+coerce_field+coerce_value+common+entry+list_rule+list_struct+map_rule+nested+resolve+resolve_wrapper+rewrapped+rows+struct_rule+under+unwrap+wrapper.Lts-map_rule as map-rule-lts
+use Rattle.merge.proofs.coerce.nested.Reads as nested
+use Rattle.merge.proofs.coerce.nested.Kinds as nested-kinds
+use Rattle.merge.proofs.coerce.+both_parts+coerce_field+coerce_value+common+entry+list_rule+list_struct+map_rule+nested+resolve+resolve_wrapper+rewrapped+rows+struct_rule+under+unwrap+wrapper.Lts-nested as nested-lts
+use Rattle.merge.proofs.coerce.resolve.Reads as resolve
+use Rattle.merge.proofs.coerce.resolve.Kinds as resolve-kinds
+use Rattle.merge.proofs.coerce.+both_parts+coerce_field+coerce_value+common+entry+list_rule+list_struct+map_rule+nested+resolve+resolve_wrapper+rewrapped+rows+struct_rule+under+unwrap+wrapper.Lts-resolve as resolve-lts
+use Rattle.merge.proofs.coerce.resolve_wrapper.Reads as resolve-wrapper
+use Rattle.merge.proofs.coerce.resolve_wrapper.Kinds as resolve-wrapper-kinds
+use Rattle.merge.proofs.coerce.+both_parts+coerce_field+coerce_value+common+entry+list_rule+list_struct+map_rule+nested+resolve+resolve_wrapper+rewrapped+rows+struct_rule+under+unwrap+wrapper.Lts-resolve_wrapper as resolve-wrapper-lts
+use Rattle.merge.proofs.coerce.rewrapped.Reads as rewrapped
+use Rattle.merge.proofs.coerce.rewrapped.Kinds as rewrapped-kinds
+use Rattle.merge.proofs.coerce.+both_parts+coerce_field+coerce_value+common+entry+list_rule+list_struct+map_rule+nested+resolve+resolve_wrapper+rewrapped+rows+struct_rule+under+unwrap+wrapper.Lts-rewrapped as rewrapped-lts
+use Rattle.merge.proofs.coerce.rows.Reads as rows
+use Rattle.merge.proofs.coerce.rows.Kinds as rows-kinds
+use Rattle.merge.proofs.coerce.+both_parts+coerce_field+coerce_value+common+entry+list_rule+list_struct+map_rule+nested+resolve+resolve_wrapper+rewrapped+rows+struct_rule+under+unwrap+wrapper.Lts-rows as rows-lts
+use Rattle.merge.proofs.coerce.struct_rule.Reads as struct-rule
+use Rattle.merge.proofs.coerce.struct_rule.Kinds as struct-rule-kinds
+use Rattle.merge.proofs.coerce.+both_parts+coerce_field+coerce_value+common+entry+list_rule+list_struct+map_rule+nested+resolve+resolve_wrapper+rewrapped+rows+struct_rule+under+unwrap+wrapper.Lts-struct_rule as struct-rule-lts
+use Rattle.merge.proofs.coerce.under.Reads as under
+use Rattle.merge.proofs.coerce.under.Kinds as under-kinds
+use Rattle.merge.proofs.coerce.+both_parts+coerce_field+coerce_value+common+entry+list_rule+list_struct+map_rule+nested+resolve+resolve_wrapper+rewrapped+rows+struct_rule+under+unwrap+wrapper.Lts-under as under-lts
+use Rattle.merge.proofs.coerce.unwrap.Reads as unwrap
+use Rattle.merge.proofs.coerce.unwrap.Kinds as unwrap-kinds
+use Rattle.merge.proofs.coerce.+both_parts+coerce_field+coerce_value+common+entry+list_rule+list_struct+map_rule+nested+resolve+resolve_wrapper+rewrapped+rows+struct_rule+under+unwrap+wrapper.Lts-unwrap as unwrap-lts
+use Rattle.merge.proofs.coerce.wrapper.Reads as wrapper
+use Rattle.merge.proofs.coerce.wrapper.Kinds as wrapper-kinds
+use Rattle.merge.proofs.coerce.+both_parts+coerce_field+coerce_value+common+entry+list_rule+list_struct+map_rule+nested+resolve+resolve_wrapper+rewrapped+rows+struct_rule+under+unwrap+wrapper.Lts-wrapper as wrapper-lts
+use Rattle.buffers.proofs.alike.same_sides.Reads as same-sides-reads
+use Rattle.buffers.proofs.copy.copy_head.Reads as copy-head-reads
+use Rattle.buffers.proofs.copy.copy_parent.Reads as copy-parent-reads
+use Rattle.buffers.proofs.copy.is_nullable.Reads as is-nullable-reads
+use Rattle.buffers.proofs.field.copy_index.Reads as copy-index-reads
+use Rattle.buffers.proofs.field.first_link.Reads as first-link-reads
+use Rattle.buffers.proofs.field.keep_wrapper.Reads as keep-wrapper-reads
+use Rattle.buffers.proofs.field.name_field.Reads as name-field-reads
+use Rattle.buffers.proofs.field.next_link.Reads as next-link-reads
+use Rattle.buffers.proofs.field.row_end.Reads as row-end-reads
+use Rattle.buffers.proofs.lay.copy_type.Reads as copy-type-reads
+use Rattle.buffers.proofs.lay.lay.Reads as lay-reads
+use Rattle.buffers.proofs.lay.tie.Reads as tie-reads
+use Rattle.buffers.proofs.names.have_same_names.Reads as have-same-names-reads
+use Rattle.buffers.proofs.names.row.Reads as row-reads
+use Rattle.buffers.proofs.names.same_arity.Reads as same-arity-reads
+use Rattle.buffers.proofs.plain.is_list_question.Reads as is-list-question-reads
+use Rattle.buffers.proofs.plain.list_kind.Reads as list-kind-reads
+use Rattle.buffers.proofs.plain.list_size.Reads as list-size-reads
+use Rattle.buffers.proofs.stamp.plain_rule.Reads as plain-rule-reads
+use Rattle.buffers.proofs.write.kind_at.Reads as kind-at-reads
+use Rattle.buffers.proofs.write.look.Reads as look-reads
+use Rattle.buffers.proofs.write.value_at.Reads as value-at-reads
+use Rattle.kinds.proofs.tests.both.Reads as both-reads
+use Rattle.kinds.proofs.tests.either.Reads as either-reads
+use Rattle.kinds.proofs.tests.is_list.Reads as is-list-reads
+use Rattle.merge.proofs.coerce.are_same.Reads as are-same-reads
+use Rattle.merge.proofs.coerce.differ_in_part.Reads as differ-in-part-reads
+use Rattle.wrappers.proofs.walk.way.Reads as way-reads
+use Rattle.merge.proofs.coerce.+both_parts+coerce_field+coerce_value+common+entry+list_rule+list_struct+map_rule+nested+resolve+resolve_wrapper+rewrapped+rows+struct_rule+under+unwrap+wrapper.{
+  statement,
+}
+use Rattle.merge.proofs.coerce.+both_parts+coerce_field+coerce_value+common+entry+list_rule+list_struct+map_rule+nested+resolve+resolve_wrapper+rewrapped+rows+struct_rule+under+unwrap+wrapper.Tie.{
+  close,
+}
+
+abbrev μ-both-parts : Measures 3 both-parts-kinds.ps ℕ
+μ-both-parts κs a =
+    16 * a .1 .1 .1 .1 .1 .1 .0 + 11
+
+abbrev μ-coerce-field : Measures 3 coerce-field-kinds.ps ℕ
+μ-coerce-field κs a =
+    16 * a .1 .1 .1 .1 .1 .1 .0 + 6
+
+abbrev μ-coerce-value : Measures 3 coerce-value-kinds.ps ℕ
+μ-coerce-value κs a =
+    16 * a .1 .1 .1 .1 .1 .1 .0 + 5
+
+abbrev μ-common : Measures 3 common-kinds.ps ℕ
+μ-common κs a =
+    16 * a .1 .1 .1 .1 .1 .1 .0 + 3
+
+abbrev μ-entry : Measures 3 entry-kinds.ps ℕ
+μ-entry κs a =
+    16 * a .1 .1 .1 .1 .1 .1 .0 + 10
+
+abbrev μ-list-rule : Measures 3 list-rule-kinds.ps ℕ
+μ-list-rule κs a =
+    16 * a .1 .1 .1 .1 .1 .1 .0 + 11
+
+abbrev μ-list-struct : Measures 3 list-struct-kinds.ps ℕ
+μ-list-struct κs a =
+    16 * a .1 .1 .1 .1 .1 .1 .0 + 9
+
+abbrev μ-map-rule : Measures 3 map-rule-kinds.ps ℕ
+μ-map-rule κs a =
+    16 * a .1 .1 .1 .1 .1 .1 .0 + 11
+
+abbrev μ-nested : Measures 3 nested-kinds.ps ℕ
+μ-nested κs a =
+    16 * a .1 .1 .1 .1 .1 .1 .0 + 12
+
+abbrev μ-resolve : Measures 3 resolve-kinds.ps ℕ
+μ-resolve κs a =
+    16 * a .1 .1 .1 .1 .1 .1 .0 + 14
+
+abbrev μ-resolve-wrapper : Measures 3 resolve-wrapper-kinds.ps ℕ
+μ-resolve-wrapper κs a =
+    16 * a .1 .1 .1 .1 .1 .1 .0 + 13
+
+abbrev μ-rewrapped : Measures 3 rewrapped-kinds.ps ℕ
+μ-rewrapped κs a =
+    16 * a .1 .1 .1 .1 .1 .1 .0 + 11
+
+abbrev μ-rows : Measures 3 rows-kinds.ps ℕ
+μ-rows κs a =
+    16 * a .1 .1 .1 .1 .1 .1 .0 + 5
+
+abbrev μ-struct-rule : Measures 3 struct-rule-kinds.ps ℕ
+μ-struct-rule κs a =
+    16 * a .1 .1 .1 .1 .1 .1 .0 + 9
+
+abbrev μ-under : Measures 3 under-kinds.ps ℕ
+μ-under κs a =
+    16 * a .1 .1 .1 .1 .1 .1 .0 + 8
+
+abbrev μ-unwrap : Measures 3 unwrap-kinds.ps ℕ
+μ-unwrap κs a =
+    16 * a .1 .1 .1 .1 .1 .1 .0 + 14
+
+abbrev μ-wrapper : Measures 3 wrapper-kinds.ps ℕ
+μ-wrapper κs a =
+    16 * a .1 .1 .1 .1 .1 .1 .0 + 13
+
+abbrev both-parts-at : ℕ → In 3 both-parts-kinds.ps
+both-parts-at t =
+    and 3 both-parts-kinds.ps (is 3 both-parts-kinds.ps μ-both-parts t) both-parts.Pre
+
+abbrev both-parts-below : ℕ → In 3 both-parts-kinds.ps
+both-parts-below t =
+    and 3 both-parts-kinds.ps (falls 3 both-parts-kinds.ps _<_ μ-both-parts t) both-parts.Pre
+
+abbrev coerce-field-at : ℕ → In 3 coerce-field-kinds.ps
+coerce-field-at t =
+    and 3 coerce-field-kinds.ps (is 3 coerce-field-kinds.ps μ-coerce-field t) coerce-field.Pre
+
+abbrev coerce-field-below : ℕ → In 3 coerce-field-kinds.ps
+coerce-field-below t =
+    and
+    3
+    coerce-field-kinds.ps
+    (falls 3 coerce-field-kinds.ps _<_ μ-coerce-field t)
+    coerce-field.Pre
+
+abbrev coerce-value-at : ℕ → In 3 coerce-value-kinds.ps
+coerce-value-at t =
+    and 3 coerce-value-kinds.ps (is 3 coerce-value-kinds.ps μ-coerce-value t) coerce-value.Pre
+
+abbrev coerce-value-below : ℕ → In 3 coerce-value-kinds.ps
+coerce-value-below t =
+    and
+    3
+    coerce-value-kinds.ps
+    (falls 3 coerce-value-kinds.ps _<_ μ-coerce-value t)
+    coerce-value.Pre
+
+abbrev common-at : ℕ → In 3 common-kinds.ps
+common-at t = and 3 common-kinds.ps (is 3 common-kinds.ps μ-common t) common.Pre
+
+abbrev common-below : ℕ → In 3 common-kinds.ps
+common-below t = and 3 common-kinds.ps (falls 3 common-kinds.ps _<_ μ-common t) common.Pre
+
+abbrev entry-at : ℕ → In 3 entry-kinds.ps
+entry-at t = and 3 entry-kinds.ps (is 3 entry-kinds.ps μ-entry t) entry.Pre
+
+abbrev entry-below : ℕ → In 3 entry-kinds.ps
+entry-below t = and 3 entry-kinds.ps (falls 3 entry-kinds.ps _<_ μ-entry t) entry.Pre
+
+abbrev list-rule-at : ℕ → In 3 list-rule-kinds.ps
+list-rule-at t = and 3 list-rule-kinds.ps (is 3 list-rule-kinds.ps μ-list-rule t) list-rule.Pre
+
+abbrev list-rule-below : ℕ → In 3 list-rule-kinds.ps
+list-rule-below t =
+    and 3 list-rule-kinds.ps (falls 3 list-rule-kinds.ps _<_ μ-list-rule t) list-rule.Pre
+
+abbrev list-struct-at : ℕ → In 3 list-struct-kinds.ps
+list-struct-at t =
+    and 3 list-struct-kinds.ps (is 3 list-struct-kinds.ps μ-list-struct t) list-struct.Pre
+
+abbrev list-struct-below : ℕ → In 3 list-struct-kinds.ps
+list-struct-below t =
+    and 3 list-struct-kinds.ps (falls 3 list-struct-kinds.ps _<_ μ-list-struct t) list-struct.Pre
+
+abbrev map-rule-at : ℕ → In 3 map-rule-kinds.ps
+map-rule-at t = and 3 map-rule-kinds.ps (is 3 map-rule-kinds.ps μ-map-rule t) map-rule.Pre
+
+abbrev map-rule-below : ℕ → In 3 map-rule-kinds.ps
+map-rule-below t =
+    and 3 map-rule-kinds.ps (falls 3 map-rule-kinds.ps _<_ μ-map-rule t) map-rule.Pre
+
+abbrev nested-at : ℕ → In 3 nested-kinds.ps
+nested-at t = and 3 nested-kinds.ps (is 3 nested-kinds.ps μ-nested t) nested.Pre
+
+abbrev nested-below : ℕ → In 3 nested-kinds.ps
+nested-below t = and 3 nested-kinds.ps (falls 3 nested-kinds.ps _<_ μ-nested t) nested.Pre
+
+abbrev resolve-at : ℕ → In 3 resolve-kinds.ps
+resolve-at t = and 3 resolve-kinds.ps (is 3 resolve-kinds.ps μ-resolve t) resolve.Pre
+
+abbrev resolve-below : ℕ → In 3 resolve-kinds.ps
+resolve-below t = and 3 resolve-kinds.ps (falls 3 resolve-kinds.ps _<_ μ-resolve t) resolve.Pre
+
+abbrev resolve-wrapper-at : ℕ → In 3 resolve-wrapper-kinds.ps
+resolve-wrapper-at t =
+    and
+    3
+    resolve-wrapper-kinds.ps
+    (is 3 resolve-wrapper-kinds.ps μ-resolve-wrapper t)
+    resolve-wrapper.Pre
+
+abbrev resolve-wrapper-below : ℕ → In 3 resolve-wrapper-kinds.ps
+resolve-wrapper-below t =
+    and
+    3
+    resolve-wrapper-kinds.ps
+    (falls 3 resolve-wrapper-kinds.ps _<_ μ-resolve-wrapper t)
+    resolve-wrapper.Pre
+
+abbrev rewrapped-at : ℕ → In 3 rewrapped-kinds.ps
+rewrapped-at t = and 3 rewrapped-kinds.ps (is 3 rewrapped-kinds.ps μ-rewrapped t) rewrapped.Pre
+
+abbrev rewrapped-below : ℕ → In 3 rewrapped-kinds.ps
+rewrapped-below t =
+    and 3 rewrapped-kinds.ps (falls 3 rewrapped-kinds.ps _<_ μ-rewrapped t) rewrapped.Pre
+
+abbrev rows-at : ℕ → In 3 rows-kinds.ps
+rows-at t = and 3 rows-kinds.ps (is 3 rows-kinds.ps μ-rows t) rows.Pre
+
+abbrev rows-below : ℕ → In 3 rows-kinds.ps
+rows-below t = and 3 rows-kinds.ps (falls 3 rows-kinds.ps _<_ μ-rows t) rows.Pre
+
+abbrev struct-rule-at : ℕ → In 3 struct-rule-kinds.ps
+struct-rule-at t =
+    and 3 struct-rule-kinds.ps (is 3 struct-rule-kinds.ps μ-struct-rule t) struct-rule.Pre
+
+abbrev struct-rule-below : ℕ → In 3 struct-rule-kinds.ps
+struct-rule-below t =
+    and 3 struct-rule-kinds.ps (falls 3 struct-rule-kinds.ps _<_ μ-struct-rule t) struct-rule.Pre
+
+abbrev under-at : ℕ → In 3 under-kinds.ps
+under-at t = and 3 under-kinds.ps (is 3 under-kinds.ps μ-under t) under.Pre
+
+abbrev under-below : ℕ → In 3 under-kinds.ps
+under-below t = and 3 under-kinds.ps (falls 3 under-kinds.ps _<_ μ-under t) under.Pre
+
+abbrev unwrap-at : ℕ → In 3 unwrap-kinds.ps
+unwrap-at t = and 3 unwrap-kinds.ps (is 3 unwrap-kinds.ps μ-unwrap t) unwrap.Pre
+
+abbrev unwrap-below : ℕ → In 3 unwrap-kinds.ps
+unwrap-below t = and 3 unwrap-kinds.ps (falls 3 unwrap-kinds.ps _<_ μ-unwrap t) unwrap.Pre
+
+abbrev wrapper-at : ℕ → In 3 wrapper-kinds.ps
+wrapper-at t = and 3 wrapper-kinds.ps (is 3 wrapper-kinds.ps μ-wrapper t) wrapper.Pre
+
+abbrev wrapper-below : ℕ → In 3 wrapper-kinds.ps
+wrapper-below t = and 3 wrapper-kinds.ps (falls 3 wrapper-kinds.ps _<_ μ-wrapper t) wrapper.Pre
+
+abbrev both-parts-calls : ℕ → both-parts-lts.Claims
+both-parts-calls t =
+    (look-reads.Asked, look-reads.Learnt, copy-head-reads.Asked, copy-head-reads.Learnt, rows-below t, rows.Post)
+
+abbrev coerce-field-calls : ℕ → coerce-field-lts.Claims
+coerce-field-calls t =
+    (look-reads.Asked, look-reads.Learnt, is-nullable-reads.Asked, is-nullable-reads.Learnt, name-field-reads.Asked, name-field-reads.Learnt, coerce-value-below t, coerce-value.Post)
+
+abbrev coerce-value-calls : ℕ → coerce-value-lts.Claims
+coerce-value-calls t =
+    (kind-at-reads.Asked, kind-at-reads.Learnt, either-reads.Asked, either-reads.Learnt, both-reads.Asked, both-reads.Learnt, rewrapped-below t, rewrapped.Post, common-below t, common.Post, plain-rule-reads.Asked, plain-rule-reads.Learnt)
+
+abbrev common-calls : ℕ → common-lts.Claims
+common-calls t =
+    (is-list-question-reads.Asked, is-list-question-reads.Learnt, are-same-reads.Asked, are-same-reads.Learnt, copy-type-reads.Asked, copy-type-reads.Learnt, kind-at-reads.Asked, kind-at-reads.Learnt, both-reads.Asked, both-reads.Learnt, plain-rule-reads.Asked, plain-rule-reads.Learnt, nested-below t, nested.Post, resolve-below t, resolve.Post, unwrap-below t, unwrap.Post)
+
+abbrev entry-calls : ℕ → entry-lts.Claims
+entry-calls t =
+    (look-reads.Asked, look-reads.Learnt, is-nullable-reads.Asked, is-nullable-reads.Learnt, name-field-reads.Asked, name-field-reads.Learnt, struct-rule-below t, struct-rule.Post)
+
+abbrev list-rule-calls : ℕ → list-rule-lts.Claims
+list-rule-calls t =
+    (look-reads.Asked, look-reads.Learnt, list-kind-reads.Asked, list-kind-reads.Learnt, list-size-reads.Asked, list-size-reads.Learnt, differ-in-part-reads.Asked, differ-in-part-reads.Learnt, under-below t, under.Post)
+
+abbrev list-struct-calls : ℕ → list-struct-lts.Claims
+list-struct-calls t =
+    (look-reads.Asked, look-reads.Learnt, same-arity-reads.Asked, same-arity-reads.Learnt, have-same-names-reads.Asked, have-same-names-reads.Learnt, both-reads.Asked, both-reads.Learnt, differ-in-part-reads.Asked, differ-in-part-reads.Learnt, under-below t, under.Post)
+
+abbrev map-rule-calls : ℕ → map-rule-lts.Claims
+map-rule-calls t =
+    (look-reads.Asked, look-reads.Learnt, both-reads.Asked, both-reads.Learnt, differ-in-part-reads.Asked, differ-in-part-reads.Learnt, lay-reads.Asked, lay-reads.Learnt, entry-below t, entry.Post)
+
+abbrev nested-calls : ℕ → nested-lts.Claims
+nested-calls t =
+    (kind-at-reads.Asked, kind-at-reads.Learnt, is-list-reads.Asked, is-list-reads.Learnt, both-reads.Asked, both-reads.Learnt, list-rule-below t, list-rule.Post, is-list-question-reads.Asked, is-list-question-reads.Learnt, list-struct-below t, list-struct.Post, struct-rule-below t, struct-rule.Post, map-rule-below t, map-rule.Post, plain-rule-reads.Asked, plain-rule-reads.Learnt)
+
+abbrev resolve-calls : ℕ → resolve-lts.Claims
+resolve-calls t =
+    (kind-at-reads.Asked, kind-at-reads.Learnt, either-reads.Asked, either-reads.Learnt, resolve-wrapper-below t, resolve-wrapper.Post, nested-below t, nested.Post)
+
+abbrev resolve-wrapper-calls : ℕ → resolve-wrapper-lts.Claims
+resolve-wrapper-calls t =
+    (kind-at-reads.Asked, kind-at-reads.Learnt, both-parts-below t, both-parts.Post, rewrapped-below t, rewrapped.Post)
+
+abbrev rewrapped-calls : ℕ → rewrapped-lts.Claims
+rewrapped-calls t =
+    (look-reads.Asked, look-reads.Learnt, copy-parent-reads.Asked, copy-parent-reads.Learnt, copy-index-reads.Asked, copy-index-reads.Learnt, coerce-field-below t, coerce-field.Post, tie-reads.Asked, tie-reads.Learnt, keep-wrapper-reads.Asked, keep-wrapper-reads.Learnt)
+
+abbrev rows-calls : ℕ → rows-lts.Claims
+rows-calls t =
+    (row-end-reads.Asked, row-end-reads.Learnt, look-reads.Asked, look-reads.Learnt, row-reads.Asked, row-reads.Learnt, name-field-reads.Asked, name-field-reads.Learnt, common-below t, common.Post, rows-below t, rows.Post, next-link-reads.Asked, next-link-reads.Learnt, tie-reads.Asked, tie-reads.Learnt)
+
+abbrev struct-rule-calls : ℕ → struct-rule-lts.Claims
+struct-rule-calls t =
+    (look-reads.Asked, look-reads.Learnt, both-reads.Asked, both-reads.Learnt, same-arity-reads.Asked, same-arity-reads.Learnt, differ-in-part-reads.Asked, differ-in-part-reads.Learnt, have-same-names-reads.Asked, have-same-names-reads.Learnt, under-below t, under.Post)
+
+abbrev under-calls : ℕ → under-lts.Claims
+under-calls t =
+    (first-link-reads.Asked, first-link-reads.Learnt, lay-reads.Asked, lay-reads.Learnt, rows-below t, rows.Post)
+
+abbrev unwrap-calls : ℕ → unwrap-lts.Claims
+unwrap-calls t =
+    (way-reads.Asked, way-reads.Learnt, wrapper-below t, wrapper.Post, nested-below t, nested.Post)
+
+abbrev wrapper-calls : ℕ → wrapper-lts.Claims
+wrapper-calls t =
+    (kind-at-reads.Asked, kind-at-reads.Learnt, value-at-reads.Asked, value-at-reads.Learnt, common-below t, common.Post, same-sides-reads.Asked, same-sides-reads.Learnt, copy-type-reads.Asked, copy-type-reads.Learnt)
+
+-- src/coerce.rt:405:9
+both-parts-returns : (t : ℕ) → both-parts-lts.Need-returns (both-parts-calls t) (both-parts-at t) both-parts.Post
+both-parts-returns t c =
+    (merges-full _ _ _ _ _ _ _ _ _ (c .if1 .taken), (c .before .before .before .before .before .before .pre .1 .1))
+
+-- src/coerce.rt:407:9
+both-parts-look-requires : (t : ℕ) → both-parts-lts.Need-look-requires (both-parts-calls t) (both-parts-at t) both-parts.Post
+both-parts-look-requires t c κs =
+    search needs
+
+-- src/coerce.rt:408:9
+both-parts-look-requires-2 : (t : ℕ) → both-parts-lts.Need-look-requires-2 (both-parts-calls t) (both-parts-at t) both-parts.Post
+both-parts-look-requires-2 t c κs =
+    search needs
+
+-- src/coerce.rt:411:11
+both-parts-copy-head-requires : (t : ℕ) → both-parts-lts.Need-copy-head-requires (both-parts-calls t) (both-parts-at t) both-parts.Post
+both-parts-copy-head-requires t c κs =
+    ((c .before .before .before .before .before .before .before .before .before .before .before .pre .1 .0), ((c .before .before .before .before .before .if1 .left), (omega arith, (c .before .before .before .look .ensures .1))))
+
+-- src/coerce.rt:412:19
+both-parts-enum-known-d : (t : ℕ) → both-parts-lts.Need-enum-known-d (both-parts-calls t) (both-parts-at t) both-parts.Post
+both-parts-enum-known-d t c =
+    search needs
+
+-- src/coerce.rt:412:25
+both-parts-rows-requires : (t : ℕ) → both-parts-lts.Need-rows-requires (both-parts-calls t) (both-parts-at t) both-parts.Post
+both-parts-rows-requires t c κs =
+    let h = rw (c .before .before .before .d .given .1) at (c .before .before .before .before .before .before .before .copy-head .ensures) in
+    (omega (arith, (c .before .before .before .before .before .before .before .before .before .before .before .before .before .before .before .before .before .before .before .pre .0)), ((room-kept (h .kept) (c .before .before .before .before .before .before .before .before .before .before .before .before .before .before .before .before .before .before .before .pre .1 .0 .0), h .passes .0), tabled-over (c .before .before .before .before .before .before .before .before .before .before .before .before .before .before .before .before .before .before .before .pre .1 .0 .0) (h .kept) (c .before .before .before .before .before .before .before .before .before .before .before .before .before .before .before .before .before .before .before .pre .1 .1)))
+
+-- src/coerce.rt:428:20
+both-parts-enum-told : (t : ℕ) → both-parts-lts.Need-enum-told (both-parts-calls t) (both-parts-at t) both-parts.Post
+both-parts-enum-told t c =
+    search needs
+
+-- src/coerce.rt:429:22
+both-parts-enum-told-2 : (t : ℕ) → both-parts-lts.Need-enum-told-2 (both-parts-calls t) (both-parts-at t) both-parts.Post
+both-parts-enum-told-2 t c =
+    search needs
+
+-- src/coerce.rt:386:1
+both-parts-same-length : (t : ℕ) → both-parts-lts.Need-same-length (both-parts-calls t) (both-parts-at t) both-parts.Post
+both-parts-same-length t c =
+    search needs
+
+-- src/coerce.rt:386:1
+both-parts-same-length-2 : (t : ℕ) → both-parts-lts.Need-same-length-2 (both-parts-calls t) (both-parts-at t) both-parts.Post
+both-parts-same-length-2 t c =
+    search needs
+
+-- src/coerce.rt:386:1
+both-parts-returns-2 : (t : ℕ) → both-parts-lts.Need-returns-2 (both-parts-calls t) (both-parts-at t) both-parts.Post
+both-parts-returns-2 t c =
+    let h = rw (c .before .before .before .before .before .before .before .before .d .given .1) at (c .before .before .before .before .before .before .before .before .before .before .before .before .copy-head .ensures) in
+    (both-on _ _ _ _ _ _ _ _ _ (c .before .before .before .before .before .before .before .before .before .before .before .before .before .before .before .before .before .before .before .before .before .before .before .before .pre .1 .0 .0) _ _ (c .before .before .before .before .before .before .before .before .before .before .before .before .before .before .before .before .look .ensures .0) (c .before .before .before .before .before .before .before .before .before .before .before .before .before .before .look2 .ensures .0) _ _ _ _ h (c .before .before .before .before .rows .ensures .0), (c .before .before .before .before .rows .ensures .1))
+
+-- src/coerce.rt:386:1
+both-parts-same-length-3 : (t : ℕ) → both-parts-lts.Need-same-length-3 (both-parts-calls t) (both-parts-at t) both-parts.Post
+both-parts-same-length-3 t c =
+    search needs
+
+-- src/coerce.rt:386:1
+both-parts-returns-3 : (t : ℕ) → both-parts-lts.Need-returns-3 (both-parts-calls t) (both-parts-at t) both-parts.Post
+both-parts-returns-3 t c =
+    absurd ((rw (c .enum-told .given .1) at (c .before .before .before .before .copy-head .ensures)) .means)
+
+-- src/coerce.rt:386:1
+both-parts-same-length-4 : (t : ℕ) → both-parts-lts.Need-same-length-4 (both-parts-calls t) (both-parts-at t) both-parts.Post
+both-parts-same-length-4 t c =
+    search needs
+
+-- src/coerce.rt:386:1
+both-parts-returns-4 : (t : ℕ) → both-parts-lts.Need-returns-4 (both-parts-calls t) (both-parts-at t) both-parts.Post
+both-parts-returns-4 t c =
+    (head-crowded _ _ _ _ _ _ _ _ _ _ (c .before .before .before .before .before .before .before .before .look .ensures .0) _ (rw (c .enum-told2 .given .1) at (c .before .before .before .before .copy-head .ensures)), tabled-over (c .before .before .before .before .before .before .before .before .before .before .before .before .before .before .before .before .pre .1 .0 .0) ((rw (c .enum-told2 .given .1) at (c .before .before .before .before .copy-head .ensures)) .kept) (c .before .before .before .before .before .before .before .before .before .before .before .before .before .before .before .before .pre .1 .1))
+
+-- src/coerce.rt:511:9
+coerce-field-look-requires : (t : ℕ) → coerce-field-lts.Need-look-requires (coerce-field-calls t) (coerce-field-at t) coerce-field.Post
+coerce-field-look-requires t c κs =
+    search needs
+
+-- src/coerce.rt:513:9
+coerce-field-is-nullable-requires : (t : ℕ) → coerce-field-lts.Need-is-nullable-requires (coerce-field-calls t) (coerce-field-at t) coerce-field.Post
+coerce-field-is-nullable-requires t c κs =
+    search needs
+
+-- src/coerce.rt:514:8
+coerce-field-name-field-requires : (t : ℕ) → coerce-field-lts.Need-name-field-requires (coerce-field-calls t) (coerce-field-at t) coerce-field.Post
+coerce-field-name-field-requires t c κs =
+    ((c .before .before .before .before .before .before .before .pre .1 .0 .0), ((c .before .before .before .before .before .before .before .pre .1 .0 .1), (c .before .before .look .ensures .1)))
+
+-- src/coerce.rt:521:9
+coerce-field-coerce-value-requires : (t : ℕ) → coerce-field-lts.Need-coerce-value-requires (coerce-field-calls t) (coerce-field-at t) coerce-field.Post
+coerce-field-coerce-value-requires t c κs =
+    (omega (arith, (c .before .before .before .before .before .before .before .before .before .before .before .before .before .pre .0)), ((room-kept ((c .before .before .before .before .before .name-field .ensures .kept)) (c .before .before .before .before .before .before .before .before .before .before .before .before .before .pre .1 .0 .0), field-ready _ (c .before .before .before .before .before .before .before .before .before .before .before .before .before .pre .1 .0 .1) (c .before .before .before .before .before .before .before .before .look .ensures .1) (c .before .before .if1 .taken) (c .before .before .before .before .before .name-field .ensures)), ((c .before .before .before .before .before .before .before .before .before .before .before .before .before .pre .1 .1 .0), tabled-over (c .before .before .before .before .before .before .before .before .before .before .before .before .before .pre .1 .0 .0) ((c .before .before .before .before .before .name-field .ensures .kept)) (c .before .before .before .before .before .before .before .before .before .before .before .before .before .pre .1 .1 .1))))
+
+-- src/coerce.rt:521:9
+coerce-field-same-length : (t : ℕ) → coerce-field-lts.Need-same-length (coerce-field-calls t) (coerce-field-at t) coerce-field.Post
+coerce-field-same-length t c =
+    search needs
+
+-- src/coerce.rt:521:9
+coerce-field-same-length-2 : (t : ℕ) → coerce-field-lts.Need-same-length-2 (coerce-field-calls t) (coerce-field-at t) coerce-field.Post
+coerce-field-same-length-2 t c =
+    search needs
+
+-- src/coerce.rt:521:9
+coerce-field-returns : (t : ℕ) → coerce-field-lts.Need-returns (coerce-field-calls t) (coerce-field-at t) coerce-field.Post
+coerce-field-returns t c =
+    (field-merged _ _ _ _ _ _ _ _ _ _ (c .before .before .before .before .before .before .before .before .before .before .before .before .before .look .ensures .0) _ _ (c .before .before .before .before .before .before .before .before .before .before .name-field .ensures) _ _ _ (c .before .before .before .before .before .before .before .before .before .before .before .before .before .before .before .before .before .before .pre .1 .0 .0) (c .before .before .before .before .before .before .before .if1 .taken) (c .before .before .before .before .before .before .before .before .before .before .before .before .is-nullable .ensures) (any-known _ (c .before .before .before .before .before .before .before .before .before .before .before .before .before .before .before .before .before .before .args .swap) (c .before .before .before .before .coerce-value .ensures .0)), (c .before .before .before .before .coerce-value .ensures .1))
+
+-- src/coerce.rt:492:1
+coerce-field-same-length-3 : (t : ℕ) → coerce-field-lts.Need-same-length-3 (coerce-field-calls t) (coerce-field-at t) coerce-field.Post
+coerce-field-same-length-3 t c =
+    search needs
+
+-- src/coerce.rt:492:1
+coerce-field-returns-2 : (t : ℕ) → coerce-field-lts.Need-returns-2 (coerce-field-calls t) (coerce-field-at t) coerce-field.Post
+coerce-field-returns-2 t c =
+    (field-crowded _ _ _ _ _ _ _ _ _ _ (c .before .before .before .before .before .before .look .ensures .0) _ _ (c .before .before .before .name-field .ensures) (c .if1 .left), tabled-over (c .before .before .before .before .before .before .before .before .before .before .before .pre .1 .0 .0) ((c .before .before .before .name-field .ensures .kept)) (c .before .before .before .before .before .before .before .before .before .before .before .pre .1 .1 .1))
+
+-- src/coerce.rt:560:9
+coerce-value-returns : (t : ℕ) → coerce-value-lts.Need-returns (coerce-value-calls t) (coerce-value-at t) coerce-value.Post
+coerce-value-returns t c =
+    (none-known (c .before .before .before .before .args .swap) (coerce-spent (c .before .before .before .before .args .question) (c .before .before .before .before .args .mask) (c .before .before .before .before .args .space) (c .before .before .before .before .args .left) (c .before .before .before .before .args .swap) _ _ _ _ _ (c .if1 .taken)), (c .before .before .before .before .pre .1 .1 .1))
+
+-- src/coerce.rt:562:9
+coerce-value-kind-at-requires : (t : ℕ) → coerce-value-lts.Need-kind-at-requires (coerce-value-calls t) (coerce-value-at t) coerce-value.Post
+coerce-value-kind-at-requires t c κs =
+    search needs
+
+-- src/coerce.rt:563:9
+coerce-value-kind-at-requires-2 : (t : ℕ) → coerce-value-lts.Need-kind-at-requires-2 (coerce-value-calls t) (coerce-value-at t) coerce-value.Post
+coerce-value-kind-at-requires-2 t c κs =
+    search needs
+
+-- src/coerce.rt:564:13
+coerce-value-either-requires : (t : ℕ) → coerce-value-lts.Need-either-requires (coerce-value-calls t) (coerce-value-at t) coerce-value.Post
+coerce-value-either-requires t c κs =
+    search needs
+
+-- src/coerce.rt:564:8
+coerce-value-both-requires : (t : ℕ) → coerce-value-lts.Need-both-requires (coerce-value-calls t) (coerce-value-at t) coerce-value.Post
+coerce-value-both-requires t c κs =
+    search needs
+
+-- src/coerce.rt:572:13
+coerce-value-sub-rewrapped : (t : ℕ) → coerce-value-lts.Need-sub-rewrapped (coerce-value-calls t) (coerce-value-at t) coerce-value.Post
+coerce-value-sub-rewrapped t c =
+    search needs
+
+-- src/coerce.rt:565:9
+coerce-value-rewrapped-requires : (t : ℕ) → coerce-value-lts.Need-rewrapped-requires (coerce-value-calls t) (coerce-value-at t) coerce-value.Post
+coerce-value-rewrapped-requires t c κs =
+    (omega (arith, (c .before .before .before .before .before .before .before .before .before .before .before .before .before .pre .0), (c .before .before .before .before .before .before .before .before .before .if1 .left)), ((c .before .before .before .before .before .before .before .before .before .before .before .before .before .pre .1 .0), (((sym (c .before .before .before .before .either .ensures) ∙ and-fst _ _ (sym (c .before .before .before .both .ensures) ∙ (c .before .before .if2 .taken))), (sym (c .before .before .before .before .before .before .before .kind-at .ensures), (c .before .before .before .before .before .before .before .before .before .before .before .before .before .pre .1 .1 .0))), (c .before .before .before .before .before .before .before .before .before .before .before .before .before .pre .1 .1 .1))))
+
+-- src/coerce.rt:565:9
+coerce-value-same-length : (t : ℕ) → coerce-value-lts.Need-same-length (coerce-value-calls t) (coerce-value-at t) coerce-value.Post
+coerce-value-same-length t c =
+    search needs
+
+-- src/coerce.rt:565:9
+coerce-value-same-length-2 : (t : ℕ) → coerce-value-lts.Need-same-length-2 (coerce-value-calls t) (coerce-value-at t) coerce-value.Post
+coerce-value-same-length-2 t c =
+    search needs
+
+-- src/coerce.rt:565:9
+coerce-value-returns-2 : (t : ℕ) → coerce-value-lts.Need-returns-2 (coerce-value-calls t) (coerce-value-at t) coerce-value.Post
+coerce-value-returns-2 t c =
+    (coerce-wrapper (c .before .before .before .before .before .before .before .before .before .before .before .before .before .before .before .before .before .before .args .question) (c .before .before .before .before .before .before .before .before .before .before .before .before .before .before .before .before .before .before .args .mask) (c .before .before .before .before .before .before .before .before .before .before .before .before .before .before .before .before .before .before .args .space) (c .before .before .before .before .before .before .before .before .before .before .before .before .before .before .before .before .before .before .args .left) (c .before .before .before .before .before .before .before .before .before .before .before .before .before .before .before .before .before .before .args .swap) _ _ _ _ _ (c .before .before .before .before .before .before .before .before .before .before .before .before .kind-at .ensures) (c .before .before .before .before .before .before .before .before .before .before .kind-at2 .ensures) (sym (c .before .before .before .before .before .before .before .before .before .either .ensures) ∙ and-fst _ _ (sym (c .before .before .before .before .before .before .before .before .both .ensures) ∙ (c .before .before .before .before .before .before .before .if2 .taken))) (ltb-true _ 37 (and-snd (c .before .before .before .before .before .before .before .before .before .either .result) _ (sym (c .before .before .before .before .before .before .before .before .both .ensures) ∙ (c .before .before .before .before .before .before .before .if2 .taken)))) _ _ (c .before .before .before .before .before .before .before .before .before .before .before .before .before .before .before .before .before .before .pre .1 .1 .0) (c .before .before .before .before .before .before .before .before .before .before .before .before .before .before .if1 .left) (c .before .before .before .before .rewrapped .ensures .0), (c .before .before .before .before .rewrapped .ensures .1))
+
+-- src/coerce.rt:581:9
+coerce-value-common-requires : (t : ℕ) → coerce-value-lts.Need-common-requires (coerce-value-calls t) (coerce-value-at t) coerce-value.Post
+coerce-value-common-requires t c κs =
+    (omega (arith, (c .before .before .before .before .before .before .before .before .before .before .before .before .before .before .pre .0)), ((c .before .before .before .before .before .before .before .before .before .before .before .before .before .before .pre .1 .0), (c .before .before .before .before .before .before .before .before .before .before .before .before .before .before .pre .1 .1 .1)))
+
+-- src/coerce.rt:581:9
+coerce-value-same-length-3 : (t : ℕ) → coerce-value-lts.Need-same-length-3 (coerce-value-calls t) (coerce-value-at t) coerce-value.Post
+coerce-value-same-length-3 t c =
+    search needs
+
+-- src/coerce.rt:581:9
+coerce-value-same-length-4 : (t : ℕ) → coerce-value-lts.Need-same-length-4 (coerce-value-calls t) (coerce-value-at t) coerce-value.Post
+coerce-value-same-length-4 t c =
+    search needs
+
+-- src/coerce.rt:581:9
+coerce-value-returns-3 : (t : ℕ) → coerce-value-lts.Need-returns-3 (coerce-value-calls t) (coerce-value-at t) coerce-value.Post
+coerce-value-returns-3 t c =
+    ((none-known (c .before .before .before .before .before .before .before .before .before .before .before .before .before .before .before .before .before .before .before .args .swap) (c .before .before .before .before .common .ensures .0)), (c .before .before .before .before .common .ensures .1))
+
+-- src/coerce.rt:596:8
+coerce-value-both-requires-2 : (t : ℕ) → coerce-value-lts.Need-both-requires-2 (coerce-value-calls t) (coerce-value-at t) coerce-value.Post
+coerce-value-both-requires-2 t c κs =
+    search needs
+
+-- src/coerce.rt:597:9
+coerce-value-plain-rule-requires : (t : ℕ) → coerce-value-lts.Need-plain-rule-requires (coerce-value-calls t) (coerce-value-at t) coerce-value.Post
+coerce-value-plain-rule-requires t c κs =
+    (c .before .before .before .before .before .before .before .before .before .before .before .before .before .before .before .pre .1 .0)
+
+-- src/coerce.rt:597:9
+coerce-value-same-length-5 : (t : ℕ) → coerce-value-lts.Need-same-length-5 (coerce-value-calls t) (coerce-value-at t) coerce-value.Post
+coerce-value-same-length-5 t c =
+    search needs
+
+-- src/coerce.rt:597:9
+coerce-value-returns-4 : (t : ℕ) → coerce-value-lts.Need-returns-4 (coerce-value-calls t) (coerce-value-at t) coerce-value.Post
+coerce-value-returns-4 t c =
+    (coerce-unlike (c .before .before .before .before .before .before .before .before .before .before .before .before .before .before .before .before .before .before .args .question) (c .before .before .before .before .before .before .before .before .before .before .before .before .before .before .before .before .before .before .args .mask) (c .before .before .before .before .before .before .before .before .before .before .before .before .before .before .before .before .before .before .args .space) (c .before .before .before .before .before .before .before .before .before .before .before .before .before .before .before .before .before .before .args .left) (c .before .before .before .before .before .before .before .before .before .before .before .before .before .before .before .before .before .before .args .swap) _ _ _ _ _ (c .before .before .before .before .before .before .before .before .before .before .before .before .kind-at .ensures) (c .before .before .before .before .before .before .before .before .before .before .kind-at2 .ensures) (c .before .before .before .before .before .before .if3 .left) _ _ (sym (c .before .before .before .before .before .both2 .ensures) ∙ (c .before .before .before .before .if4 .taken)) (c .before .before .plain-rule .ensures), tabled-over (c .before .before .before .before .before .before .before .before .before .before .before .before .before .before .before .before .before .before .pre .1 .0 .0) ((c .before .before .plain-rule .ensures) 0 .writes .kept) (c .before .before .before .before .before .before .before .before .before .before .before .before .before .before .before .before .before .before .pre .1 .1 .1))
+
+-- src/coerce.rt:599:5
+coerce-value-common-requires-2 : (t : ℕ) → coerce-value-lts.Need-common-requires-2 (coerce-value-calls t) (coerce-value-at t) coerce-value.Post
+coerce-value-common-requires-2 t c κs =
+    (omega (arith, (c .before .before .before .before .before .before .before .before .before .before .before .before .before .before .before .before .pre .0)), ((c .before .before .before .before .before .before .before .before .before .before .before .before .before .before .before .before .pre .1 .0), (c .before .before .before .before .before .before .before .before .before .before .before .before .before .before .before .before .pre .1 .1 .1)))
+
+-- src/coerce.rt:540:1
+coerce-value-same-length-6 : (t : ℕ) → coerce-value-lts.Need-same-length-6 (coerce-value-calls t) (coerce-value-at t) coerce-value.Post
+coerce-value-same-length-6 t c =
+    search needs
+
+-- src/coerce.rt:540:1
+coerce-value-same-length-7 : (t : ℕ) → coerce-value-lts.Need-same-length-7 (coerce-value-calls t) (coerce-value-at t) coerce-value.Post
+coerce-value-same-length-7 t c =
+    search needs
+
+-- src/coerce.rt:540:1
+coerce-value-returns-5 : (t : ℕ) → coerce-value-lts.Need-returns-5 (coerce-value-calls t) (coerce-value-at t) coerce-value.Post
+coerce-value-returns-5 t c =
+    ((none-known (c .before .before .before .before .before .before .before .before .before .before .before .before .before .before .before .before .before .before .before .before .before .args .swap) (c .before .before .before .before .common2 .ensures .0)), (c .before .before .before .before .common2 .ensures .1))
+
+-- src/coerce.rt:145:9
+common-returns : (t : ℕ) → common-lts.Need-returns (common-calls t) (common-at t) common.Post
+common-returns t c =
+    (coerce-spent (c .before .before .before .before .args .question) (c .before .before .before .before .args .mask) (c .before .before .before .before .args .space) (c .before .before .before .before .args .left) (c .before .before .before .before .args .swap) _ _ _ _ _ (c .if1 .taken), (c .before .before .before .before .pre .1 .1))
+
+-- src/coerce.rt:147:9
+common-is-list-question-requires : (t : ℕ) → common-lts.Need-is-list-question-requires (common-calls t) (common-at t) common.Post
+common-is-list-question-requires t c κs =
+    search needs
+
+-- src/coerce.rt:148:8
+common-are-same-requires : (t : ℕ) → common-lts.Need-are-same-requires (common-calls t) (common-at t) common.Post
+common-are-same-requires t c κs =
+    search needs
+
+-- src/coerce.rt:149:9
+common-copy-type-requires : (t : ℕ) → common-lts.Need-copy-type-requires (common-calls t) (common-at t) common.Post
+common-copy-type-requires t c κs =
+    (c .before .before .before .before .before .before .before .before .before .pre .1 .0)
+
+-- src/coerce.rt:149:9
+common-same-length : (t : ℕ) → common-lts.Need-same-length (common-calls t) (common-at t) common.Post
+common-same-length t c =
+    search needs
+
+-- src/coerce.rt:149:9
+common-returns-2 : (t : ℕ) → common-lts.Need-returns-2 (common-calls t) (common-at t) common.Post
+common-returns-2 t c =
+    (coerce-same (c .before .before .before .before .before .before .before .before .before .before .before .before .args .question) (c .before .before .before .before .before .before .before .before .before .before .before .before .args .mask) (c .before .before .before .before .before .before .before .before .before .before .before .before .args .space) (c .before .before .before .before .before .before .before .before .before .before .before .before .args .left) (c .before .before .before .before .before .before .before .before .before .before .before .before .args .swap) _ _ _ _ _ (c .before .before .before .before .before .before .before .is-list-question .ensures) (c .before .before .before .before .before .are-same .ensures) _ _ (c .before .before .before .before .if2 .taken) (c .before .before .copy-type .ensures), tabled-over (c .before .before .before .before .before .before .before .before .before .before .before .before .pre .1 .0 .0) ((c .before .before .copy-type .ensures .writes .kept)) (c .before .before .before .before .before .before .before .before .before .before .before .before .pre .1 .1))
+
+-- src/coerce.rt:151:9
+common-kind-at-requires : (t : ℕ) → common-lts.Need-kind-at-requires (common-calls t) (common-at t) common.Post
+common-kind-at-requires t c κs =
+    search needs
+
+-- src/coerce.rt:152:9
+common-kind-at-requires-2 : (t : ℕ) → common-lts.Need-kind-at-requires-2 (common-calls t) (common-at t) common.Post
+common-kind-at-requires-2 t c κs =
+    search needs
+
+-- src/coerce.rt:153:8
+common-both-requires : (t : ℕ) → common-lts.Need-both-requires (common-calls t) (common-at t) common.Post
+common-both-requires t c κs =
+    search needs
+
+-- src/coerce.rt:154:9
+common-plain-rule-requires : (t : ℕ) → common-lts.Need-plain-rule-requires (common-calls t) (common-at t) common.Post
+common-plain-rule-requires t c κs =
+    (c .before .before .before .before .before .before .before .before .before .before .before .before .before .before .before .pre .1 .0)
+
+-- src/coerce.rt:154:9
+common-same-length-2 : (t : ℕ) → common-lts.Need-same-length-2 (common-calls t) (common-at t) common.Post
+common-same-length-2 t c =
+    search needs
+
+-- src/coerce.rt:154:9
+common-returns-3 : (t : ℕ) → common-lts.Need-returns-3 (common-calls t) (common-at t) common.Post
+common-returns-3 t c =
+    (coerce-plain (c .before .before .before .before .before .before .before .before .before .before .before .before .before .before .before .before .before .before .args .question) (c .before .before .before .before .before .before .before .before .before .before .before .before .before .before .before .before .before .before .args .mask) (c .before .before .before .before .before .before .before .before .before .before .before .before .before .before .before .before .before .before .args .space) (c .before .before .before .before .before .before .before .before .before .before .before .before .before .before .before .before .before .before .args .left) (c .before .before .before .before .before .before .before .before .before .before .before .before .before .before .before .before .before .before .args .swap) _ _ _ _ _ (c .before .before .before .before .before .before .before .before .before .before .before .before .before .is-list-question .ensures) (c .before .before .before .before .before .before .before .before .before .before .before .are-same .ensures) _ _ (c .before .before .before .before .before .before .before .before .before .before .if2 .left) (c .before .before .before .before .before .before .before .before .kind-at .ensures) (c .before .before .before .before .before .before .kind-at2 .ensures) (sym (c .before .before .before .before .before .both .ensures) ∙ (c .before .before .before .before .if3 .taken)) (c .before .before .plain-rule .ensures), tabled-over (c .before .before .before .before .before .before .before .before .before .before .before .before .before .before .before .before .before .before .pre .1 .0 .0) ((c .before .before .plain-rule .ensures) 0 .writes .kept) (c .before .before .before .before .before .before .before .before .before .before .before .before .before .before .before .before .before .before .pre .1 .1))
+
+-- src/coerce.rt:156:8
+common-both-requires-2 : (t : ℕ) → common-lts.Need-both-requires-2 (common-calls t) (common-at t) common.Post
+common-both-requires-2 t c κs =
+    search needs
+
+-- src/coerce.rt:164:13
+common-sub-nested : (t : ℕ) → common-lts.Need-sub-nested (common-calls t) (common-at t) common.Post
+common-sub-nested t c =
+    search needs
+
+-- src/coerce.rt:157:9
+common-nested-requires : (t : ℕ) → common-lts.Need-nested-requires (common-calls t) (common-at t) common.Post
+common-nested-requires t c κs =
+    (omega (arith, (c .before .before .before .before .before .before .before .before .before .before .before .before .before .before .before .before .before .before .pre .0), (c .before .before .before .before .before .before .before .before .before .before .before .before .before .before .if1 .left)), ((c .before .before .before .before .before .before .before .before .before .before .before .before .before .before .before .before .before .before .pre .1 .0), (c .before .before .before .before .before .before .before .before .before .before .before .before .before .before .before .before .before .before .pre .1 .1)))
+
+-- src/coerce.rt:157:9
+common-same-length-3 : (t : ℕ) → common-lts.Need-same-length-3 (common-calls t) (common-at t) common.Post
+common-same-length-3 t c =
+    search needs
+
+-- src/coerce.rt:157:9
+common-same-length-4 : (t : ℕ) → common-lts.Need-same-length-4 (common-calls t) (common-at t) common.Post
+common-same-length-4 t c =
+    search needs
+
+-- src/coerce.rt:157:9
+common-returns-4 : (t : ℕ) → common-lts.Need-returns-4 (common-calls t) (common-at t) common.Post
+common-returns-4 t c =
+    (coerce-bare (c .before .before .before .before .before .before .before .before .before .before .before .before .before .before .before .before .before .before .before .before .before .before .before .args .question) (c .before .before .before .before .before .before .before .before .before .before .before .before .before .before .before .before .before .before .before .before .before .before .before .args .mask) (c .before .before .before .before .before .before .before .before .before .before .before .before .before .before .before .before .before .before .before .before .before .before .before .args .space) (c .before .before .before .before .before .before .before .before .before .before .before .before .before .before .before .before .before .before .before .before .before .before .before .args .left) (c .before .before .before .before .before .before .before .before .before .before .before .before .before .before .before .before .before .before .before .before .before .before .before .args .swap) _ _ _ _ _ (c .before .before .before .before .before .before .before .before .before .before .before .before .before .before .before .before .before .before .is-list-question .ensures) (c .before .before .before .before .before .before .before .before .before .before .before .before .before .before .before .before .are-same .ensures) _ _ (c .before .before .before .before .before .before .before .before .before .before .before .before .before .before .before .if2 .left) (c .before .before .before .before .before .before .before .before .before .before .before .before .before .kind-at .ensures) (c .before .before .before .before .before .before .before .before .before .before .before .kind-at2 .ensures) (sym (c .before .before .before .before .before .before .before .before .both2 .ensures) ∙ (c .before .before .before .before .before .before .before .if4 .taken)) (c .before .before .before .before .before .before .before .before .before .before .before .before .before .before .before .before .before .before .before .if1 .left) (c .before .before .before .before .nested .ensures .0), (c .before .before .before .before .nested .ensures .1))
+
+-- src/coerce.rt:180:13
+common-sub-resolve : (t : ℕ) → common-lts.Need-sub-resolve (common-calls t) (common-at t) common.Post
+common-sub-resolve t c =
+    search needs
+
+-- src/coerce.rt:173:9
+common-resolve-requires : (t : ℕ) → common-lts.Need-resolve-requires (common-calls t) (common-at t) common.Post
+common-resolve-requires t c κs =
+    (omega (arith, (c .before .before .before .before .before .before .before .before .before .before .before .before .before .before .before .before .before .before .before .pre .0), (c .before .before .before .before .before .before .before .before .before .before .before .before .before .before .before .if1 .left)), ((c .before .before .before .before .before .before .before .before .before .before .before .before .before .before .before .before .before .before .before .pre .1 .0), (sym (c .before .before .before .before .before .before .before .before .before .before .before .before .before .before .is-list-question .ensures) ∙ (c .before .before .if5 .taken), (c .before .before .before .before .before .before .before .before .before .before .before .before .before .before .before .before .before .before .before .pre .1 .1))))
+
+-- src/coerce.rt:173:9
+common-same-length-5 : (t : ℕ) → common-lts.Need-same-length-5 (common-calls t) (common-at t) common.Post
+common-same-length-5 t c =
+    search needs
+
+-- src/coerce.rt:173:9
+common-same-length-6 : (t : ℕ) → common-lts.Need-same-length-6 (common-calls t) (common-at t) common.Post
+common-same-length-6 t c =
+    search needs
+
+-- src/coerce.rt:173:9
+common-returns-5 : (t : ℕ) → common-lts.Need-returns-5 (common-calls t) (common-at t) common.Post
+common-returns-5 t c =
+    (coerce-list (c .before .before .before .before .before .before .before .before .before .before .before .before .before .before .before .before .before .before .before .before .before .before .before .before .args .question) (c .before .before .before .before .before .before .before .before .before .before .before .before .before .before .before .before .before .before .before .before .before .before .before .before .args .mask) (c .before .before .before .before .before .before .before .before .before .before .before .before .before .before .before .before .before .before .before .before .before .before .before .before .args .space) (c .before .before .before .before .before .before .before .before .before .before .before .before .before .before .before .before .before .before .before .before .before .before .before .before .args .left) (c .before .before .before .before .before .before .before .before .before .before .before .before .before .before .before .before .before .before .before .before .before .before .before .before .args .swap) _ _ _ _ _ (c .before .before .before .before .before .before .before .before .before .before .before .before .before .before .before .before .before .before .before .is-list-question .ensures) (c .before .before .before .before .before .before .before .before .before .before .before .before .before .before .before .before .before .are-same .ensures) _ _ (c .before .before .before .before .before .before .before .before .before .before .before .before .before .before .before .before .if2 .left) (c .before .before .before .before .before .before .before .if5 .taken) (c .before .before .before .before .before .before .before .before .before .before .before .before .before .before .before .before .before .before .before .before .if1 .left) (c .before .before .before .before .resolve .ensures .0), (c .before .before .before .before .resolve .ensures .1))
+
+-- src/coerce.rt:194:9
+common-sub-unwrap : (t : ℕ) → common-lts.Need-sub-unwrap (common-calls t) (common-at t) common.Post
+common-sub-unwrap t c =
+    search needs
+
+-- src/coerce.rt:187:5
+common-unwrap-requires : (t : ℕ) → common-lts.Need-unwrap-requires (common-calls t) (common-at t) common.Post
+common-unwrap-requires t c κs =
+    (omega (arith, (c .before .before .before .before .before .before .before .before .before .before .before .before .before .before .before .before .before .before .before .pre .0), (c .before .before .before .before .before .before .before .before .before .before .before .before .before .before .before .if1 .left)), ((c .before .before .before .before .before .before .before .before .before .before .before .before .before .before .before .before .before .before .before .pre .1 .0), (sym (c .before .before .before .before .before .before .before .before .before .before .before .before .before .before .is-list-question .ensures) ∙ (c .before .before .if5 .left), (c .before .before .before .before .before .before .before .before .before .before .before .before .before .before .before .before .before .before .before .pre .1 .1))))
+
+-- src/coerce.rt:125:1
+common-same-length-7 : (t : ℕ) → common-lts.Need-same-length-7 (common-calls t) (common-at t) common.Post
+common-same-length-7 t c =
+    search needs
+
+-- src/coerce.rt:125:1
+common-same-length-8 : (t : ℕ) → common-lts.Need-same-length-8 (common-calls t) (common-at t) common.Post
+common-same-length-8 t c =
+    search needs
+
+-- src/coerce.rt:125:1
+common-returns-6 : (t : ℕ) → common-lts.Need-returns-6 (common-calls t) (common-at t) common.Post
+common-returns-6 t c =
+    (coerce-pair (c .before .before .before .before .before .before .before .before .before .before .before .before .before .before .before .before .before .before .before .before .before .before .before .before .args .question) (c .before .before .before .before .before .before .before .before .before .before .before .before .before .before .before .before .before .before .before .before .before .before .before .before .args .mask) (c .before .before .before .before .before .before .before .before .before .before .before .before .before .before .before .before .before .before .before .before .before .before .before .before .args .space) (c .before .before .before .before .before .before .before .before .before .before .before .before .before .before .before .before .before .before .before .before .before .before .before .before .args .left) (c .before .before .before .before .before .before .before .before .before .before .before .before .before .before .before .before .before .before .before .before .before .before .before .before .args .swap) _ _ _ _ _ (c .before .before .before .before .before .before .before .before .before .before .before .before .before .before .before .before .before .before .before .is-list-question .ensures) (c .before .before .before .before .before .before .before .before .before .before .before .before .before .before .before .before .before .are-same .ensures) _ _ (c .before .before .before .before .before .before .before .before .before .before .before .before .before .before .before .before .if2 .left) (c .before .before .before .before .before .before .before .if5 .left) (c .before .before .before .before .before .before .before .before .before .before .before .before .before .before .before .before .before .before .before .before .if1 .left) (c .before .before .before .before .unwrap .ensures .0), (c .before .before .before .before .unwrap .ensures .1))
+
+-- src/coerce.rt:1130:9
+entry-look-requires : (t : ℕ) → entry-lts.Need-look-requires (entry-calls t) (entry-at t) entry.Post
+entry-look-requires t c κs =
+    search needs
+
+-- src/coerce.rt:1132:9
+entry-is-nullable-requires : (t : ℕ) → entry-lts.Need-is-nullable-requires (entry-calls t) (entry-at t) entry.Post
+entry-is-nullable-requires t c κs =
+    search needs
+
+-- src/coerce.rt:1133:8
+entry-name-field-requires : (t : ℕ) → entry-lts.Need-name-field-requires (entry-calls t) (entry-at t) entry.Post
+entry-name-field-requires t c κs =
+    ((c .before .before .before .before .before .before .before .pre .1 .0 .0), ((c .before .before .before .before .before .before .before .pre .1 .0 .1), (c .before .before .look .ensures .1)))
+
+-- src/coerce.rt:1140:9
+entry-struct-rule-requires : (t : ℕ) → entry-lts.Need-struct-rule-requires (entry-calls t) (entry-at t) entry.Post
+entry-struct-rule-requires t c κs =
+    (omega (arith, (c .before .before .before .before .before .before .before .before .before .before .before .before .before .pre .0)), ((room-kept ((c .before .before .before .before .before .name-field .ensures .kept)) (c .before .before .before .before .before .before .before .before .before .before .before .before .before .pre .1 .0 .0), field-ready _ (c .before .before .before .before .before .before .before .before .before .before .before .before .before .pre .1 .0 .1) (c .before .before .before .before .before .before .before .before .look .ensures .1) (c .before .before .if1 .taken) (c .before .before .before .before .before .name-field .ensures)), tabled-over (c .before .before .before .before .before .before .before .before .before .before .before .before .before .pre .1 .0 .0) ((c .before .before .before .before .before .name-field .ensures .kept)) (c .before .before .before .before .before .before .before .before .before .before .before .before .before .pre .1 .1)))
+
+-- src/coerce.rt:1140:9
+entry-same-length : (t : ℕ) → entry-lts.Need-same-length (entry-calls t) (entry-at t) entry.Post
+entry-same-length t c =
+    search needs
+
+-- src/coerce.rt:1140:9
+entry-same-length-2 : (t : ℕ) → entry-lts.Need-same-length-2 (entry-calls t) (entry-at t) entry.Post
+entry-same-length-2 t c =
+    search needs
+
+-- src/coerce.rt:1140:9
+entry-returns : (t : ℕ) → entry-lts.Need-returns (entry-calls t) (entry-at t) entry.Post
+entry-returns t c =
+    (field-merged _ _ _ _ _ _ _ _ _ _ (c .before .before .before .before .before .before .before .before .before .before .before .before .before .look .ensures .0) _ _ (c .before .before .before .before .before .before .before .before .before .before .name-field .ensures) _ _ _ (c .before .before .before .before .before .before .before .before .before .before .before .before .before .before .before .before .before .before .pre .1 .0 .0) (c .before .before .before .before .before .before .before .if1 .taken) (c .before .before .before .before .before .before .before .before .before .before .before .before .is-nullable .ensures) (c .before .before .before .before .struct-rule .ensures .0), (c .before .before .before .before .struct-rule .ensures .1))
+
+-- src/coerce.rt:1111:1
+entry-same-length-3 : (t : ℕ) → entry-lts.Need-same-length-3 (entry-calls t) (entry-at t) entry.Post
+entry-same-length-3 t c =
+    search needs
+
+-- src/coerce.rt:1111:1
+entry-returns-2 : (t : ℕ) → entry-lts.Need-returns-2 (entry-calls t) (entry-at t) entry.Post
+entry-returns-2 t c =
+    (field-crowded _ _ _ _ _ _ _ _ _ _ (c .before .before .before .before .before .before .look .ensures .0) _ _ (c .before .before .before .name-field .ensures) (c .if1 .left), tabled-over (c .before .before .before .before .before .before .before .before .before .before .before .pre .1 .0 .0) ((c .before .before .before .name-field .ensures .kept)) (c .before .before .before .before .before .before .before .before .before .before .before .pre .1 .1))
+
+-- src/coerce.rt:908:9
+list-rule-look-requires : (t : ℕ) → list-rule-lts.Need-look-requires (list-rule-calls t) (list-rule-at t) list-rule.Post
+list-rule-look-requires t c κs =
+    search needs
+
+-- src/coerce.rt:909:9
+list-rule-look-requires-2 : (t : ℕ) → list-rule-lts.Need-look-requires-2 (list-rule-calls t) (list-rule-at t) list-rule.Post
+list-rule-look-requires-2 t c κs =
+    search needs
+
+-- src/coerce.rt:910:9
+list-rule-list-kind-requires : (t : ℕ) → list-rule-lts.Need-list-kind-requires (list-rule-calls t) (list-rule-at t) list-rule.Post
+list-rule-list-kind-requires t c κs =
+    search needs
+
+-- src/coerce.rt:911:9
+list-rule-list-size-requires : (t : ℕ) → list-rule-lts.Need-list-size-requires (list-rule-calls t) (list-rule-at t) list-rule.Post
+list-rule-list-size-requires t c κs =
+    search needs
+
+-- src/coerce.rt:914:9
+list-rule-differ-in-part-requires : (t : ℕ) → list-rule-lts.Need-differ-in-part-requires (list-rule-calls t) (list-rule-at t) list-rule.Post
+list-rule-differ-in-part-requires t c κs =
+    search needs
+
+-- src/coerce.rt:915:5
+list-rule-under-requires : (t : ℕ) → list-rule-lts.Need-under-requires (list-rule-calls t) (list-rule-at t) list-rule.Post
+list-rule-under-requires t c κs =
+    (omega (arith, (c .before .before .before .before .before .before .before .before .before .before .before .before .before .pre .0)), (((c .before .before .before .before .before .before .before .before .before .before .before .before .before .pre .1 .0), (c .before .before .before .before .list-size .ensures .1)), (c .before .before .before .before .before .before .before .before .before .before .before .before .before .pre .1 .1)))
+
+-- src/coerce.rt:889:1
+list-rule-same-length : (t : ℕ) → list-rule-lts.Need-same-length (list-rule-calls t) (list-rule-at t) list-rule.Post
+list-rule-same-length t c =
+    search needs
+
+-- src/coerce.rt:889:1
+list-rule-same-length-2 : (t : ℕ) → list-rule-lts.Need-same-length-2 (list-rule-calls t) (list-rule-at t) list-rule.Post
+list-rule-same-length-2 t c =
+    search needs
+
+-- src/coerce.rt:889:1
+list-rule-returns : (t : ℕ) → list-rule-lts.Need-returns (list-rule-calls t) (list-rule-at t) list-rule.Post
+list-rule-returns t c =
+    (list-merged _ _ _ (c .before .before .before .before .before .before .before .before .before .before .before .before .before .before .before .before .before .before .args .swap) _ _ _ _ _ _ _ (c .before .before .before .before .before .before .before .before .before .before .before .before .before .look .ensures .0) (c .before .before .before .before .before .before .before .before .before .before .before .look2 .ensures .0) (c .before .before .before .before .before .before .before .differ-in-part .ensures) (c .before .before .before .before .before .before .before .before .before .before .list-kind .ensures) (c .before .before .before .before .before .before .before .before .before .list-size .ensures .0) _ _ (c .before .before .before .before .under .ensures .0), (c .before .before .before .before .under .ensures .1))
+
+-- src/coerce.rt:1027:13
+list-struct-look-requires : (t : ℕ) → list-struct-lts.Need-look-requires (list-struct-calls t) (list-struct-at t) list-struct.Post
+list-struct-look-requires t c κs =
+    search needs
+
+-- src/coerce.rt:1028:13
+list-struct-look-requires-2 : (t : ℕ) → list-struct-lts.Need-look-requires-2 (list-struct-calls t) (list-struct-at t) list-struct.Post
+list-struct-look-requires-2 t c κs =
+    search needs
+
+-- src/coerce.rt:1030:9
+list-struct-same-arity-requires : (t : ℕ) → list-struct-lts.Need-same-arity-requires (list-struct-calls t) (list-struct-at t) list-struct.Post
+list-struct-same-arity-requires t c κs =
+    search needs
+
+-- src/coerce.rt:1031:9
+list-struct-have-same-names-requires : (t : ℕ) → list-struct-lts.Need-have-same-names-requires (list-struct-calls t) (list-struct-at t) list-struct.Post
+list-struct-have-same-names-requires t c κs =
+    (c .before .before .before .before .before .before .before .before .before .before .pre .1 .0 .0 .few)
+
+-- src/coerce.rt:1029:8
+list-struct-both-requires : (t : ℕ) → list-struct-lts.Need-both-requires (list-struct-calls t) (list-struct-at t) list-struct.Post
+list-struct-both-requires t c κs =
+    search needs
+
+-- src/coerce.rt:1033:13
+list-struct-differ-in-part-requires : (t : ℕ) → list-struct-lts.Need-differ-in-part-requires (list-struct-calls t) (list-struct-at t) list-struct.Post
+list-struct-differ-in-part-requires t c κs =
+    omega (arith, (c .before .before .before .before .before .before .before .before .before .before .before .before .before .before .pre .1 .0 .0 .few))
+
+-- src/coerce.rt:1034:9
+list-struct-under-requires : (t : ℕ) → list-struct-lts.Need-under-requires (list-struct-calls t) (list-struct-at t) list-struct.Post
+list-struct-under-requires t c κs =
+    (omega (arith, (c .before .before .before .before .before .before .before .before .before .before .before .before .before .before .before .before .before .pre .0)), (((c .before .before .before .before .before .before .before .before .before .before .before .before .before .before .before .before .before .pre .1 .0), omega arith), (c .before .before .before .before .before .before .before .before .before .before .before .before .before .before .before .before .before .pre .1 .1 .1)))
+
+-- src/coerce.rt:1034:9
+list-struct-same-length : (t : ℕ) → list-struct-lts.Need-same-length (list-struct-calls t) (list-struct-at t) list-struct.Post
+list-struct-same-length t c =
+    search needs
+
+-- src/coerce.rt:1034:9
+list-struct-same-length-2 : (t : ℕ) → list-struct-lts.Need-same-length-2 (list-struct-calls t) (list-struct-at t) list-struct.Post
+list-struct-same-length-2 t c =
+    search needs
+
+-- src/coerce.rt:1034:9
+list-struct-returns : (t : ℕ) → list-struct-lts.Need-returns (list-struct-calls t) (list-struct-at t) list-struct.Post
+list-struct-returns t c =
+    (listed-merged _ _ _ (c .before .before .before .before .before .before .before .before .before .before .before .before .before .before .before .before .before .before .before .before .before .before .args .swap) _ _ _ _ _ _ _ (c .before .before .before .before .before .before .before .before .before .before .before .before .before .before .before .before .before .look .ensures .0) (c .before .before .before .before .before .before .before .before .before .before .before .before .before .before .before .look2 .ensures .0) (c .before .before .before .before .before .before .before .before .before .before .before .before .before .same-arity .ensures) (c .before .before .before .before .before .before .before .before .before .before .before .have-same-names .ensures) (c .before .before .before .before .before .before .before .before .before .before .before .before .before .before .before .before .before .before .before .before .before .before .args .known) _ (c .before .before .before .before .before .before .before .differ-in-part .ensures) (sym (c .before .before .before .before .before .before .before .before .before .before .both .ensures) ∙ (c .before .before .before .before .before .before .before .before .before .if1 .taken)) (c .before .before .before .before .before .before .before .before .before .before .before .before .before .before .before .before .before .before .before .before .before .before .pre .1 .1 .0 .0) (c .before .before .before .before .before .before .before .before .before .before .before .before .before .before .before .before .before .before .before .before .before .before .pre .1 .1 .0 .1) _ _ (c .before .before .before .before .under .ensures .0), (c .before .before .before .before .under .ensures .1))
+
+-- src/coerce.rt:1007:1
+list-struct-same-length-3 : (t : ℕ) → list-struct-lts.Need-same-length-3 (list-struct-calls t) (list-struct-at t) list-struct.Post
+list-struct-same-length-3 t c =
+    search needs
+
+-- src/coerce.rt:1007:1
+list-struct-returns-2 : (t : ℕ) → list-struct-lts.Need-returns-2 (list-struct-calls t) (list-struct-at t) list-struct.Post
+list-struct-returns-2 t c =
+    (listed-none _ _ _ (c .before .before .before .before .before .before .before .before .before .before .before .before .before .args .swap) _ _ _ _ _ _ _ (c .before .before .before .before .before .before .before .before .look .ensures .0) (c .before .before .before .before .before .before .look2 .ensures .0) (c .before .before .before .before .same-arity .ensures) (c .before .before .have-same-names .ensures) (sym (c .before .both .ensures) ∙ (c .if1 .left)), (c .before .before .before .before .before .before .before .before .before .before .before .before .before .pre .1 .1 .1))
+
+-- src/coerce.rt:1077:17
+map-rule-add-label : (t : ℕ) → map-rule-lts.Need-add-label (map-rule-calls t) (map-rule-at t) map-rule.Post
+map-rule-add-label t c =
+    search needs
+
+-- src/coerce.rt:1079:9
+map-rule-returns : (t : ℕ) → map-rule-lts.Need-returns (map-rule-calls t) (map-rule-at t) map-rule.Post
+map-rule-returns t c =
+    (any-known _ (c .before .before .before .before .before .before .args .swap) (merges-full _ _ _ _ _ _ _ _ _ (c .if1 .taken)), (c .before .before .before .before .before .before .pre .1 .1))
+
+-- src/coerce.rt:1081:9
+map-rule-look-requires : (t : ℕ) → map-rule-lts.Need-look-requires (map-rule-calls t) (map-rule-at t) map-rule.Post
+map-rule-look-requires t c κs =
+    search needs
+
+-- src/coerce.rt:1082:9
+map-rule-look-requires-2 : (t : ℕ) → map-rule-lts.Need-look-requires-2 (map-rule-calls t) (map-rule-at t) map-rule.Post
+map-rule-look-requires-2 t c κs =
+    search needs
+
+-- src/coerce.rt:1085:9
+map-rule-both-requires : (t : ℕ) → map-rule-lts.Need-both-requires (map-rule-calls t) (map-rule-at t) map-rule.Post
+map-rule-both-requires t c κs =
+    search needs
+
+-- src/coerce.rt:1087:9
+map-rule-same-length : (t : ℕ) → map-rule-lts.Need-same-length (map-rule-calls t) (map-rule-at t) map-rule.Post
+map-rule-same-length t c =
+    search needs
+
+-- src/coerce.rt:1087:9
+map-rule-returns-2 : (t : ℕ) → map-rule-lts.Need-returns-2 (map-rule-calls t) (map-rule-at t) map-rule.Post
+map-rule-returns-2 t c =
+    (map-left-end _ _ _ _ _ _ _ _ _ _ _ (c .before .before .before .before .before .before .look .ensures .0) (c .before .before .before .before .look2 .ensures .0) (c .if2 .taken), (c .before .before .before .before .before .before .before .before .before .before .before .before .before .before .pre .1 .1))
+
+-- src/coerce.rt:1090:9
+map-rule-same-length-2 : (t : ℕ) → map-rule-lts.Need-same-length-2 (map-rule-calls t) (map-rule-at t) map-rule.Post
+map-rule-same-length-2 t c =
+    search needs
+
+-- src/coerce.rt:1090:9
+map-rule-returns-3 : (t : ℕ) → map-rule-lts.Need-returns-3 (map-rule-calls t) (map-rule-at t) map-rule.Post
+map-rule-returns-3 t c =
+    (map-right-end _ _ _ _ _ _ _ _ _ _ _ (c .before .before .before .before .before .before .before .look .ensures .0) (c .before .before .before .before .before .look2 .ensures .0) (c .if3 .taken), (c .before .before .before .before .before .before .before .before .before .before .before .before .before .before .before .pre .1 .1))
+
+-- src/coerce.rt:1092:9
+map-rule-differ-in-part-requires : (t : ℕ) → map-rule-lts.Need-differ-in-part-requires (map-rule-calls t) (map-rule-at t) map-rule.Post
+map-rule-differ-in-part-requires t c κs =
+    omega (arith, (c .before .before .before .before .before .before .before .before .before .before .before .before .before .before .before .before .pre .1 .0 .0 .few))
+
+-- src/coerce.rt:1093:46
+map-rule-add-lay : (t : ℕ) → map-rule-lts.Need-add-lay (map-rule-calls t) (map-rule-at t) map-rule.Post
+map-rule-add-lay t c =
+    record { fits = omega (arith, (c .before .before .before .before .before .before .before .before .before .before .before .before .if1 .left), (c .before .before .before .before .before .before .before .before .before .before .before .before .before .before .before .before .before .before .pre .1 .0 .0 .few)) }
+
+-- src/coerce.rt:1093:5
+map-rule-lay-requires : (t : ℕ) → map-rule-lts.Need-lay-requires (map-rule-calls t) (map-rule-at t) map-rule.Post
+map-rule-lay-requires t c κs =
+    ((c .before .before .before .before .before .before .before .before .before .before .before .before .before .before .before .before .before .before .pre .1 .0), ((c .before .before .before .before .before .before .before .before .before .before .before .before .if1 .left), (omega arith, omega (arith, (c .before .before .before .before .before .before .before .before .before .before .before .before .if1 .left), (c .before .before .before .before .before .before .before .before .before .before .before .before .before .before .before .before .before .before .pre .1 .0 .0 .few)))))
+
+-- src/coerce.rt:1106:20
+map-rule-add-t36 : (t : ℕ) → map-rule-lts.Need-add-t36 (map-rule-calls t) (map-rule-at t) map-rule.Post
+map-rule-add-t36 t c =
+    record { fits = omega (arith, (c .before .before .before .before .before .before .before .before .before .before .before .before .before .before .before .before .before .if1 .left), (c .before .before .before .before .before .before .before .before .before .before .before .before .before .before .before .before .before .before .before .before .before .before .before .pre .1 .0 .0 .few)) }
+
+-- src/coerce.rt:1094:5
+map-rule-entry-requires : (t : ℕ) → map-rule-lts.Need-entry-requires (map-rule-calls t) (map-rule-at t) map-rule.Post
+map-rule-entry-requires t c κs =
+    (omega (arith, (c .before .before .before .before .before .before .before .before .before .before .before .before .before .before .before .before .before .before .before .before .before .before .before .pre .0)), ((room-kept ((c .before .before .before .before .lay .ensures .kept)) (c .before .before .before .before .before .before .before .before .before .before .before .before .before .before .before .before .before .before .before .before .before .before .before .pre .1 .0 .0), after-passes _ (c .before .before .before .before .before .before .before .before .before .before .before .before .before .before .before .before .before .before .before .before .before .before .before .pre .1 .0 .1) (c .before .before .before .before .before .before .before .before .before .before .before .before .before .before .before .before .before .if1 .left) .0), tabled-over (c .before .before .before .before .before .before .before .before .before .before .before .before .before .before .before .before .before .before .before .before .before .before .before .pre .1 .0 .0) ((c .before .before .before .before .lay .ensures .kept)) (c .before .before .before .before .before .before .before .before .before .before .before .before .before .before .before .before .before .before .before .before .before .before .before .pre .1 .1)))
+
+-- src/coerce.rt:1057:1
+map-rule-same-length-3 : (t : ℕ) → map-rule-lts.Need-same-length-3 (map-rule-calls t) (map-rule-at t) map-rule.Post
+map-rule-same-length-3 t c =
+    search needs
+
+-- src/coerce.rt:1057:1
+map-rule-same-length-4 : (t : ℕ) → map-rule-lts.Need-same-length-4 (map-rule-calls t) (map-rule-at t) map-rule.Post
+map-rule-same-length-4 t c =
+    search needs
+
+-- src/coerce.rt:1057:1
+map-rule-returns-4 : (t : ℕ) → map-rule-lts.Need-returns-4 (map-rule-calls t) (map-rule-at t) map-rule.Post
+map-rule-returns-4 t c =
+    (map-on _ _ _ _ _ _ _ _ _ _ _ (c .before .before .before .before .before .before .before .before .before .before .before .before .before .before .before .before .before .before .before .before .look .ensures .0) (c .before .before .before .before .before .before .before .before .before .before .before .before .before .before .before .before .before .before .look2 .ensures .0) (c .before .before .before .before .before .before .before .before .before .before .before .before .before .before .before .before .before .before .before .before .before .before .before .before .before .before .before .before .pre .1 .0 .0) (c .before .before .before .before .before .before .before .before .before .before .before .before .before .before .before .before .before .before .before .before .before .before .before .before .before .before .before .before .pre .1 .0 .1) (c .before .before .before .before .before .before .before .before .before .before .before .before .before .before .before .before .before .before .before .before .before .before .if1 .left) _ _ _ _ (c .before .before .before .before .before .before .before .before .before .before .before .before .before .before .before .both .ensures) (c .before .before .before .before .before .before .before .before .before .before .before .before .before .before .if2 .left) (c .before .before .before .before .before .before .before .before .before .before .before .before .before .if3 .left) (c .before .before .before .before .before .before .before .before .before .lay .ensures) (c .before .before .before .before .before .before .before .before .before .before .before .before .before .before .before .before .before .before .before .before .before .before .before .before .before .before .before .before .args .known) _ (c .before .before .before .before .before .before .before .before .before .before .before .differ-in-part .ensures) (c .before .before .before .before .entry .ensures .0), (c .before .before .before .before .entry .ensures .1))
+
+-- src/coerce.rt:771:9
+nested-kind-at-requires : (t : ℕ) → nested-lts.Need-kind-at-requires (nested-calls t) (nested-at t) nested.Post
+nested-kind-at-requires t c κs =
+    search needs
+
+-- src/coerce.rt:772:9
+nested-kind-at-requires-2 : (t : ℕ) → nested-lts.Need-kind-at-requires-2 (nested-calls t) (nested-at t) nested.Post
+nested-kind-at-requires-2 t c κs =
+    search needs
+
+-- src/coerce.rt:773:13
+nested-is-list-requires : (t : ℕ) → nested-lts.Need-is-list-requires (nested-calls t) (nested-at t) nested.Post
+nested-is-list-requires t c κs =
+    search needs
+
+-- src/coerce.rt:773:25
+nested-is-list-requires-2 : (t : ℕ) → nested-lts.Need-is-list-requires-2 (nested-calls t) (nested-at t) nested.Post
+nested-is-list-requires-2 t c κs =
+    search needs
+
+-- src/coerce.rt:773:8
+nested-both-requires : (t : ℕ) → nested-lts.Need-both-requires (nested-calls t) (nested-at t) nested.Post
+nested-both-requires t c κs =
+    search needs
+
+-- src/coerce.rt:774:9
+nested-list-rule-requires : (t : ℕ) → nested-lts.Need-list-rule-requires (nested-calls t) (nested-at t) nested.Post
+nested-list-rule-requires t c κs =
+    (omega (arith, (c .before .before .before .before .before .before .before .before .before .before .before .before .before .pre .0)), ((c .before .before .before .before .before .before .before .before .before .before .before .before .before .pre .1 .0), (c .before .before .before .before .before .before .before .before .before .before .before .before .before .pre .1 .1)))
+
+-- src/coerce.rt:774:9
+nested-same-length : (t : ℕ) → nested-lts.Need-same-length (nested-calls t) (nested-at t) nested.Post
+nested-same-length t c =
+    search needs
+
+-- src/coerce.rt:774:9
+nested-same-length-2 : (t : ℕ) → nested-lts.Need-same-length-2 (nested-calls t) (nested-at t) nested.Post
+nested-same-length-2 t c =
+    search needs
+
+-- src/coerce.rt:774:9
+nested-returns : (t : ℕ) → nested-lts.Need-returns (nested-calls t) (nested-at t) nested.Post
+nested-returns t c =
+    (nested-list (c .before .before .before .before .before .before .before .before .before .before .before .before .before .before .before .before .before .before .args .known) _ _ _ _ _ (c .before .before .before .before .before .before .before .before .before .before .before .before .before .before .before .before .before .before .args .swap) _ _ _ _ _ (c .before .before .before .before .before .before .before .before .before .before .before .before .before .kind-at .ensures) (c .before .before .before .before .before .before .before .before .before .before .before .kind-at2 .ensures) _ _ (and-are (c .before .before .before .before .before .before .before .before .before .before .is-list .ensures) (c .before .before .before .before .before .before .before .before .before .is-list2 .ensures) (c .before .before .before .before .before .before .before .before .both .ensures) ∙ (c .before .before .before .before .before .before .before .if1 .taken)) (c .before .before .before .before .list-rule .ensures .0), (c .before .before .before .before .list-rule .ensures .1))
+
+-- src/coerce.rt:789:8
+nested-both-requires-2 : (t : ℕ) → nested-lts.Need-both-requires-2 (nested-calls t) (nested-at t) nested.Post
+nested-both-requires-2 t c κs =
+    search needs
+
+-- src/coerce.rt:790:12
+nested-is-list-question-requires : (t : ℕ) → nested-lts.Need-is-list-question-requires (nested-calls t) (nested-at t) nested.Post
+nested-is-list-question-requires t c κs =
+    search needs
+
+-- src/coerce.rt:791:13
+nested-list-struct-requires : (t : ℕ) → nested-lts.Need-list-struct-requires (nested-calls t) (nested-at t) nested.Post
+nested-list-struct-requires t c κs =
+    (omega (arith, (c .before .before .before .before .before .before .before .before .before .before .before .before .before .before .before .before .before .pre .0)), ((c .before .before .before .before .before .before .before .before .before .before .before .before .before .before .before .before .before .pre .1 .0), (both-are _ _ _ _ _ _ (c .before .before .before .before .before .before .before .before .before .before .before .before .kind-at .ensures) (c .before .before .before .before .before .before .before .before .before .before .kind-at2 .ensures) (sym (c .before .before .before .before .before .both2 .ensures) ∙ (c .before .before .before .before .if2 .taken)), (c .before .before .before .before .before .before .before .before .before .before .before .before .before .before .before .before .before .pre .1 .1))))
+
+-- src/coerce.rt:791:13
+nested-same-length-3 : (t : ℕ) → nested-lts.Need-same-length-3 (nested-calls t) (nested-at t) nested.Post
+nested-same-length-3 t c =
+    search needs
+
+-- src/coerce.rt:791:13
+nested-same-length-4 : (t : ℕ) → nested-lts.Need-same-length-4 (nested-calls t) (nested-at t) nested.Post
+nested-same-length-4 t c =
+    search needs
+
+-- src/coerce.rt:791:13
+nested-returns-2 : (t : ℕ) → nested-lts.Need-returns-2 (nested-calls t) (nested-at t) nested.Post
+nested-returns-2 t c =
+    (nested-listed (c .before .before .before .before .before .before .before .before .before .before .before .before .before .before .before .before .before .before .before .before .before .before .args .known) _ _ _ _ _ (c .before .before .before .before .before .before .before .before .before .before .before .before .before .before .before .before .before .before .before .before .before .before .args .swap) _ _ _ _ _ (c .before .before .before .before .before .before .before .before .before .before .before .before .before .before .before .before .before .kind-at .ensures) (c .before .before .before .before .before .before .before .before .before .before .before .before .before .before .before .kind-at2 .ensures) _ _ (and-are (c .before .before .before .before .before .before .before .before .before .before .before .before .before .before .is-list .ensures) (c .before .before .before .before .before .before .before .before .before .before .before .before .before .is-list2 .ensures) (c .before .before .before .before .before .before .before .before .before .before .before .before .both .ensures) ∙ (c .before .before .before .before .before .before .before .before .before .before .before .if1 .left)) (sym (c .before .before .before .before .before .before .before .before .before .before .both2 .ensures) ∙ (c .before .before .before .before .before .before .before .before .before .if2 .taken)) (sym (c .before .before .before .before .before .before .before .before .is-list-question .ensures) ∙ (c .before .before .before .before .before .before .before .if3 .taken)) (c .before .before .before .before .list-struct .ensures .0), (c .before .before .before .before .list-struct .ensures .1))
+
+-- src/coerce.rt:806:9
+nested-struct-rule-requires : (t : ℕ) → nested-lts.Need-struct-rule-requires (nested-calls t) (nested-at t) nested.Post
+nested-struct-rule-requires t c κs =
+    (omega (arith, (c .before .before .before .before .before .before .before .before .before .before .before .before .before .before .before .before .before .pre .0)), ((c .before .before .before .before .before .before .before .before .before .before .before .before .before .before .before .before .before .pre .1 .0), (c .before .before .before .before .before .before .before .before .before .before .before .before .before .before .before .before .before .pre .1 .1)))
+
+-- src/coerce.rt:806:9
+nested-same-length-5 : (t : ℕ) → nested-lts.Need-same-length-5 (nested-calls t) (nested-at t) nested.Post
+nested-same-length-5 t c =
+    search needs
+
+-- src/coerce.rt:806:9
+nested-same-length-6 : (t : ℕ) → nested-lts.Need-same-length-6 (nested-calls t) (nested-at t) nested.Post
+nested-same-length-6 t c =
+    search needs
+
+-- src/coerce.rt:806:9
+nested-returns-3 : (t : ℕ) → nested-lts.Need-returns-3 (nested-calls t) (nested-at t) nested.Post
+nested-returns-3 t c =
+    (nested-struct (c .before .before .before .before .before .before .before .before .before .before .before .before .before .before .before .before .before .before .before .before .before .before .args .known) _ _ _ _ _ (c .before .before .before .before .before .before .before .before .before .before .before .before .before .before .before .before .before .before .before .before .before .before .args .swap) _ _ _ _ _ (c .before .before .before .before .before .before .before .before .before .before .before .before .before .before .before .before .before .kind-at .ensures) (c .before .before .before .before .before .before .before .before .before .before .before .before .before .before .before .kind-at2 .ensures) _ _ (and-are (c .before .before .before .before .before .before .before .before .before .before .before .before .before .before .is-list .ensures) (c .before .before .before .before .before .before .before .before .before .before .before .before .before .is-list2 .ensures) (c .before .before .before .before .before .before .before .before .before .before .before .before .both .ensures) ∙ (c .before .before .before .before .before .before .before .before .before .before .before .if1 .left)) (sym (c .before .before .before .before .before .before .before .before .before .before .both2 .ensures) ∙ (c .before .before .before .before .before .before .before .before .before .if2 .taken)) (sym (c .before .before .before .before .before .before .before .before .is-list-question .ensures) ∙ (c .before .before .before .before .before .before .before .if3 .left)) (c .before .before .before .before .struct-rule .ensures .0), (c .before .before .before .before .struct-rule .ensures .1))
+
+-- src/coerce.rt:821:8
+nested-both-requires-3 : (t : ℕ) → nested-lts.Need-both-requires-3 (nested-calls t) (nested-at t) nested.Post
+nested-both-requires-3 t c κs =
+    search needs
+
+-- src/coerce.rt:822:9
+nested-map-rule-requires : (t : ℕ) → nested-lts.Need-map-rule-requires (nested-calls t) (nested-at t) nested.Post
+nested-map-rule-requires t c κs =
+    (omega (arith, (c .before .before .before .before .before .before .before .before .before .before .before .before .before .before .before .before .before .pre .0)), ((c .before .before .before .before .before .before .before .before .before .before .before .before .before .before .before .before .before .pre .1 .0), (c .before .before .before .before .before .before .before .before .before .before .before .before .before .before .before .before .before .pre .1 .1)))
+
+-- src/coerce.rt:822:9
+nested-same-length-7 : (t : ℕ) → nested-lts.Need-same-length-7 (nested-calls t) (nested-at t) nested.Post
+nested-same-length-7 t c =
+    search needs
+
+-- src/coerce.rt:822:9
+nested-same-length-8 : (t : ℕ) → nested-lts.Need-same-length-8 (nested-calls t) (nested-at t) nested.Post
+nested-same-length-8 t c =
+    search needs
+
+-- src/coerce.rt:822:9
+nested-returns-4 : (t : ℕ) → nested-lts.Need-returns-4 (nested-calls t) (nested-at t) nested.Post
+nested-returns-4 t c =
+    (nested-map (c .before .before .before .before .before .before .before .before .before .before .before .before .before .before .before .before .before .before .before .before .before .before .args .known) _ _ _ _ _ (c .before .before .before .before .before .before .before .before .before .before .before .before .before .before .before .before .before .before .before .before .before .before .args .swap) _ _ _ _ _ (c .before .before .before .before .before .before .before .before .before .before .before .before .before .before .before .before .before .kind-at .ensures) (c .before .before .before .before .before .before .before .before .before .before .before .before .before .before .before .kind-at2 .ensures) _ _ (and-are (c .before .before .before .before .before .before .before .before .before .before .before .before .before .before .is-list .ensures) (c .before .before .before .before .before .before .before .before .before .before .before .before .before .is-list2 .ensures) (c .before .before .before .before .before .before .before .before .before .before .before .before .both .ensures) ∙ (c .before .before .before .before .before .before .before .before .before .before .before .if1 .left)) (sym (c .before .before .before .before .before .before .before .before .before .before .both2 .ensures) ∙ (c .before .before .before .before .before .before .before .before .before .if2 .left)) (sym (c .before .before .before .before .before .before .before .before .both3 .ensures) ∙ (c .before .before .before .before .before .before .before .if4 .taken)) (c .before .before .before .before .map-rule .ensures .0), (c .before .before .before .before .map-rule .ensures .1))
+
+-- src/coerce.rt:837:5
+nested-plain-rule-requires : (t : ℕ) → nested-lts.Need-plain-rule-requires (nested-calls t) (nested-at t) nested.Post
+nested-plain-rule-requires t c κs =
+    (c .before .before .before .before .before .before .before .before .before .before .before .before .before .before .before .before .pre .1 .0)
+
+-- src/coerce.rt:752:1
+nested-same-length-9 : (t : ℕ) → nested-lts.Need-same-length-9 (nested-calls t) (nested-at t) nested.Post
+nested-same-length-9 t c =
+    search needs
+
+-- src/coerce.rt:752:1
+nested-returns-5 : (t : ℕ) → nested-lts.Need-returns-5 (nested-calls t) (nested-at t) nested.Post
+nested-returns-5 t c =
+    (nested-plain (c .before .before .before .before .before .before .before .before .before .before .before .before .before .before .before .before .before .before .before .args .known) _ _ _ _ _ (c .before .before .before .before .before .before .before .before .before .before .before .before .before .before .before .before .before .before .before .args .swap) _ _ _ _ _ (c .before .before .before .before .before .before .before .before .before .before .before .before .before .before .kind-at .ensures) (c .before .before .before .before .before .before .before .before .before .before .before .before .kind-at2 .ensures) _ _ (and-are (c .before .before .before .before .before .before .before .before .before .before .before .is-list .ensures) (c .before .before .before .before .before .before .before .before .before .before .is-list2 .ensures) (c .before .before .before .before .before .before .before .before .before .both .ensures) ∙ (c .before .before .before .before .before .before .before .before .if1 .left)) (sym (c .before .before .before .before .before .before .before .both2 .ensures) ∙ (c .before .before .before .before .before .before .if2 .left)) (sym (c .before .before .before .before .before .both3 .ensures) ∙ (c .before .before .before .before .if4 .left)) (c .before .before .plain-rule .ensures), tabled-over (c .before .before .before .before .before .before .before .before .before .before .before .before .before .before .before .before .before .before .before .pre .1 .0 .0) ((c .before .before .plain-rule .ensures) 0 .writes .kept) (c .before .before .before .before .before .before .before .before .before .before .before .before .before .before .before .before .before .before .before .pre .1 .1))
+
+-- src/coerce.rt:262:9
+resolve-kind-at-requires : (t : ℕ) → resolve-lts.Need-kind-at-requires (resolve-calls t) (resolve-at t) resolve.Post
+resolve-kind-at-requires t c κs =
+    search needs
+
+-- src/coerce.rt:263:9
+resolve-kind-at-requires-2 : (t : ℕ) → resolve-lts.Need-kind-at-requires-2 (resolve-calls t) (resolve-at t) resolve.Post
+resolve-kind-at-requires-2 t c κs =
+    search needs
+
+-- src/coerce.rt:264:8
+resolve-either-requires : (t : ℕ) → resolve-lts.Need-either-requires (resolve-calls t) (resolve-at t) resolve.Post
+resolve-either-requires t c κs =
+    search needs
+
+-- src/coerce.rt:265:9
+resolve-resolve-wrapper-requires : (t : ℕ) → resolve-lts.Need-resolve-wrapper-requires (resolve-calls t) (resolve-at t) resolve.Post
+resolve-resolve-wrapper-requires t c κs =
+    (omega (arith, (c .before .before .before .before .before .before .before .before .before .before .before .pre .0)), ((c .before .before .before .before .before .before .before .before .before .before .before .pre .1 .0), ((refl, (c .before .before .before .before .before .before .before .before .before .before .before .pre .1 .1 .0)), (c .before .before .before .before .before .before .before .before .before .before .before .pre .1 .1 .1))))
+
+-- src/coerce.rt:265:9
+resolve-same-length : (t : ℕ) → resolve-lts.Need-same-length (resolve-calls t) (resolve-at t) resolve.Post
+resolve-same-length t c =
+    search needs
+
+-- src/coerce.rt:265:9
+resolve-same-length-2 : (t : ℕ) → resolve-lts.Need-same-length-2 (resolve-calls t) (resolve-at t) resolve.Post
+resolve-same-length-2 t c =
+    search needs
+
+-- src/coerce.rt:265:9
+resolve-returns : (t : ℕ) → resolve-lts.Need-returns (resolve-calls t) (resolve-at t) resolve.Post
+resolve-returns t c =
+    (resolve-dictionary _ _ _ _ (c .before .before .before .before .before .before .before .before .before .before .before .before .before .before .before .before .args .swap) _ _ _ _ _ (c .before .before .before .before .before .before .before .before .before .before .before .kind-at .ensures) (c .before .before .before .before .before .before .before .before .before .kind-at2 .ensures) _ _ (sym (c .before .before .before .before .before .before .before .before .either .ensures) ∙ (c .before .before .before .before .before .before .before .if1 .taken)) (c .before .before .before .before .resolve-wrapper .ensures .0), (c .before .before .before .before .resolve-wrapper .ensures .1))
+
+-- src/coerce.rt:280:8
+resolve-either-requires-2 : (t : ℕ) → resolve-lts.Need-either-requires-2 (resolve-calls t) (resolve-at t) resolve.Post
+resolve-either-requires-2 t c κs =
+    search needs
+
+-- src/coerce.rt:281:9
+resolve-resolve-wrapper-requires-2 : (t : ℕ) → resolve-lts.Need-resolve-wrapper-requires-2 (resolve-calls t) (resolve-at t) resolve.Post
+resolve-resolve-wrapper-requires-2 t c κs =
+    (omega (arith, (c .before .before .before .before .before .before .before .before .before .before .before .before .before .pre .0)), ((c .before .before .before .before .before .before .before .before .before .before .before .before .before .pre .1 .0), ((refl, (c .before .before .before .before .before .before .before .before .before .before .before .before .before .pre .1 .1 .0)), (c .before .before .before .before .before .before .before .before .before .before .before .before .before .pre .1 .1 .1))))
+
+-- src/coerce.rt:281:9
+resolve-same-length-3 : (t : ℕ) → resolve-lts.Need-same-length-3 (resolve-calls t) (resolve-at t) resolve.Post
+resolve-same-length-3 t c =
+    search needs
+
+-- src/coerce.rt:281:9
+resolve-same-length-4 : (t : ℕ) → resolve-lts.Need-same-length-4 (resolve-calls t) (resolve-at t) resolve.Post
+resolve-same-length-4 t c =
+    search needs
+
+-- src/coerce.rt:281:9
+resolve-returns-2 : (t : ℕ) → resolve-lts.Need-returns-2 (resolve-calls t) (resolve-at t) resolve.Post
+resolve-returns-2 t c =
+    (resolve-runs _ _ _ _ (c .before .before .before .before .before .before .before .before .before .before .before .before .before .before .before .before .before .before .args .swap) _ _ _ _ _ (c .before .before .before .before .before .before .before .before .before .before .before .before .before .kind-at .ensures) (c .before .before .before .before .before .before .before .before .before .before .before .kind-at2 .ensures) _ _ (sym (c .before .before .before .before .before .before .before .before .before .before .either .ensures) ∙ (c .before .before .before .before .before .before .before .before .before .if1 .left)) (sym (c .before .before .before .before .before .before .before .before .either2 .ensures) ∙ (c .before .before .before .before .before .before .before .if2 .taken)) (c .before .before .before .before .resolve-wrapper2 .ensures .0), (c .before .before .before .before .resolve-wrapper2 .ensures .1))
+
+-- src/coerce.rt:296:5
+resolve-nested-requires : (t : ℕ) → resolve-lts.Need-nested-requires (resolve-calls t) (resolve-at t) resolve.Post
+resolve-nested-requires t c κs =
+    (omega (arith, (c .before .before .before .before .before .before .before .before .before .before .before .before .before .pre .0)), ((c .before .before .before .before .before .before .before .before .before .before .before .before .before .pre .1 .0), (c .before .before .before .before .before .before .before .before .before .before .before .before .before .pre .1 .1 .1)))
+
+-- src/coerce.rt:243:1
+resolve-same-length-5 : (t : ℕ) → resolve-lts.Need-same-length-5 (resolve-calls t) (resolve-at t) resolve.Post
+resolve-same-length-5 t c =
+    search needs
+
+-- src/coerce.rt:243:1
+resolve-same-length-6 : (t : ℕ) → resolve-lts.Need-same-length-6 (resolve-calls t) (resolve-at t) resolve.Post
+resolve-same-length-6 t c =
+    search needs
+
+-- src/coerce.rt:243:1
+resolve-returns-3 : (t : ℕ) → resolve-lts.Need-returns-3 (resolve-calls t) (resolve-at t) resolve.Post
+resolve-returns-3 t c =
+    (resolve-nested _ _ _ _ (c .before .before .before .before .before .before .before .before .before .before .before .before .before .before .before .before .before .before .args .swap) _ _ _ _ _ (c .before .before .before .before .before .before .before .before .before .before .before .before .before .kind-at .ensures) (c .before .before .before .before .before .before .before .before .before .before .before .kind-at2 .ensures) _ _ (sym (c .before .before .before .before .before .before .before .before .before .before .either .ensures) ∙ (c .before .before .before .before .before .before .before .before .before .if1 .left)) (sym (c .before .before .before .before .before .before .before .before .either2 .ensures) ∙ (c .before .before .before .before .before .before .before .if2 .left)) (none-known (c .before .before .before .before .before .before .before .before .before .before .before .before .before .before .before .before .before .before .args .swap) (c .before .before .before .before .nested .ensures .0)), (c .before .before .before .before .nested .ensures .1))
+
+-- src/coerce.rt:333:9
+resolve-wrapper-kind-at-requires : (t : ℕ) → resolve-wrapper-lts.Need-kind-at-requires (resolve-wrapper-calls t) (resolve-wrapper-at t) resolve-wrapper.Post
+resolve-wrapper-kind-at-requires t c κs =
+    search needs
+
+-- src/coerce.rt:334:9
+resolve-wrapper-kind-at-requires-2 : (t : ℕ) → resolve-wrapper-lts.Need-kind-at-requires-2 (resolve-wrapper-calls t) (resolve-wrapper-at t) resolve-wrapper.Post
+resolve-wrapper-kind-at-requires-2 t c κs =
+    search needs
+
+-- src/coerce.rt:337:13
+resolve-wrapper-both-parts-requires : (t : ℕ) → resolve-wrapper-lts.Need-both-parts-requires (resolve-wrapper-calls t) (resolve-wrapper-at t) resolve-wrapper.Post
+resolve-wrapper-both-parts-requires t c κs =
+    (omega (arith, (c .before .before .before .before .before .before .before .before .before .before .before .pre .0)), ((c .before .before .before .before .before .before .before .before .before .before .before .pre .1 .0), (c .before .before .before .before .before .before .before .before .before .before .before .pre .1 .1 .1)))
+
+-- src/coerce.rt:337:13
+resolve-wrapper-same-length : (t : ℕ) → resolve-wrapper-lts.Need-same-length (resolve-wrapper-calls t) (resolve-wrapper-at t) resolve-wrapper.Post
+resolve-wrapper-same-length t c =
+    search needs
+
+-- src/coerce.rt:337:13
+resolve-wrapper-same-length-2 : (t : ℕ) → resolve-wrapper-lts.Need-same-length-2 (resolve-wrapper-calls t) (resolve-wrapper-at t) resolve-wrapper.Post
+resolve-wrapper-same-length-2 t c =
+    search needs
+
+-- src/coerce.rt:337:13
+resolve-wrapper-returns : (t : ℕ) → resolve-wrapper-lts.Need-returns (resolve-wrapper-calls t) (resolve-wrapper-at t) resolve-wrapper.Post
+resolve-wrapper-returns t c =
+    (wrap-both _ _ _ (c .before .before .before .before .before .before .before .before .before .before .before .before .before .before .before .before .args .swap) _ _ _ _ _ (c .before .before .before .before .before .before .before .before .before .before .before .kind-at .ensures) (c .before .before .before .before .before .before .before .before .before .kind-at2 .ensures) (c .before .before .before .before .before .before .before .before .before .before .before .before .before .before .before .before .pre .1 .1 .0 .0) _ _ (c .before .before .before .before .before .before .before .before .if1 .taken) (c .before .before .before .before .before .before .before .if2 .taken) (c .before .before .before .before .both-parts .ensures .0), (c .before .before .before .before .both-parts .ensures .1))
+
+-- src/coerce.rt:351:9
+resolve-wrapper-rewrapped-requires : (t : ℕ) → resolve-wrapper-lts.Need-rewrapped-requires (resolve-wrapper-calls t) (resolve-wrapper-at t) resolve-wrapper.Post
+resolve-wrapper-rewrapped-requires t c κs =
+    (omega (arith, (c .before .before .before .before .before .before .before .before .before .before .before .pre .0)), ((c .before .before .before .before .before .before .before .before .before .before .before .pre .1 .0), (((c .before .before .before .before .before .before .before .before .before .before .before .pre .1 .1 .0 .0), (sym (c .before .before .before .before .before .before .kind-at .ensures) ∙ (c .before .before .before .if1 .taken), (c .before .before .before .before .before .before .before .before .before .before .before .pre .1 .1 .0 .1))), (c .before .before .before .before .before .before .before .before .before .before .before .pre .1 .1 .1))))
+
+-- src/coerce.rt:351:9
+resolve-wrapper-same-length-3 : (t : ℕ) → resolve-wrapper-lts.Need-same-length-3 (resolve-wrapper-calls t) (resolve-wrapper-at t) resolve-wrapper.Post
+resolve-wrapper-same-length-3 t c =
+    search needs
+
+-- src/coerce.rt:351:9
+resolve-wrapper-same-length-4 : (t : ℕ) → resolve-wrapper-lts.Need-same-length-4 (resolve-wrapper-calls t) (resolve-wrapper-at t) resolve-wrapper.Post
+resolve-wrapper-same-length-4 t c =
+    search needs
+
+-- src/coerce.rt:351:9
+resolve-wrapper-returns-2 : (t : ℕ) → resolve-wrapper-lts.Need-returns-2 (resolve-wrapper-calls t) (resolve-wrapper-at t) resolve-wrapper.Post
+resolve-wrapper-returns-2 t c =
+    (wrap-left _ _ _ (c .before .before .before .before .before .before .before .before .before .before .before .before .before .before .before .before .args .swap) _ _ _ _ _ (c .before .before .before .before .before .before .before .before .before .before .before .kind-at .ensures) (c .before .before .before .before .before .before .before .before .before .kind-at2 .ensures) (c .before .before .before .before .before .before .before .before .before .before .before .before .before .before .before .before .pre .1 .1 .0 .0) _ _ (c .before .before .before .before .before .before .before .before .if1 .taken) (c .before .before .before .before .before .before .before .if2 .left) (c .before .before .before .before .rewrapped .ensures .0), (c .before .before .before .before .rewrapped .ensures .1))
+
+-- src/coerce.rt:367:9
+resolve-wrapper-rewrapped-requires-2 : (t : ℕ) → resolve-wrapper-lts.Need-rewrapped-requires-2 (resolve-wrapper-calls t) (resolve-wrapper-at t) resolve-wrapper.Post
+resolve-wrapper-rewrapped-requires-2 t c κs =
+    (omega (arith, (c .before .before .before .before .before .before .before .before .before .before .before .pre .0)), ((c .before .before .before .before .before .before .before .before .before .before .before .pre .1 .0), (((c .before .before .before .before .before .before .before .before .before .before .before .pre .1 .1 .0 .0), (sym (c .before .before .before .before .kind-at2 .ensures) ∙ (c .before .before .if3 .taken), (c .before .before .before .before .before .before .before .before .before .before .before .pre .1 .1 .0 .1))), (c .before .before .before .before .before .before .before .before .before .before .before .pre .1 .1 .1))))
+
+-- src/coerce.rt:367:9
+resolve-wrapper-same-length-5 : (t : ℕ) → resolve-wrapper-lts.Need-same-length-5 (resolve-wrapper-calls t) (resolve-wrapper-at t) resolve-wrapper.Post
+resolve-wrapper-same-length-5 t c =
+    search needs
+
+-- src/coerce.rt:367:9
+resolve-wrapper-same-length-6 : (t : ℕ) → resolve-wrapper-lts.Need-same-length-6 (resolve-wrapper-calls t) (resolve-wrapper-at t) resolve-wrapper.Post
+resolve-wrapper-same-length-6 t c =
+    search needs
+
+-- src/coerce.rt:367:9
+resolve-wrapper-returns-3 : (t : ℕ) → resolve-wrapper-lts.Need-returns-3 (resolve-wrapper-calls t) (resolve-wrapper-at t) resolve-wrapper.Post
+resolve-wrapper-returns-3 t c =
+    (wrap-right _ _ _ (c .before .before .before .before .before .before .before .before .before .before .before .before .before .before .before .before .args .swap) _ _ _ _ _ (c .before .before .before .before .before .before .before .before .before .before .before .kind-at .ensures) (c .before .before .before .before .before .before .before .before .before .kind-at2 .ensures) (c .before .before .before .before .before .before .before .before .before .before .before .before .before .before .before .before .pre .1 .1 .0 .0) _ _ (c .before .before .before .before .before .before .before .before .if1 .left) (c .before .before .before .before .before .before .before .if3 .taken) (c .before .before .before .before .rewrapped2 .ensures .0), (c .before .before .before .before .rewrapped2 .ensures .1))
+
+-- src/coerce.rt:313:1
+resolve-wrapper-same-length-7 : (t : ℕ) → resolve-wrapper-lts.Need-same-length-7 (resolve-wrapper-calls t) (resolve-wrapper-at t) resolve-wrapper.Post
+resolve-wrapper-same-length-7 t c =
+    search needs
+
+-- src/coerce.rt:313:1
+resolve-wrapper-returns-4 : (t : ℕ) → resolve-wrapper-lts.Need-returns-4 (resolve-wrapper-calls t) (resolve-wrapper-at t) resolve-wrapper.Post
+resolve-wrapper-returns-4 t c =
+    (wrap-none _ _ _ (c .before .before .before .before .before .before .before .before .before .args .swap) _ _ _ _ _ (c .before .before .before .before .kind-at .ensures) (c .before .before .kind-at2 .ensures) (c .before .before .before .before .before .before .before .before .before .pre .1 .1 .0 .0) (c .before .if1 .left) (c .if3 .left), (c .before .before .before .before .before .before .before .before .before .pre .1 .1 .1))
+
+-- src/coerce.rt:455:9
+rewrapped-returns : (t : ℕ) → rewrapped-lts.Need-returns (rewrapped-calls t) (rewrapped-at t) rewrapped.Post
+rewrapped-returns t c =
+    (merges-full _ _ _ _ _ _ _ _ _ (c .if1 .taken), (c .before .before .before .before .before .before .pre .1 .1 .1))
+
+-- src/coerce.rt:457:9
+rewrapped-look-requires : (t : ℕ) → rewrapped-lts.Need-look-requires (rewrapped-calls t) (rewrapped-at t) rewrapped.Post
+rewrapped-look-requires t c κs =
+    search needs
+
+-- src/coerce.rt:459:18
+rewrapped-look-requires-2 : (t : ℕ) → rewrapped-lts.Need-look-requires-2 (rewrapped-calls t) (rewrapped-at t) rewrapped.Post
+rewrapped-look-requires-2 t c κs =
+    search needs
+
+-- src/coerce.rt:460:11
+rewrapped-copy-parent-requires : (t : ℕ) → rewrapped-lts.Need-copy-parent-requires (rewrapped-calls t) (rewrapped-at t) rewrapped.Post
+rewrapped-copy-parent-requires t c κs =
+    ((c .before .before .before .before .before .before .before .before .before .before .before .pre .1 .0), ((c .before .before .before .before .before .if1 .left), (c .before .before .before .look .ensures .1)))
+
+-- src/coerce.rt:461:19
+rewrapped-enum-known-a : (t : ℕ) → rewrapped-lts.Need-enum-known-a (rewrapped-calls t) (rewrapped-at t) rewrapped.Post
+rewrapped-enum-known-a t c =
+    search needs
+
+-- src/coerce.rt:461:31
+rewrapped-copy-index-requires : (t : ℕ) → rewrapped-lts.Need-copy-index-requires (rewrapped-calls t) (rewrapped-at t) rewrapped.Post
+rewrapped-copy-index-requires t c κs =
+    let cp = rw (c .before .before .a .given .1) at (c .before .before .before .before .before .before .copy-parent .ensures) in
+    (room-kept (cp .kept) (c .before .before .before .before .before .before .before .before .before .before .before .before .before .before .before .before .before .before .pre .1 .0 .0), cp .passes .0)
+
+-- src/coerce.rt:462:23
+rewrapped-enum-known-b : (t : ℕ) → rewrapped-lts.Need-enum-known-b (rewrapped-calls t) (rewrapped-at t) rewrapped.Post
+rewrapped-enum-known-b t c =
+    search needs
+
+-- src/coerce.rt:462:35
+rewrapped-coerce-field-requires : (t : ℕ) → rewrapped-lts.Need-coerce-field-requires (rewrapped-calls t) (rewrapped-at t) rewrapped.Post
+rewrapped-coerce-field-requires t c κs =
+    let cp = rw (c .before .before .before .before .before .before .before .before .before .before .a .given .1) at (c .before .before .before .before .before .before .before .before .before .before .before .before .before .before .copy-parent .ensures) in
+    let cf = rw (c .before .before .before .b .given .1) at (c .before .before .before .before .before .before .before .copy-index .ensures) in
+    (omega (arith, (c .before .before .before .before .before .before .before .before .before .before .before .before .before .before .before .before .before .before .before .before .before .before .before .before .before .before .pre .0)), ((room-kept (cf .kept) (room-kept (cp .kept) (c .before .before .before .before .before .before .before .before .before .before .before .before .before .before .before .before .before .before .before .before .before .before .before .before .before .before .pre .1 .0 .0)), cf .grows .0), ((c .before .before .before .before .before .before .before .before .before .before .before .before .before .before .before .before .before .before .before .before .before .before .before .before .before .before .pre .1 .1 .0 .1 .1), tabled-over (c .before .before .before .before .before .before .before .before .before .before .before .before .before .before .before .before .before .before .before .before .before .before .before .before .before .before .pre .1 .0 .0) (cf .kept) (tabled-over (c .before .before .before .before .before .before .before .before .before .before .before .before .before .before .before .before .before .before .before .before .before .before .before .before .before .before .pre .1 .0 .0) (cp .kept) (c .before .before .before .before .before .before .before .before .before .before .before .before .before .before .before .before .before .before .before .before .before .before .before .before .before .before .pre .1 .1 .1)))))
+
+-- src/coerce.rt:475:27
+rewrapped-enum-known-e : (t : ℕ) → rewrapped-lts.Need-enum-known-e (rewrapped-calls t) (rewrapped-at t) rewrapped.Post
+rewrapped-enum-known-e t c =
+    search needs
+
+-- src/coerce.rt:477:21
+rewrapped-tie-requires : (t : ℕ) → rewrapped-lts.Need-tie-requires (rewrapped-calls t) (rewrapped-at t) rewrapped.Post
+rewrapped-tie-requires t c κs =
+    let cp = rw (c .before .before .before .before .before .before .before .before .before .before .before .before .before .before .before .before .before .before .before .a .given .1) at (c .before .before .before .before .before .before .before .before .before .before .before .before .before .before .before .before .before .before .before .before .before .before .before .copy-parent .ensures) in
+    let cf = rw (c .before .before .before .before .before .before .before .before .before .before .before .before .b .given .1) at (c .before .before .before .before .before .before .before .before .before .before .before .before .before .before .before .before .copy-index .ensures) in
+    let mf = rw (c .before .before .e .given .1) at (c .before .before .before .before .before .before .before .before .coerce-field .ensures .0) in
+    ((room-kept (mf .kept) (room-kept (cf .kept) (room-kept (cp .kept) (c .before .before .before .before .before .before .before .before .before .before .before .before .before .before .before .before .before .before .before .before .before .before .before .before .before .before .before .before .before .before .before .before .before .before .before .pre .1 .0 .0)))), (omega (arith, cf .further, cf .grows .0 .records), omega (arith, cf .grows .0 .records, (c .before .before .before .before .before .before .before .before .before .before .before .before .before .before .before .before .before .before .before .before .before .before .before .before .before .before .before .before .before .before .before .before .before .before .before .pre .1 .0 .0 .few))))
+
+-- src/coerce.rt:478:21
+rewrapped-keep-wrapper-requires : (t : ℕ) → rewrapped-lts.Need-keep-wrapper-requires (rewrapped-calls t) (rewrapped-at t) rewrapped.Post
+rewrapped-keep-wrapper-requires t c κs =
+    let cp = rw (c .before .before .before .before .before .before .before .before .before .before .before .before .before .before .before .before .before .before .before .before .before .before .before .a .given .1) at (c .before .before .before .before .before .before .before .before .before .before .before .before .before .before .before .before .before .before .before .before .before .before .before .before .before .before .before .copy-parent .ensures) in
+    let cf = rw (c .before .before .before .before .before .before .before .before .before .before .before .before .before .before .before .before .b .given .1) at (c .before .before .before .before .before .before .before .before .before .before .before .before .before .before .before .before .before .before .before .before .copy-index .ensures) in
+    let mf = rw (c .before .before .before .before .before .before .e .given .1) at (c .before .before .before .before .before .before .before .before .before .before .before .before .coerce-field .ensures .0) in
+    (room-kept (tied-kept _ _ _ _ _ (c .before .before .before .tie .ensures) 0 (omega (arith, cf .further, cf .grows .0 .records))) (room-kept (mf .kept) (room-kept (cf .kept) (room-kept (cp .kept) (c .before .before .before .before .before .before .before .before .before .before .before .before .before .before .before .before .before .before .before .before .before .before .before .before .before .before .before .before .before .before .before .before .before .before .before .before .before .before .before .pre .1 .0 .0)))), (c .before .before .before .before .before .before .before .before .before .before .before .before .before .before .before .before .before .before .before .before .before .before .before .before .before .before .before .before .before .before .before .before .before .before .before .before .before .before .before .pre .1 .0 .1))
+
+-- src/coerce.rt:480:28
+rewrapped-enum-told : (t : ℕ) → rewrapped-lts.Need-enum-told (rewrapped-calls t) (rewrapped-at t) rewrapped.Post
+rewrapped-enum-told t c =
+    search needs
+
+-- src/coerce.rt:481:30
+rewrapped-enum-told-2 : (t : ℕ) → rewrapped-lts.Need-enum-told-2 (rewrapped-calls t) (rewrapped-at t) rewrapped.Post
+rewrapped-enum-told-2 t c =
+    search needs
+
+-- src/coerce.rt:483:24
+rewrapped-enum-told-3 : (t : ℕ) → rewrapped-lts.Need-enum-told-3 (rewrapped-calls t) (rewrapped-at t) rewrapped.Post
+rewrapped-enum-told-3 t c =
+    search needs
+
+-- src/coerce.rt:484:26
+rewrapped-enum-told-4 : (t : ℕ) → rewrapped-lts.Need-enum-told-4 (rewrapped-calls t) (rewrapped-at t) rewrapped.Post
+rewrapped-enum-told-4 t c =
+    search needs
+
+-- src/coerce.rt:486:20
+rewrapped-enum-told-5 : (t : ℕ) → rewrapped-lts.Need-enum-told-5 (rewrapped-calls t) (rewrapped-at t) rewrapped.Post
+rewrapped-enum-told-5 t c =
+    search needs
+
+-- src/coerce.rt:487:22
+rewrapped-enum-told-6 : (t : ℕ) → rewrapped-lts.Need-enum-told-6 (rewrapped-calls t) (rewrapped-at t) rewrapped.Post
+rewrapped-enum-told-6 t c =
+    search needs
+
+-- src/coerce.rt:434:1
+rewrapped-same-length : (t : ℕ) → rewrapped-lts.Need-same-length (rewrapped-calls t) (rewrapped-at t) rewrapped.Post
+rewrapped-same-length t c =
+    let cp = rw (c .before .before .before .before .before .before .before .before .before .before .before .before .before .before .before .before .before .before .before .before .before .before .before .before .before .before .a .given .1) at (c .before .before .before .before .before .before .before .before .before .before .before .before .before .before .before .before .before .before .before .before .before .before .before .before .before .before .before .before .before .before .copy-parent .ensures) in
+    let cf = rw (c .before .before .before .before .before .before .before .before .before .before .before .before .before .before .before .before .before .before .before .b .given .1) at (c .before .before .before .before .before .before .before .before .before .before .before .before .before .before .before .before .before .before .before .before .before .before .before .copy-index .ensures) in
+    let mf = rw (c .before .before .before .before .before .before .before .before .before .e .given .1) at (c .before .before .before .before .before .before .before .before .before .before .before .before .before .before .before .coerce-field .ensures .0) in
+    wrapper-on _ _ _ _ _ _ _ _ _ _ (c .before .before .before .before .before .before .before .before .before .before .before .before .before .before .before .before .before .before .before .before .before .before .before .before .before .before .before .before .before .before .before .before .before .before .before .before .before .before .before .before .before .before .pre .1 .0 .0) (c .before .before .before .before .before .before .before .before .before .before .before .before .before .before .before .before .before .before .before .before .before .before .before .before .before .before .before .before .before .before .before .before .before .before .before .before .before .before .before .before .before .before .pre .1 .1 .0 .0) _ (c .before .before .before .before .before .before .before .before .before .before .before .before .before .before .before .before .before .before .before .before .before .before .before .before .before .before .before .before .before .before .before .before .before .before .look .ensures .0) (c .before .before .before .before .before .before .before .before .before .before .before .before .before .before .before .before .before .before .before .before .before .before .before .before .before .before .before .before .before .before .before .before .before .before .before .before .before .before .before .before .before .before .pre .1 .1 .0 .1 .0) _ (c .before .before .before .before .before .before .before .before .before .before .before .before .before .before .before .before .before .before .before .before .before .before .before .before .before .before .before .before .before .before .before .before .look2 .ensures .0) _ _ cp _ _ cf _ _ mf _ (c .before .before .before .before .before .before .tie .ensures) _ _ (c .before .before .keep-wrapper .ensures) .writes .kept .long
+
+-- src/coerce.rt:434:1
+rewrapped-same-length-2 : (t : ℕ) → rewrapped-lts.Need-same-length-2 (rewrapped-calls t) (rewrapped-at t) rewrapped.Post
+rewrapped-same-length-2 t c =
+    search needs
+
+-- src/coerce.rt:434:1
+rewrapped-returns-2 : (t : ℕ) → rewrapped-lts.Need-returns-2 (rewrapped-calls t) (rewrapped-at t) rewrapped.Post
+rewrapped-returns-2 t c =
+    let cp = rw (c .before .before .before .before .before .before .before .before .before .before .before .before .before .before .before .before .before .before .before .before .before .before .before .before .before .before .a .given .1) at (c .before .before .before .before .before .before .before .before .before .before .before .before .before .before .before .before .before .before .before .before .before .before .before .before .before .before .before .before .before .before .copy-parent .ensures) in
+    let cf = rw (c .before .before .before .before .before .before .before .before .before .before .before .before .before .before .before .before .before .before .before .b .given .1) at (c .before .before .before .before .before .before .before .before .before .before .before .before .before .before .before .before .before .before .before .before .before .before .before .copy-index .ensures) in
+    let mf = rw (c .before .before .before .before .before .before .before .before .before .e .given .1) at (c .before .before .before .before .before .before .before .before .before .before .before .before .before .before .before .coerce-field .ensures .0) in
+    (wrapper-on _ _ _ _ _ _ _ _ _ _ (c .before .before .before .before .before .before .before .before .before .before .before .before .before .before .before .before .before .before .before .before .before .before .before .before .before .before .before .before .before .before .before .before .before .before .before .before .before .before .before .before .before .before .pre .1 .0 .0) (c .before .before .before .before .before .before .before .before .before .before .before .before .before .before .before .before .before .before .before .before .before .before .before .before .before .before .before .before .before .before .before .before .before .before .before .before .before .before .before .before .before .before .pre .1 .1 .0 .0) _ (c .before .before .before .before .before .before .before .before .before .before .before .before .before .before .before .before .before .before .before .before .before .before .before .before .before .before .before .before .before .before .before .before .before .before .look .ensures .0) (c .before .before .before .before .before .before .before .before .before .before .before .before .before .before .before .before .before .before .before .before .before .before .before .before .before .before .before .before .before .before .before .before .before .before .before .before .before .before .before .before .before .before .pre .1 .1 .0 .1 .0) _ (c .before .before .before .before .before .before .before .before .before .before .before .before .before .before .before .before .before .before .before .before .before .before .before .before .before .before .before .before .before .before .before .before .look2 .ensures .0) _ _ cp _ _ cf _ _ mf _ (c .before .before .before .before .before .before .tie .ensures) _ _ (c .before .before .keep-wrapper .ensures), viewed-tabled (c .before .before .before .before .before .before .before .before .before .before .before .before .before .before .before .before .before .before .before .before .before .before .before .before .before .before .before .before .before .before .before .before .before .before .before .before .before .before .before .before .before .before .pre .1 .0 .0) (c .before .before .keep-wrapper .ensures) (tabled-over (c .before .before .before .before .before .before .before .before .before .before .before .before .before .before .before .before .before .before .before .before .before .before .before .before .before .before .before .before .before .before .before .before .before .before .before .before .before .before .before .before .before .before .pre .1 .0 .0) (tied-kept _ _ _ _ _ (c .before .before .before .before .before .before .tie .ensures) 0 (omega (arith, cf .further, cf .grows .0 .records))) (c .before .before .before .before .before .before .before .before .before .before .before .before .before .before .before .coerce-field .ensures .1)))
+
+-- src/coerce.rt:434:1
+rewrapped-same-length-3 : (t : ℕ) → rewrapped-lts.Need-same-length-3 (rewrapped-calls t) (rewrapped-at t) rewrapped.Post
+rewrapped-same-length-3 t c =
+    search needs
+
+-- src/coerce.rt:434:1
+rewrapped-same-length-4 : (t : ℕ) → rewrapped-lts.Need-same-length-4 (rewrapped-calls t) (rewrapped-at t) rewrapped.Post
+rewrapped-same-length-4 t c =
+    search needs
+
+-- src/coerce.rt:434:1
+rewrapped-returns-3 : (t : ℕ) → rewrapped-lts.Need-returns-3 (rewrapped-calls t) (rewrapped-at t) rewrapped.Post
+rewrapped-returns-3 t c =
+    let cp = rw (c .before .before .before .before .before .before .before .before .before .before .before .before .before .before .before .before .before .a .given .1) at (c .before .before .before .before .before .before .before .before .before .before .before .before .before .before .before .before .before .before .before .before .before .copy-parent .ensures) in
+    let cf = rw (c .before .before .before .before .before .before .before .before .before .before .b .given .1) at (c .before .before .before .before .before .before .before .before .before .before .before .before .before .before .copy-index .ensures) in
+    (value-none _ _ _ _ _ _ _ _ _ _ (c .before .before .before .before .before .before .before .before .before .before .before .before .before .before .before .before .before .before .before .before .before .before .before .before .before .before .before .before .before .before .before .before .before .pre .1 .0 .0) (c .before .before .before .before .before .before .before .before .before .before .before .before .before .before .before .before .before .before .before .before .before .before .before .before .before .before .before .before .before .before .before .before .before .pre .1 .1 .0 .0) _ (c .before .before .before .before .before .before .before .before .before .before .before .before .before .before .before .before .before .before .before .before .before .before .before .before .before .look .ensures .0) (c .before .before .before .before .before .before .before .before .before .before .before .before .before .before .before .before .before .before .before .before .before .before .before .before .before .before .before .before .before .before .before .before .before .pre .1 .1 .0 .1 .0) _ (c .before .before .before .before .before .before .before .before .before .before .before .before .before .before .before .before .before .before .before .before .before .before .before .look2 .ensures .0) _ _ cp _ _ cf _ (rw (c .enum-told .given .1) at (c .before .before .before .before .before .before .coerce-field .ensures .0)), (c .before .before .before .before .before .before .coerce-field .ensures .1))
+
+-- src/coerce.rt:434:1
+rewrapped-same-length-5 : (t : ℕ) → rewrapped-lts.Need-same-length-5 (rewrapped-calls t) (rewrapped-at t) rewrapped.Post
+rewrapped-same-length-5 t c =
+    search needs
+
+-- src/coerce.rt:434:1
+rewrapped-same-length-6 : (t : ℕ) → rewrapped-lts.Need-same-length-6 (rewrapped-calls t) (rewrapped-at t) rewrapped.Post
+rewrapped-same-length-6 t c =
+    search needs
+
+-- src/coerce.rt:434:1
+rewrapped-returns-4 : (t : ℕ) → rewrapped-lts.Need-returns-4 (rewrapped-calls t) (rewrapped-at t) rewrapped.Post
+rewrapped-returns-4 t c =
+    let cp = rw (c .before .before .before .before .before .before .before .before .before .before .before .before .before .before .before .before .before .a .given .1) at (c .before .before .before .before .before .before .before .before .before .before .before .before .before .before .before .before .before .before .before .before .before .copy-parent .ensures) in
+    let cf = rw (c .before .before .before .before .before .before .before .before .before .before .b .given .1) at (c .before .before .before .before .before .before .before .before .before .before .before .before .before .before .copy-index .ensures) in
+    (value-full _ _ _ _ _ _ _ _ _ _ (c .before .before .before .before .before .before .before .before .before .before .before .before .before .before .before .before .before .before .before .before .before .before .before .before .before .before .before .before .before .before .before .before .before .pre .1 .0 .0) (c .before .before .before .before .before .before .before .before .before .before .before .before .before .before .before .before .before .before .before .before .before .before .before .before .before .before .before .before .before .before .before .before .before .pre .1 .1 .0 .0) _ (c .before .before .before .before .before .before .before .before .before .before .before .before .before .before .before .before .before .before .before .before .before .before .before .before .before .look .ensures .0) (c .before .before .before .before .before .before .before .before .before .before .before .before .before .before .before .before .before .before .before .before .before .before .before .before .before .before .before .before .before .before .before .before .before .pre .1 .1 .0 .1 .0) _ (c .before .before .before .before .before .before .before .before .before .before .before .before .before .before .before .before .before .before .before .before .before .before .before .look2 .ensures .0) _ _ cp _ _ cf _ (rw (c .enum-told2 .given .1) at (c .before .before .before .before .before .before .coerce-field .ensures .0)), (c .before .before .before .before .before .before .coerce-field .ensures .1))
+
+-- src/coerce.rt:434:1
+rewrapped-same-length-7 : (t : ℕ) → rewrapped-lts.Need-same-length-7 (rewrapped-calls t) (rewrapped-at t) rewrapped.Post
+rewrapped-same-length-7 t c =
+    search needs
+
+-- src/coerce.rt:434:1
+rewrapped-returns-5 : (t : ℕ) → rewrapped-lts.Need-returns-5 (rewrapped-calls t) (rewrapped-at t) rewrapped.Post
+rewrapped-returns-5 t c =
+    let cp = rw (c .before .before .before .before .before .before .before .a .given .1) at (c .before .before .before .before .before .before .before .before .before .before .before .copy-parent .ensures) in
+    (index-none _ _ _ _ _ _ _ _ _ _ (c .before .before .before .before .before .before .before .before .before .before .before .before .before .before .before .before .before .before .before .before .before .before .before .pre .1 .0 .0) (c .before .before .before .before .before .before .before .before .before .before .before .before .before .before .before .before .before .before .before .before .before .before .before .pre .1 .1 .0 .0) _ (c .before .before .before .before .before .before .before .before .before .before .before .before .before .before .before .look .ensures .0) (c .before .before .before .before .before .before .before .before .before .before .before .before .before .before .before .before .before .before .before .before .before .before .before .pre .1 .1 .0 .1 .0) _ (c .before .before .before .before .before .before .before .before .before .before .before .before .before .look2 .ensures .0) _ _ cp _ (rw (c .enum-told3 .given .1) at (c .before .before .before .before .copy-index .ensures)), tabled-over (c .before .before .before .before .before .before .before .before .before .before .before .before .before .before .before .before .before .before .before .before .before .before .before .pre .1 .0 .0) ((rw (c .enum-told3 .given .1) at (c .before .before .before .before .copy-index .ensures)) .kept) (tabled-over (c .before .before .before .before .before .before .before .before .before .before .before .before .before .before .before .before .before .before .before .before .before .before .before .pre .1 .0 .0) (cp .kept) (c .before .before .before .before .before .before .before .before .before .before .before .before .before .before .before .before .before .before .before .before .before .before .before .pre .1 .1 .1)))
+
+-- src/coerce.rt:434:1
+rewrapped-same-length-8 : (t : ℕ) → rewrapped-lts.Need-same-length-8 (rewrapped-calls t) (rewrapped-at t) rewrapped.Post
+rewrapped-same-length-8 t c =
+    search needs
+
+-- src/coerce.rt:434:1
+rewrapped-returns-6 : (t : ℕ) → rewrapped-lts.Need-returns-6 (rewrapped-calls t) (rewrapped-at t) rewrapped.Post
+rewrapped-returns-6 t c =
+    let cp = rw (c .before .before .before .before .before .before .before .a .given .1) at (c .before .before .before .before .before .before .before .before .before .before .before .copy-parent .ensures) in
+    (index-full _ _ _ _ _ _ _ _ _ _ (c .before .before .before .before .before .before .before .before .before .before .before .before .before .before .before .before .before .before .before .before .before .before .before .pre .1 .0 .0) (c .before .before .before .before .before .before .before .before .before .before .before .before .before .before .before .before .before .before .before .before .before .before .before .pre .1 .1 .0 .0) _ (c .before .before .before .before .before .before .before .before .before .before .before .before .before .before .before .look .ensures .0) (c .before .before .before .before .before .before .before .before .before .before .before .before .before .before .before .before .before .before .before .before .before .before .before .pre .1 .1 .0 .1 .0) _ (c .before .before .before .before .before .before .before .before .before .before .before .before .before .look2 .ensures .0) _ _ cp _ (rw (c .enum-told4 .given .1) at (c .before .before .before .before .copy-index .ensures)), tabled-over (c .before .before .before .before .before .before .before .before .before .before .before .before .before .before .before .before .before .before .before .before .before .before .before .pre .1 .0 .0) ((rw (c .enum-told4 .given .1) at (c .before .before .before .before .copy-index .ensures)) .kept) (tabled-over (c .before .before .before .before .before .before .before .before .before .before .before .before .before .before .before .before .before .before .before .before .before .before .before .pre .1 .0 .0) (cp .kept) (c .before .before .before .before .before .before .before .before .before .before .before .before .before .before .before .before .before .before .before .before .before .before .before .pre .1 .1 .1)))
+
+-- src/coerce.rt:434:1
+rewrapped-same-length-9 : (t : ℕ) → rewrapped-lts.Need-same-length-9 (rewrapped-calls t) (rewrapped-at t) rewrapped.Post
+rewrapped-same-length-9 t c =
+    search needs
+
+-- src/coerce.rt:434:1
+rewrapped-returns-7 : (t : ℕ) → rewrapped-lts.Need-returns-7 (rewrapped-calls t) (rewrapped-at t) rewrapped.Post
+rewrapped-returns-7 t c =
+    absurd ((rw (c .enum-told5 .given .1) at (c .before .before .before .before .copy-parent .ensures)) .means)
+
+-- src/coerce.rt:434:1
+rewrapped-same-length-10 : (t : ℕ) → rewrapped-lts.Need-same-length-10 (rewrapped-calls t) (rewrapped-at t) rewrapped.Post
+rewrapped-same-length-10 t c =
+    search needs
+
+-- src/coerce.rt:434:1
+rewrapped-returns-8 : (t : ℕ) → rewrapped-lts.Need-returns-8 (rewrapped-calls t) (rewrapped-at t) rewrapped.Post
+rewrapped-returns-8 t c =
+    (head-crowded _ _ _ _ _ _ _ _ _ _ (c .before .before .before .before .before .before .before .before .look .ensures .0) _ (rw (c .enum-told6 .given .1) at (c .before .before .before .before .copy-parent .ensures)), tabled-over (c .before .before .before .before .before .before .before .before .before .before .before .before .before .before .before .before .pre .1 .0 .0) ((rw (c .enum-told6 .given .1) at (c .before .before .before .before .copy-parent .ensures)) .kept) (c .before .before .before .before .before .before .before .before .before .before .before .before .before .before .before .before .pre .1 .1 .1))
+
+-- src/coerce.rt:1181:9
+rows-row-end-requires : (t : ℕ) → rows-lts.Need-row-end-requires (rows-calls t) (rows-at t) rows.Post
+rows-row-end-requires t c κs =
+    search needs
+
+-- src/coerce.rt:1181:9
+rows-returns : (t : ℕ) → rows-lts.Need-returns (rows-calls t) (rows-at t) rows.Post
+rows-returns t c =
+    (rows-end (c .before .before .before .before .before .args .known) _ _ (c .before .before .before .before .before .args .space) (c .before .before .before .before .before .args .left) (c .before .before .before .before .before .args .swap) _ _ (c .before .before .before .before .before .args .feed) _ _ _ _ _ (c .before .before .before .before .before .pre .1 .0 .1) (c .before .if1 .taken) (c .row-end .ensures), (c .before .before .before .before .before .pre .1 .1))
+
+-- src/coerce.rt:1184:9
+rows-returns-2 : (t : ℕ) → rows-lts.Need-returns-2 (rows-calls t) (rows-at t) rows.Post
+rows-returns-2 t c =
+    (rows-spent (c .before .before .before .before .before .args .known) _ _ (c .before .before .before .before .before .args .space) (c .before .before .before .before .before .args .left) (c .before .before .before .before .before .args .swap) _ _ (c .before .before .before .before .before .args .feed) _ _ _ _ (c .before .if1 .left) (c .if2 .taken), (c .before .before .before .before .before .pre .1 .1))
+
+-- src/coerce.rt:1186:9
+rows-look-requires : (t : ℕ) → rows-lts.Need-look-requires (rows-calls t) (rows-at t) rows.Post
+rows-look-requires t c κs =
+    search needs
+
+-- src/coerce.rt:1187:9
+rows-row-requires : (t : ℕ) → rows-lts.Need-row-requires (rows-calls t) (rows-at t) rows.Post
+rows-row-requires t c κs =
+    (c .before .before .before .before .before .before .before .before .pre .1 .0 .0 .few)
+
+-- src/coerce.rt:1194:9
+rows-same-length : (t : ℕ) → rows-lts.Need-same-length (rows-calls t) (rows-at t) rows.Post
+rows-same-length t c =
+    search needs
+
+-- src/coerce.rt:1194:9
+rows-returns-3 : (t : ℕ) → rows-lts.Need-returns-3 (rows-calls t) (rows-at t) rows.Post
+rows-returns-3 t c =
+    (rows-unfed (c .before .before .before .before .before .before .before .before .before .before .args .known) _ _ (c .before .before .before .before .before .before .before .before .before .before .args .space) (c .before .before .before .before .before .before .before .before .before .before .args .left) (c .before .before .before .before .before .before .before .before .before .before .args .swap) _ _ (c .before .before .before .before .before .before .before .before .before .before .args .feed) _ _ _ _ _ (c .before .before .before .before .before .before .if1 .left) (c .before .row .ensures) (c .if3 .taken), (c .before .before .before .before .before .before .before .before .before .before .pre .1 .1))
+
+-- src/coerce.rt:1196:9
+rows-name-field-requires : (t : ℕ) → rows-lts.Need-name-field-requires (rows-calls t) (rows-at t) rows.Post
+rows-name-field-requires t c κs =
+    ((c .before .before .before .before .before .before .before .before .before .before .before .pre .1 .0 .0), ((c .before .before .before .before .before .before .before .before .before .before .before .pre .1 .0 .1), (c .before .before .before .before .look .ensures .1)))
+
+-- src/coerce.rt:1197:9
+rows-same-length-2 : (t : ℕ) → rows-lts.Need-same-length-2 (rows-calls t) (rows-at t) rows.Post
+rows-same-length-2 t c =
+    search needs
+
+-- src/coerce.rt:1197:9
+rows-returns-4 : (t : ℕ) → rows-lts.Need-returns-4 (rows-calls t) (rows-at t) rows.Post
+rows-returns-4 t c =
+    (rows-crowded (c .before .before .before .before .before .before .before .before .before .before .before .before .before .before .before .args .known) _ _ (c .before .before .before .before .before .before .before .before .before .before .before .before .before .before .before .args .space) (c .before .before .before .before .before .before .before .before .before .before .before .before .before .before .before .args .left) (c .before .before .before .before .before .before .before .before .before .before .before .before .before .before .before .args .swap) _ _ (c .before .before .before .before .before .before .before .before .before .before .before .before .before .before .before .args .feed) _ _ _ _ (c .before .before .before .before .before .before .before .before .before .before .before .before .before .before .before .pre .1 .0 .0) (c .before .before .before .before .before .before .before .before .before .before .before .before .before .before .before .pre .1 .0 .1) _ (c .before .before .before .before .before .before .before .before .look .ensures .0) (c .before .before .before .before .before .before .before .before .before .before .before .if1 .left) _ (c .before .before .before .before .before .before .row .ensures) (c .before .before .before .before .before .if3 .left) _ _ (c .before .before .before .name-field .ensures) (not-true _ (c .if4 .taken)), tabled-over (c .before .before .before .before .before .before .before .before .before .before .before .before .before .before .before .pre .1 .0 .0) ((c .before .before .before .name-field .ensures .kept)) (c .before .before .before .before .before .before .before .before .before .before .before .before .before .before .before .pre .1 .1))
+
+-- src/coerce.rt:1205:11
+rows-common-requires : (t : ℕ) → rows-lts.Need-common-requires (rows-calls t) (rows-at t) rows.Post
+rows-common-requires t c κs =
+    (omega (arith, (c .before .before .before .before .before .before .before .before .before .before .before .before .before .before .before .before .before .pre .0)), ((room-kept (c .before .before .before .before .before .name-field .ensures .kept) (c .before .before .before .before .before .before .before .before .before .before .before .before .before .before .before .before .before .pre .1 .0 .0), field-ready _ (c .before .before .before .before .before .before .before .before .before .before .before .before .before .before .before .before .before .pre .1 .0 .1) (c .before .before .before .before .before .before .before .before .before .before .look .ensures .1) (not-false _ (c .before .before .if4 .left)) (c .before .before .before .before .before .name-field .ensures)), tabled-over (c .before .before .before .before .before .before .before .before .before .before .before .before .before .before .before .before .before .pre .1 .0 .0) ((c .before .before .before .before .before .name-field .ensures .kept)) (c .before .before .before .before .before .before .before .before .before .before .before .before .before .before .before .before .before .pre .1 .1)))
+
+-- src/coerce.rt:1219:19
+rows-enum-known-d : (t : ℕ) → rows-lts.Need-enum-known-d (rows-calls t) (rows-at t) rows.Post
+rows-enum-known-d t c =
+    search needs
+
+-- src/coerce.rt:1226:13
+rows-sub-rows : (t : ℕ) → rows-lts.Need-sub-rows (rows-calls t) (rows-at t) rows.Post
+rows-sub-rows t c =
+    omega (arith, (c .before .before .before .before .before .before .before .before .before .before .before .before .before .before .before .before .before .before .before .before .before .before .if2 .left))
+
+-- src/coerce.rt:1219:31
+rows-rows-requires : (t : ℕ) → rows-lts.Need-rows-requires (rows-calls t) (rows-at t) rows.Post
+rows-rows-requires t c κs =
+    let done = rw (c .before .before .before .d .given .1) at (c .before .before .before .before .before .before .before .before .before .common .ensures .0) in
+    (omega (arith, (c .before .before .before .before .before .before .before .before .before .before .before .before .before .before .before .before .before .before .before .before .before .before .before .before .before .before .before .pre .0), (c .before .before .before .before .before .before .before .before .before .before .before .before .before .before .before .before .before .before .before .before .before .before .if2 .left)), ((room-kept (done .writes .kept) (room-kept (c .before .before .before .before .before .before .before .before .before .before .before .before .before .before .before .name-field .ensures .kept) (c .before .before .before .before .before .before .before .before .before .before .before .before .before .before .before .before .before .before .before .before .before .before .before .before .before .before .before .pre .1 .0 .0)), done .writes .passes .0), (c .before .before .before .before .before .before .before .before .before .common .ensures .1)))
+
+-- src/coerce.rt:1235:23
+rows-enum-known-e : (t : ℕ) → rows-lts.Need-enum-known-e (rows-calls t) (rows-at t) rows.Post
+rows-enum-known-e t c =
+    search needs
+
+-- src/coerce.rt:1236:38
+rows-next-link-requires : (t : ℕ) → rows-lts.Need-next-link-requires (rows-calls t) (rows-at t) rows.Post
+rows-next-link-requires t c κs =
+    search needs
+
+-- src/coerce.rt:1236:17
+rows-tie-requires : (t : ℕ) → rows-lts.Need-tie-requires (rows-calls t) (rows-at t) rows.Post
+rows-tie-requires t c κs =
+    let done = rw (c .before .before .before .before .before .before .before .before .before .before .before .before .before .d .given .1) at (c .before .before .before .before .before .before .before .before .before .before .before .before .before .before .before .before .before .before .before .common .ensures .0) in
+    let more = rw (c .before .before .before .e .given .1) at (c .before .before .before .before .before .before .before .before .before .rows .ensures .0) in
+    let room = room-kept (more .kept) (room-kept (done .writes .kept) (room-kept (c .before .before .before .before .before .before .before .before .before .before .before .before .before .before .before .before .before .before .before .before .before .before .before .before .before .name-field .ensures .kept) (c .before .before .before .before .before .before .before .before .before .before .before .before .before .before .before .before .before .before .before .before .before .before .before .before .before .before .before .before .before .before .before .before .before .before .before .before .before .pre .1 .0 .0))) in
+    (room, (omega (arith, done .writes .passes .1 .0, done .writes .passes .0 .records), omega (arith, (c .next-link .ensures .1), done .writes .passes .0 .records, room .few)))
+
+-- src/coerce.rt:1239:24
+rows-enum-told : (t : ℕ) → rows-lts.Need-enum-told (rows-calls t) (rows-at t) rows.Post
+rows-enum-told t c =
+    search needs
+
+-- src/coerce.rt:1240:26
+rows-enum-told-2 : (t : ℕ) → rows-lts.Need-enum-told-2 (rows-calls t) (rows-at t) rows.Post
+rows-enum-told-2 t c =
+    search needs
+
+-- src/coerce.rt:1242:20
+rows-enum-told-3 : (t : ℕ) → rows-lts.Need-enum-told-3 (rows-calls t) (rows-at t) rows.Post
+rows-enum-told-3 t c =
+    search needs
+
+-- src/coerce.rt:1243:22
+rows-enum-told-4 : (t : ℕ) → rows-lts.Need-enum-told-4 (rows-calls t) (rows-at t) rows.Post
+rows-enum-told-4 t c =
+    search needs
+
+-- src/coerce.rt:1159:1
+rows-same-length-3 : (t : ℕ) → rows-lts.Need-same-length-3 (rows-calls t) (rows-at t) rows.Post
+rows-same-length-3 t c =
+    let done = rw (c .before .before .before .before .before .before .before .before .before .before .before .before .before .before .before .before .d .given .1) at (c .before .before .before .before .before .before .before .before .before .before .before .before .before .before .before .before .before .before .before .before .before .before .common .ensures .0) in
+    let more = rw (c .before .before .before .before .before .before .e .given .1) at (c .before .before .before .before .before .before .before .before .before .before .before .before .rows .ensures .0) in
+    rows-done (c .before .before .before .before .before .before .before .before .before .before .before .before .before .before .before .before .before .before .before .before .before .before .before .before .before .before .before .before .before .before .before .before .before .before .before .before .before .before .before .before .args .known) _ _ (c .before .before .before .before .before .before .before .before .before .before .before .before .before .before .before .before .before .before .before .before .before .before .before .before .before .before .before .before .before .before .before .before .before .before .before .before .before .before .before .before .args .space) (c .before .before .before .before .before .before .before .before .before .before .before .before .before .before .before .before .before .before .before .before .before .before .before .before .before .before .before .before .before .before .before .before .before .before .before .before .before .before .before .before .args .left) (c .before .before .before .before .before .before .before .before .before .before .before .before .before .before .before .before .before .before .before .before .before .before .before .before .before .before .before .before .before .before .before .before .before .before .before .before .before .before .before .before .args .swap) _ _ (c .before .before .before .before .before .before .before .before .before .before .before .before .before .before .before .before .before .before .before .before .before .before .before .before .before .before .before .before .before .before .before .before .before .before .before .before .before .before .before .before .args .feed) _ _ _ _ (c .before .before .before .before .before .before .before .before .before .before .before .before .before .before .before .before .before .before .before .before .before .before .before .before .before .before .before .before .before .before .before .before .before .before .before .before .before .before .before .before .pre .1 .0 .0) (c .before .before .before .before .before .before .before .before .before .before .before .before .before .before .before .before .before .before .before .before .before .before .before .before .before .before .before .before .before .before .before .before .before .before .before .before .before .before .before .before .pre .1 .0 .1) _ (c .before .before .before .before .before .before .before .before .before .before .before .before .before .before .before .before .before .before .before .before .before .before .before .before .before .before .before .before .before .before .before .before .before .look .ensures .0) (c .before .before .before .before .before .before .before .before .before .before .before .before .before .before .before .before .before .before .before .before .before .before .before .before .before .before .before .before .before .before .before .before .before .before .before .before .if1 .left) _ (c .before .before .before .before .before .before .before .before .before .before .before .before .before .before .before .before .before .before .before .before .before .before .before .before .before .before .before .before .before .before .before .row .ensures) (c .before .before .before .before .before .before .before .before .before .before .before .before .before .before .before .before .before .before .before .before .before .before .before .before .before .before .before .before .before .before .if3 .left) _ _ (c .before .before .before .before .before .before .before .before .before .before .before .before .before .before .before .before .before .before .before .before .before .before .before .before .before .before .before .before .name-field .ensures) (not-false _ (c .before .before .before .before .before .before .before .before .before .before .before .before .before .before .before .before .before .before .before .before .before .before .before .before .before .if4 .left)) _ _ done _ _ _ _ more (c .before .before .before .next-link .ensures .0) (c .before .before .tie .ensures) .kept .long
+
+-- src/coerce.rt:1159:1
+rows-same-length-4 : (t : ℕ) → rows-lts.Need-same-length-4 (rows-calls t) (rows-at t) rows.Post
+rows-same-length-4 t c =
+    search needs
+
+-- src/coerce.rt:1159:1
+rows-returns-5 : (t : ℕ) → rows-lts.Need-returns-5 (rows-calls t) (rows-at t) rows.Post
+rows-returns-5 t c =
+    let done = rw (c .before .before .before .before .before .before .before .before .before .before .before .before .before .before .before .before .d .given .1) at (c .before .before .before .before .before .before .before .before .before .before .before .before .before .before .before .before .before .before .before .before .before .before .common .ensures .0) in
+    let more = rw (c .before .before .before .before .before .before .e .given .1) at (c .before .before .before .before .before .before .before .before .before .before .before .before .rows .ensures .0) in
+    (rows-done (c .before .before .before .before .before .before .before .before .before .before .before .before .before .before .before .before .before .before .before .before .before .before .before .before .before .before .before .before .before .before .before .before .before .before .before .before .before .before .before .before .args .known) _ _ (c .before .before .before .before .before .before .before .before .before .before .before .before .before .before .before .before .before .before .before .before .before .before .before .before .before .before .before .before .before .before .before .before .before .before .before .before .before .before .before .before .args .space) (c .before .before .before .before .before .before .before .before .before .before .before .before .before .before .before .before .before .before .before .before .before .before .before .before .before .before .before .before .before .before .before .before .before .before .before .before .before .before .before .before .args .left) (c .before .before .before .before .before .before .before .before .before .before .before .before .before .before .before .before .before .before .before .before .before .before .before .before .before .before .before .before .before .before .before .before .before .before .before .before .before .before .before .before .args .swap) _ _ (c .before .before .before .before .before .before .before .before .before .before .before .before .before .before .before .before .before .before .before .before .before .before .before .before .before .before .before .before .before .before .before .before .before .before .before .before .before .before .before .before .args .feed) _ _ _ _ (c .before .before .before .before .before .before .before .before .before .before .before .before .before .before .before .before .before .before .before .before .before .before .before .before .before .before .before .before .before .before .before .before .before .before .before .before .before .before .before .before .pre .1 .0 .0) (c .before .before .before .before .before .before .before .before .before .before .before .before .before .before .before .before .before .before .before .before .before .before .before .before .before .before .before .before .before .before .before .before .before .before .before .before .before .before .before .before .pre .1 .0 .1) _ (c .before .before .before .before .before .before .before .before .before .before .before .before .before .before .before .before .before .before .before .before .before .before .before .before .before .before .before .before .before .before .before .before .before .look .ensures .0) (c .before .before .before .before .before .before .before .before .before .before .before .before .before .before .before .before .before .before .before .before .before .before .before .before .before .before .before .before .before .before .before .before .before .before .before .before .if1 .left) _ (c .before .before .before .before .before .before .before .before .before .before .before .before .before .before .before .before .before .before .before .before .before .before .before .before .before .before .before .before .before .before .before .row .ensures) (c .before .before .before .before .before .before .before .before .before .before .before .before .before .before .before .before .before .before .before .before .before .before .before .before .before .before .before .before .before .before .if3 .left) _ _ (c .before .before .before .before .before .before .before .before .before .before .before .before .before .before .before .before .before .before .before .before .before .before .before .before .before .before .before .before .name-field .ensures) (not-false _ (c .before .before .before .before .before .before .before .before .before .before .before .before .before .before .before .before .before .before .before .before .before .before .before .before .before .if4 .left)) _ _ done _ _ _ _ more (c .before .before .before .next-link .ensures .0) (c .before .before .tie .ensures), tabled-over (c .before .before .before .before .before .before .before .before .before .before .before .before .before .before .before .before .before .before .before .before .before .before .before .before .before .before .before .before .before .before .before .before .before .before .before .before .before .before .before .before .pre .1 .0 .0) (tied-kept _ _ _ _ _ (c .before .before .tie .ensures) 0 (omega (arith, done .writes .passes .1 .0, done .writes .passes .0 .records))) (c .before .before .before .before .before .before .before .before .before .before .before .before .rows .ensures .1))
+
+-- src/coerce.rt:1159:1
+rows-same-length-5 : (t : ℕ) → rows-lts.Need-same-length-5 (rows-calls t) (rows-at t) rows.Post
+rows-same-length-5 t c =
+    search needs
+
+-- src/coerce.rt:1159:1
+rows-same-length-6 : (t : ℕ) → rows-lts.Need-same-length-6 (rows-calls t) (rows-at t) rows.Post
+rows-same-length-6 t c =
+    search needs
+
+-- src/coerce.rt:1159:1
+rows-returns-6 : (t : ℕ) → rows-lts.Need-returns-6 (rows-calls t) (rows-at t) rows.Post
+rows-returns-6 t c =
+    let done = rw (c .before .before .before .before .before .before .before .before .before .before .d .given .1) at (c .before .before .before .before .before .before .before .before .before .before .before .before .before .before .before .before .common .ensures .0) in
+    let more = rw (c .enum-told .given .1) at (c .before .before .before .before .before .before .rows .ensures .0) in
+    (rows-rest-none (c .before .before .before .before .before .before .before .before .before .before .before .before .before .before .before .before .before .before .before .before .before .before .before .before .before .before .before .before .before .before .before .before .before .before .args .known) _ _ (c .before .before .before .before .before .before .before .before .before .before .before .before .before .before .before .before .before .before .before .before .before .before .before .before .before .before .before .before .before .before .before .before .before .before .args .space) (c .before .before .before .before .before .before .before .before .before .before .before .before .before .before .before .before .before .before .before .before .before .before .before .before .before .before .before .before .before .before .before .before .before .before .args .left) (c .before .before .before .before .before .before .before .before .before .before .before .before .before .before .before .before .before .before .before .before .before .before .before .before .before .before .before .before .before .before .before .before .before .before .args .swap) _ _ (c .before .before .before .before .before .before .before .before .before .before .before .before .before .before .before .before .before .before .before .before .before .before .before .before .before .before .before .before .before .before .before .before .before .before .args .feed) _ _ _ _ (c .before .before .before .before .before .before .before .before .before .before .before .before .before .before .before .before .before .before .before .before .before .before .before .before .before .before .before .before .before .before .before .before .before .before .pre .1 .0 .0) (c .before .before .before .before .before .before .before .before .before .before .before .before .before .before .before .before .before .before .before .before .before .before .before .before .before .before .before .before .before .before .before .before .before .before .pre .1 .0 .1) _ (c .before .before .before .before .before .before .before .before .before .before .before .before .before .before .before .before .before .before .before .before .before .before .before .before .before .before .before .look .ensures .0) (c .before .before .before .before .before .before .before .before .before .before .before .before .before .before .before .before .before .before .before .before .before .before .before .before .before .before .before .before .before .before .if1 .left) _ (c .before .before .before .before .before .before .before .before .before .before .before .before .before .before .before .before .before .before .before .before .before .before .before .before .before .row .ensures) (c .before .before .before .before .before .before .before .before .before .before .before .before .before .before .before .before .before .before .before .before .before .before .before .before .if3 .left) _ _ (c .before .before .before .before .before .before .before .before .before .before .before .before .before .before .before .before .before .before .before .before .before .before .name-field .ensures) (not-false _ (c .before .before .before .before .before .before .before .before .before .before .before .before .before .before .before .before .before .before .before .if4 .left)) _ _ done _ more, (c .before .before .before .before .before .before .rows .ensures .1))
+
+-- src/coerce.rt:1159:1
+rows-same-length-7 : (t : ℕ) → rows-lts.Need-same-length-7 (rows-calls t) (rows-at t) rows.Post
+rows-same-length-7 t c =
+    search needs
+
+-- src/coerce.rt:1159:1
+rows-same-length-8 : (t : ℕ) → rows-lts.Need-same-length-8 (rows-calls t) (rows-at t) rows.Post
+rows-same-length-8 t c =
+    search needs
+
+-- src/coerce.rt:1159:1
+rows-returns-7 : (t : ℕ) → rows-lts.Need-returns-7 (rows-calls t) (rows-at t) rows.Post
+rows-returns-7 t c =
+    let done = rw (c .before .before .before .before .before .before .before .before .before .before .d .given .1) at (c .before .before .before .before .before .before .before .before .before .before .before .before .before .before .before .before .common .ensures .0) in
+    let more = rw (c .enum-told2 .given .1) at (c .before .before .before .before .before .before .rows .ensures .0) in
+    (rows-rest-full (c .before .before .before .before .before .before .before .before .before .before .before .before .before .before .before .before .before .before .before .before .before .before .before .before .before .before .before .before .before .before .before .before .before .before .args .known) _ _ (c .before .before .before .before .before .before .before .before .before .before .before .before .before .before .before .before .before .before .before .before .before .before .before .before .before .before .before .before .before .before .before .before .before .before .args .space) (c .before .before .before .before .before .before .before .before .before .before .before .before .before .before .before .before .before .before .before .before .before .before .before .before .before .before .before .before .before .before .before .before .before .before .args .left) (c .before .before .before .before .before .before .before .before .before .before .before .before .before .before .before .before .before .before .before .before .before .before .before .before .before .before .before .before .before .before .before .before .before .before .args .swap) _ _ (c .before .before .before .before .before .before .before .before .before .before .before .before .before .before .before .before .before .before .before .before .before .before .before .before .before .before .before .before .before .before .before .before .before .before .args .feed) _ _ _ _ (c .before .before .before .before .before .before .before .before .before .before .before .before .before .before .before .before .before .before .before .before .before .before .before .before .before .before .before .before .before .before .before .before .before .before .pre .1 .0 .0) (c .before .before .before .before .before .before .before .before .before .before .before .before .before .before .before .before .before .before .before .before .before .before .before .before .before .before .before .before .before .before .before .before .before .before .pre .1 .0 .1) _ (c .before .before .before .before .before .before .before .before .before .before .before .before .before .before .before .before .before .before .before .before .before .before .before .before .before .before .before .look .ensures .0) (c .before .before .before .before .before .before .before .before .before .before .before .before .before .before .before .before .before .before .before .before .before .before .before .before .before .before .before .before .before .before .if1 .left) _ (c .before .before .before .before .before .before .before .before .before .before .before .before .before .before .before .before .before .before .before .before .before .before .before .before .before .row .ensures) (c .before .before .before .before .before .before .before .before .before .before .before .before .before .before .before .before .before .before .before .before .before .before .before .before .if3 .left) _ _ (c .before .before .before .before .before .before .before .before .before .before .before .before .before .before .before .before .before .before .before .before .before .before .name-field .ensures) (not-false _ (c .before .before .before .before .before .before .before .before .before .before .before .before .before .before .before .before .before .before .before .if4 .left)) _ _ done _ more, (c .before .before .before .before .before .before .rows .ensures .1))
+
+-- src/coerce.rt:1159:1
+rows-same-length-9 : (t : ℕ) → rows-lts.Need-same-length-9 (rows-calls t) (rows-at t) rows.Post
+rows-same-length-9 t c =
+    search needs
+
+-- src/coerce.rt:1159:1
+rows-same-length-10 : (t : ℕ) → rows-lts.Need-same-length-10 (rows-calls t) (rows-at t) rows.Post
+rows-same-length-10 t c =
+    search needs
+
+-- src/coerce.rt:1159:1
+rows-returns-8 : (t : ℕ) → rows-lts.Need-returns-8 (rows-calls t) (rows-at t) rows.Post
+rows-returns-8 t c =
+    let one = rw (c .enum-told3 .given .1) at (c .before .before .before .before .before .before .common .ensures .0) in
+    (rows-none (c .before .before .before .before .before .before .before .before .before .before .before .before .before .before .before .before .before .before .before .before .before .before .before .before .args .known) _ _ (c .before .before .before .before .before .before .before .before .before .before .before .before .before .before .before .before .before .before .before .before .before .before .before .before .args .space) (c .before .before .before .before .before .before .before .before .before .before .before .before .before .before .before .before .before .before .before .before .before .before .before .before .args .left) (c .before .before .before .before .before .before .before .before .before .before .before .before .before .before .before .before .before .before .before .before .before .before .before .before .args .swap) _ _ (c .before .before .before .before .before .before .before .before .before .before .before .before .before .before .before .before .before .before .before .before .before .before .before .before .args .feed) _ _ _ _ (c .before .before .before .before .before .before .before .before .before .before .before .before .before .before .before .before .before .before .before .before .before .before .before .before .pre .1 .0 .0) (c .before .before .before .before .before .before .before .before .before .before .before .before .before .before .before .before .before .before .before .before .before .before .before .before .pre .1 .0 .1) _ (c .before .before .before .before .before .before .before .before .before .before .before .before .before .before .before .before .before .look .ensures .0) (c .before .before .before .before .before .before .before .before .before .before .before .before .before .before .before .before .before .before .before .before .if1 .left) _ (c .before .before .before .before .before .before .before .before .before .before .before .before .before .before .before .row .ensures) (c .before .before .before .before .before .before .before .before .before .before .before .before .before .before .if3 .left) _ _ (c .before .before .before .before .before .before .before .before .before .before .before .before .name-field .ensures) (not-false _ (c .before .before .before .before .before .before .before .before .before .if4 .left)) _ one, (c .before .before .before .before .before .before .common .ensures .1))
+
+-- src/coerce.rt:1159:1
+rows-same-length-11 : (t : ℕ) → rows-lts.Need-same-length-11 (rows-calls t) (rows-at t) rows.Post
+rows-same-length-11 t c =
+    search needs
+
+-- src/coerce.rt:1159:1
+rows-same-length-12 : (t : ℕ) → rows-lts.Need-same-length-12 (rows-calls t) (rows-at t) rows.Post
+rows-same-length-12 t c =
+    search needs
+
+-- src/coerce.rt:1159:1
+rows-returns-9 : (t : ℕ) → rows-lts.Need-returns-9 (rows-calls t) (rows-at t) rows.Post
+rows-returns-9 t c =
+    let one = rw (c .enum-told4 .given .1) at (c .before .before .before .before .before .before .common .ensures .0) in
+    (rows-full (c .before .before .before .before .before .before .before .before .before .before .before .before .before .before .before .before .before .before .before .before .before .before .before .before .args .known) _ _ (c .before .before .before .before .before .before .before .before .before .before .before .before .before .before .before .before .before .before .before .before .before .before .before .before .args .space) (c .before .before .before .before .before .before .before .before .before .before .before .before .before .before .before .before .before .before .before .before .before .before .before .before .args .left) (c .before .before .before .before .before .before .before .before .before .before .before .before .before .before .before .before .before .before .before .before .before .before .before .before .args .swap) _ _ (c .before .before .before .before .before .before .before .before .before .before .before .before .before .before .before .before .before .before .before .before .before .before .before .before .args .feed) _ _ _ _ (c .before .before .before .before .before .before .before .before .before .before .before .before .before .before .before .before .before .before .before .before .before .before .before .before .pre .1 .0 .0) (c .before .before .before .before .before .before .before .before .before .before .before .before .before .before .before .before .before .before .before .before .before .before .before .before .pre .1 .0 .1) _ (c .before .before .before .before .before .before .before .before .before .before .before .before .before .before .before .before .before .look .ensures .0) (c .before .before .before .before .before .before .before .before .before .before .before .before .before .before .before .before .before .before .before .before .if1 .left) _ (c .before .before .before .before .before .before .before .before .before .before .before .before .before .before .before .row .ensures) (c .before .before .before .before .before .before .before .before .before .before .before .before .before .before .if3 .left) _ _ (c .before .before .before .before .before .before .before .before .before .before .before .before .name-field .ensures) (not-false _ (c .before .before .before .before .before .before .before .before .before .if4 .left)) _ one, (c .before .before .before .before .before .before .common .ensures .1))
+
+-- src/coerce.rt:955:9
+struct-rule-look-requires : (t : ℕ) → struct-rule-lts.Need-look-requires (struct-rule-calls t) (struct-rule-at t) struct-rule.Post
+struct-rule-look-requires t c κs =
+    search needs
+
+-- src/coerce.rt:956:9
+struct-rule-look-requires-2 : (t : ℕ) → struct-rule-lts.Need-look-requires-2 (struct-rule-calls t) (struct-rule-at t) struct-rule.Post
+struct-rule-look-requires-2 t c κs =
+    search needs
+
+-- src/coerce.rt:960:9
+struct-rule-both-requires : (t : ℕ) → struct-rule-lts.Need-both-requires (struct-rule-calls t) (struct-rule-at t) struct-rule.Post
+struct-rule-both-requires t c κs =
+    search needs
+
+-- src/coerce.rt:961:9
+struct-rule-same-arity-requires : (t : ℕ) → struct-rule-lts.Need-same-arity-requires (struct-rule-calls t) (struct-rule-at t) struct-rule.Post
+struct-rule-same-arity-requires t c κs =
+    search needs
+
+-- src/coerce.rt:959:8
+struct-rule-both-requires-2 : (t : ℕ) → struct-rule-lts.Need-both-requires-2 (struct-rule-calls t) (struct-rule-at t) struct-rule.Post
+struct-rule-both-requires-2 t c κs =
+    search needs
+
+-- src/coerce.rt:963:13
+struct-rule-differ-in-part-requires : (t : ℕ) → struct-rule-lts.Need-differ-in-part-requires (struct-rule-calls t) (struct-rule-at t) struct-rule.Post
+struct-rule-differ-in-part-requires t c κs =
+    omega (arith, (c .before .before .before .before .before .before .before .before .before .before .before .before .before .before .before .pre .1 .0 .0 .few))
+
+-- src/coerce.rt:964:12
+struct-rule-have-same-names-requires : (t : ℕ) → struct-rule-lts.Need-have-same-names-requires (struct-rule-calls t) (struct-rule-at t) struct-rule.Post
+struct-rule-have-same-names-requires t c κs =
+    (c .before .before .before .before .before .before .before .before .before .before .before .before .before .before .before .before .before .pre .1 .0 .0 .few)
+
+-- src/coerce.rt:965:13
+struct-rule-under-requires : (t : ℕ) → struct-rule-lts.Need-under-requires (struct-rule-calls t) (struct-rule-at t) struct-rule.Post
+struct-rule-under-requires t c κs =
+    (omega (arith, (c .before .before .before .before .before .before .before .before .before .before .before .before .before .before .before .before .before .before .before .before .before .pre .0)), (((c .before .before .before .before .before .before .before .before .before .before .before .before .before .before .before .before .before .before .before .before .before .pre .1 .0), omega arith), (c .before .before .before .before .before .before .before .before .before .before .before .before .before .before .before .before .before .before .before .before .before .pre .1 .1)))
+
+-- src/coerce.rt:965:13
+struct-rule-same-length : (t : ℕ) → struct-rule-lts.Need-same-length (struct-rule-calls t) (struct-rule-at t) struct-rule.Post
+struct-rule-same-length t c =
+    search needs
+
+-- src/coerce.rt:965:13
+struct-rule-same-length-2 : (t : ℕ) → struct-rule-lts.Need-same-length-2 (struct-rule-calls t) (struct-rule-at t) struct-rule.Post
+struct-rule-same-length-2 t c =
+    search needs
+
+-- src/coerce.rt:965:13
+struct-rule-returns : (t : ℕ) → struct-rule-lts.Need-returns (struct-rule-calls t) (struct-rule-at t) struct-rule.Post
+struct-rule-returns t c =
+    (struct-named _ _ _ (c .before .before .before .before .before .before .before .before .before .before .before .before .before .before .before .before .before .before .before .before .before .before .before .before .before .before .args .swap) _ _ _ _ _ _ _ (c .before .before .before .before .before .before .before .before .before .before .before .before .before .before .before .before .before .before .before .before .before .look .ensures .0) (c .before .before .before .before .before .before .before .before .before .before .before .before .before .before .before .before .before .before .before .look2 .ensures .0) (c .before .before .before .before .before .before .before .before .before .before .before .before .before .before .same-arity .ensures) (c .before .before .before .before .before .before .before .before .have-same-names .ensures) (and-are (c .before .before .before .before .before .before .before .before .before .before .before .before .before .before .before .before .both .ensures) refl (c .before .before .before .before .before .before .before .before .before .before .before .before .before .both2 .ensures) ∙ (c .before .before .before .before .before .before .before .before .before .before .before .before .if1 .taken)) _ _ (c .before .before .before .before .before .before .before .before .before .before .before .before .before .before .before .before .before .before .before .before .before .before .before .before .before .before .args .known) _ (c .before .before .before .before .before .before .before .before .before .before .differ-in-part .ensures) (c .before .before .before .before .before .before .before .if2 .taken) (c .before .before .before .before .under .ensures .0), (c .before .before .before .before .under .ensures .1))
+
+-- src/coerce.rt:984:9
+struct-rule-under-requires-2 : (t : ℕ) → struct-rule-lts.Need-under-requires-2 (struct-rule-calls t) (struct-rule-at t) struct-rule.Post
+struct-rule-under-requires-2 t c κs =
+    (omega (arith, (c .before .before .before .before .before .before .before .before .before .before .before .before .before .before .before .before .before .before .before .before .before .pre .0)), (((c .before .before .before .before .before .before .before .before .before .before .before .before .before .before .before .before .before .before .before .before .before .pre .1 .0), omega arith), (c .before .before .before .before .before .before .before .before .before .before .before .before .before .before .before .before .before .before .before .before .before .pre .1 .1)))
+
+-- src/coerce.rt:984:9
+struct-rule-same-length-3 : (t : ℕ) → struct-rule-lts.Need-same-length-3 (struct-rule-calls t) (struct-rule-at t) struct-rule.Post
+struct-rule-same-length-3 t c =
+    search needs
+
+-- src/coerce.rt:984:9
+struct-rule-same-length-4 : (t : ℕ) → struct-rule-lts.Need-same-length-4 (struct-rule-calls t) (struct-rule-at t) struct-rule.Post
+struct-rule-same-length-4 t c =
+    search needs
+
+-- src/coerce.rt:984:9
+struct-rule-returns-2 : (t : ℕ) → struct-rule-lts.Need-returns-2 (struct-rule-calls t) (struct-rule-at t) struct-rule.Post
+struct-rule-returns-2 t c =
+    (struct-placed _ _ _ (c .before .before .before .before .before .before .before .before .before .before .before .before .before .before .before .before .before .before .before .before .before .before .before .before .before .before .args .swap) _ _ _ _ _ _ _ (c .before .before .before .before .before .before .before .before .before .before .before .before .before .before .before .before .before .before .before .before .before .look .ensures .0) (c .before .before .before .before .before .before .before .before .before .before .before .before .before .before .before .before .before .before .before .look2 .ensures .0) (c .before .before .before .before .before .before .before .before .before .before .before .before .before .before .same-arity .ensures) (c .before .before .before .before .before .before .before .before .have-same-names .ensures) (and-are (c .before .before .before .before .before .before .before .before .before .before .before .before .before .before .before .before .both .ensures) refl (c .before .before .before .before .before .before .before .before .before .before .before .before .before .both2 .ensures) ∙ (c .before .before .before .before .before .before .before .before .before .before .before .before .if1 .taken)) _ _ (c .before .before .before .before .before .before .before .before .before .before .before .before .before .before .before .before .before .before .before .before .before .before .before .before .before .before .args .known) _ (c .before .before .before .before .before .before .before .before .before .before .differ-in-part .ensures) (c .before .before .before .before .before .before .before .if2 .left) (c .before .before .before .before .under2 .ensures .0), (c .before .before .before .before .under2 .ensures .1))
+
+-- src/coerce.rt:936:1
+struct-rule-same-length-5 : (t : ℕ) → struct-rule-lts.Need-same-length-5 (struct-rule-calls t) (struct-rule-at t) struct-rule.Post
+struct-rule-same-length-5 t c =
+    search needs
+
+-- src/coerce.rt:936:1
+struct-rule-returns-3 : (t : ℕ) → struct-rule-lts.Need-returns-3 (struct-rule-calls t) (struct-rule-at t) struct-rule.Post
+struct-rule-returns-3 t c =
+    (struct-none _ _ _ (c .before .before .before .before .before .before .before .before .before .before .before .before .before .before .args .swap) _ _ _ _ _ _ _ (c .before .before .before .before .before .before .before .before .before .look .ensures .0) (c .before .before .before .before .before .before .before .look2 .ensures .0) (c .before .before .same-arity .ensures) (and-are (c .before .before .before .before .both .ensures) refl (c .before .both2 .ensures) ∙ (c .if1 .left)), (c .before .before .before .before .before .before .before .before .before .before .before .before .before .before .pre .1 .1))
+
+-- src/coerce.rt:865:17
+under-add-label : (t : ℕ) → under-lts.Need-add-label (under-calls t) (under-at t) under.Post
+under-add-label t c =
+    search needs
+
+-- src/coerce.rt:867:9
+under-returns : (t : ℕ) → under-lts.Need-returns (under-calls t) (under-at t) under.Post
+under-returns t c =
+    (under-full _ _ _ _ _ _ _ _ _ _ _ _ (c .if1 .taken), (c .before .before .before .before .before .before .pre .1 .1))
+
+-- src/coerce.rt:869:50
+under-first-link-requires : (t : ℕ) → under-lts.Need-first-link-requires (under-calls t) (under-at t) under.Post
+under-first-link-requires t c κs =
+    search needs
+
+-- src/coerce.rt:869:5
+under-lay-requires : (t : ℕ) → under-lts.Need-lay-requires (under-calls t) (under-at t) under.Post
+under-lay-requires t c κs =
+    ((c .before .before .before .before .before .before .before .before .pre .1 .0 .0), ((c .before .before .if1 .left), ((c .before .before .before .before .before .before .before .before .pre .1 .0 .1), (c .first-link .ensures .1))))
+
+-- src/coerce.rt:884:20
+under-add-t23 : (t : ℕ) → under-lts.Need-add-t23 (under-calls t) (under-at t) under.Post
+under-add-t23 t c =
+    search needs
+
+-- src/coerce.rt:870:5
+under-rows-requires : (t : ℕ) → under-lts.Need-rows-requires (under-calls t) (under-at t) under.Post
+under-rows-requires t c κs =
+    (omega (arith, (c .before .before .before .before .before .before .before .before .before .before .before .before .before .pre .0)), ((room-kept ((c .before .before .before .before .lay .ensures .kept)) (c .before .before .before .before .before .before .before .before .before .before .before .before .before .pre .1 .0 .0 .0), after-passes _ (c .before .before .before .before .before .before .before .before .before .before .before .before .before .pre .1 .0 .0 .1) (c .before .before .before .before .before .before .before .if1 .left) .0), tabled-over (c .before .before .before .before .before .before .before .before .before .before .before .before .before .pre .1 .0 .0 .0) ((c .before .before .before .before .lay .ensures .kept)) (c .before .before .before .before .before .before .before .before .before .before .before .before .before .pre .1 .1)))
+
+-- src/coerce.rt:841:1
+under-same-length : (t : ℕ) → under-lts.Need-same-length (under-calls t) (under-at t) under.Post
+under-same-length t c =
+    search needs
+
+-- src/coerce.rt:841:1
+under-same-length-2 : (t : ℕ) → under-lts.Need-same-length-2 (under-calls t) (under-at t) under.Post
+under-same-length-2 t c =
+    search needs
+
+-- src/coerce.rt:841:1
+under-returns-2 : (t : ℕ) → under-lts.Need-returns-2 (under-calls t) (under-at t) under.Post
+under-returns-2 t c =
+    (under-on _ _ _ _ _ _ _ _ _ _ _ _ _ _ (c .before .before .before .before .before .before .before .before .before .before .before .before .before .before .before .before .before .before .pre .1 .0 .0 .0) (c .before .before .before .before .before .before .before .before .before .before .before .before .before .before .before .before .before .before .pre .1 .0 .0 .1) (c .before .before .before .before .before .before .before .before .before .before .before .before .if1 .left) (c .before .before .before .before .before .before .before .before .before .before .first-link .ensures .0) (c .before .before .before .before .before .before .before .before .before .lay .ensures) (c .before .before .before .before .rows .ensures .0), (c .before .before .before .before .rows .ensures .1))
+
+-- src/coerce.rt:635:9
+unwrap-way-requires : (t : ℕ) → unwrap-lts.Need-way-requires (unwrap-calls t) (unwrap-at t) unwrap.Post
+unwrap-way-requires t c κs =
+    search needs
+
+-- src/coerce.rt:636:11
+unwrap-wrapper-requires : (t : ℕ) → unwrap-lts.Need-wrapper-requires (unwrap-calls t) (unwrap-at t) unwrap.Post
+unwrap-wrapper-requires t c κs =
+    (omega (arith, (c .before .before .before .before .before .before .before .pre .0)), ((c .before .before .before .before .before .before .before .pre .1 .0), ((c .before .before .way .ensures .wrapper), (c .before .before .before .before .before .before .before .pre .1 .1 .1))))
+
+-- src/coerce.rt:650:19
+unwrap-enum-known-d : (t : ℕ) → unwrap-lts.Need-enum-known-d (unwrap-calls t) (unwrap-at t) unwrap.Post
+unwrap-enum-known-d t c =
+    search needs
+
+-- src/coerce.rt:653:13
+unwrap-enum-told : (t : ℕ) → unwrap-lts.Need-enum-told (unwrap-calls t) (unwrap-at t) unwrap.Post
+unwrap-enum-told t c =
+    search needs
+
+-- src/coerce.rt:651:20
+unwrap-nested-requires : (t : ℕ) → unwrap-lts.Need-nested-requires (unwrap-calls t) (unwrap-at t) unwrap.Post
+unwrap-nested-requires t c κs =
+    (omega (arith, (c .before .before .before .before .before .before .before .before .before .before .before .before .before .before .before .before .pre .0)), ((room-kept (c .before .before .before .before .before .before .before .before .wrapper .ensures .0 .writes .kept) (c .before .before .before .before .before .before .before .before .before .before .before .before .before .before .before .before .pre .1 .0 .0), (c .before .before .before .before .before .before .before .before .before .before .before .before .before .before .before .before .pre .1 .0 .1)), (c .before .before .before .before .before .before .before .before .wrapper .ensures .1)))
+
+-- src/coerce.rt:665:22
+unwrap-enum-told-2 : (t : ℕ) → unwrap-lts.Need-enum-told-2 (unwrap-calls t) (unwrap-at t) unwrap.Post
+unwrap-enum-told-2 t c =
+    search needs
+
+-- src/coerce.rt:616:1
+unwrap-same-length : (t : ℕ) → unwrap-lts.Need-same-length (unwrap-calls t) (unwrap-at t) unwrap.Post
+unwrap-same-length t c =
+    search needs
+
+-- src/coerce.rt:616:1
+unwrap-same-length-2 : (t : ℕ) → unwrap-lts.Need-same-length-2 (unwrap-calls t) (unwrap-at t) unwrap.Post
+unwrap-same-length-2 t c =
+    search needs
+
+-- src/coerce.rt:616:1
+unwrap-returns : (t : ℕ) → unwrap-lts.Need-returns (unwrap-calls t) (unwrap-at t) unwrap.Post
+unwrap-returns t c =
+    (unwrap-done _ (c .before .before .before .before .before .before .before .before .before .before .before .before .before .before .before .pre .1 .1 .0) _ _ (c .before .before .before .before .before .before .before .before .before .before .before .before .before .before .before .args .swap) _ _ _ _ _ (c .before .before .before .before .before .before .before .before .before .before .way .ensures) _ _ (rw (c .before .d .given .1) at (c .before .before .before .before .before .before .before .wrapper .ensures .0)), (c .before .before .before .before .before .before .before .wrapper .ensures .1))
+
+-- src/coerce.rt:616:1
+unwrap-same-length-3 : (t : ℕ) → unwrap-lts.Need-same-length-3 (unwrap-calls t) (unwrap-at t) unwrap.Post
+unwrap-same-length-3 t c =
+    search needs
+
+-- src/coerce.rt:616:1
+unwrap-same-length-4 : (t : ℕ) → unwrap-lts.Need-same-length-4 (unwrap-calls t) (unwrap-at t) unwrap.Post
+unwrap-same-length-4 t c =
+    search needs
+
+-- src/coerce.rt:616:1
+unwrap-returns-2 : (t : ℕ) → unwrap-lts.Need-returns-2 (unwrap-calls t) (unwrap-at t) unwrap.Post
+unwrap-returns-2 t c =
+    (unwrap-nested _ (c .before .before .before .before .before .before .before .before .before .before .before .before .before .before .before .before .before .before .before .before .before .pre .1 .1 .0) _ _ (c .before .before .before .before .before .before .before .before .before .before .before .before .before .before .before .before .before .before .before .before .before .args .swap) _ _ _ _ _ (c .before .before .before .before .before .before .before .before .before .before .before .before .before .before .before .before .way .ensures) _ (c .before .before .before .before .before .before .before .before .before .before .before .before .before .before .before .before .before .before .before .before .before .pre .1 .0 .0) _ _ (rw (c .before .before .before .before .before .before .before .enum-told .given .1) at (c .before .before .before .before .before .before .before .before .before .before .before .before .before .wrapper .ensures .0)) (none-known (c .before .before .before .before .before .before .before .before .before .before .before .before .before .before .before .before .before .before .before .before .before .args .swap) (c .before .before .before .before .nested .ensures .0)), (c .before .before .before .before .nested .ensures .1))
+
+-- src/coerce.rt:616:1
+unwrap-same-length-5 : (t : ℕ) → unwrap-lts.Need-same-length-5 (unwrap-calls t) (unwrap-at t) unwrap.Post
+unwrap-same-length-5 t c =
+    search needs
+
+-- src/coerce.rt:616:1
+unwrap-same-length-6 : (t : ℕ) → unwrap-lts.Need-same-length-6 (unwrap-calls t) (unwrap-at t) unwrap.Post
+unwrap-same-length-6 t c =
+    search needs
+
+-- src/coerce.rt:616:1
+unwrap-returns-3 : (t : ℕ) → unwrap-lts.Need-returns-3 (unwrap-calls t) (unwrap-at t) unwrap.Post
+unwrap-returns-3 t c =
+    (unwrap-full _ (c .before .before .before .before .before .before .before .before .before .before .before .before .before .before .pre .1 .1 .0) _ _ (c .before .before .before .before .before .before .before .before .before .before .before .before .before .before .args .swap) _ _ _ _ _ (c .before .before .before .before .before .before .before .before .before .way .ensures) _ (rw (c .enum-told2 .given .1) at (c .before .before .before .before .before .before .wrapper .ensures .0)), (c .before .before .before .before .before .before .wrapper .ensures .1))
+
+-- src/coerce.rt:690:9
+wrapper-kind-at-requires : (t : ℕ) → wrapper-lts.Need-kind-at-requires (wrapper-calls t) (wrapper-at t) wrapper.Post
+wrapper-kind-at-requires t c κs =
+    search needs
+
+-- src/coerce.rt:691:9
+wrapper-kind-at-requires-2 : (t : ℕ) → wrapper-lts.Need-kind-at-requires-2 (wrapper-calls t) (wrapper-at t) wrapper.Post
+wrapper-kind-at-requires-2 t c κs =
+    search needs
+
+-- src/coerce.rt:692:9
+wrapper-value-at-requires : (t : ℕ) → wrapper-lts.Need-value-at-requires (wrapper-calls t) (wrapper-at t) wrapper.Post
+wrapper-value-at-requires t c κs =
+    search needs
+
+-- src/coerce.rt:693:9
+wrapper-value-at-requires-2 : (t : ℕ) → wrapper-lts.Need-value-at-requires-2 (wrapper-calls t) (wrapper-at t) wrapper.Post
+wrapper-value-at-requires-2 t c κs =
+    search needs
+
+-- src/coerce.rt:696:13
+wrapper-common-requires : (t : ℕ) → wrapper-lts.Need-common-requires (wrapper-calls t) (wrapper-at t) wrapper.Post
+wrapper-common-requires t c κs =
+    (omega (arith, (c .before .before .before .before .before .before .before .before .before .before .before .before .before .before .before .pre .0)), ((c .before .before .before .before .before .before .before .before .before .before .before .before .before .before .before .pre .1 .0), (c .before .before .before .before .before .before .before .before .before .before .before .before .before .before .before .pre .1 .1 .1)))
+
+-- src/coerce.rt:696:13
+wrapper-same-length : (t : ℕ) → wrapper-lts.Need-same-length (wrapper-calls t) (wrapper-at t) wrapper.Post
+wrapper-same-length t c =
+    search needs
+
+-- src/coerce.rt:696:13
+wrapper-same-length-2 : (t : ℕ) → wrapper-lts.Need-same-length-2 (wrapper-calls t) (wrapper-at t) wrapper.Post
+wrapper-same-length-2 t c =
+    search needs
+
+-- src/coerce.rt:696:13
+wrapper-returns : (t : ℕ) → wrapper-lts.Need-returns (wrapper-calls t) (wrapper-at t) wrapper.Post
+wrapper-returns t c =
+    (wrapper-both _ _ _ (c .before .before .before .before .before .before .before .before .before .before .before .before .before .before .before .before .before .before .before .before .args .swap) _ _ _ _ _ (c .before .before .before .before .before .before .before .before .before .before .before .before .before .before .before .kind-at .ensures) (c .before .before .before .before .before .before .before .before .before .before .before .before .before .kind-at2 .ensures) (c .before .before .before .before .before .before .before .before .before .before .before .before .before .before .before .before .before .before .before .before .pre .1 .1 .0) _ _ (c .before .before .before .before .before .before .before .before .before .before .before .value-at .ensures) (c .before .before .before .before .before .before .before .before .before .value-at2 .ensures) (c .before .before .before .before .before .before .before .before .if1 .taken) (c .before .before .before .before .before .before .before .if2 .taken) (none-known (c .before .before .before .before .before .before .before .before .before .before .before .before .before .before .before .before .before .before .before .before .args .swap) (c .before .before .before .before .common .ensures .0)), (c .before .before .before .before .common .ensures .1))
+
+-- src/coerce.rt:711:12
+wrapper-same-sides-requires : (t : ℕ) → wrapper-lts.Need-same-sides-requires (wrapper-calls t) (wrapper-at t) wrapper.Post
+wrapper-same-sides-requires t c κs =
+    search needs
+
+-- src/coerce.rt:712:13
+wrapper-copy-type-requires : (t : ℕ) → wrapper-lts.Need-copy-type-requires (wrapper-calls t) (wrapper-at t) wrapper.Post
+wrapper-copy-type-requires t c κs =
+    (c .before .before .before .before .before .before .before .before .before .before .before .before .before .before .before .before .before .pre .1 .0)
+
+-- src/coerce.rt:712:13
+wrapper-same-length-3 : (t : ℕ) → wrapper-lts.Need-same-length-3 (wrapper-calls t) (wrapper-at t) wrapper.Post
+wrapper-same-length-3 t c =
+    search needs
+
+-- src/coerce.rt:712:13
+wrapper-returns-2 : (t : ℕ) → wrapper-lts.Need-returns-2 (wrapper-calls t) (wrapper-at t) wrapper.Post
+wrapper-returns-2 t c =
+    (wrapper-left-same _ _ _ (c .before .before .before .before .before .before .before .before .before .before .before .before .before .before .before .before .before .before .before .before .args .swap) _ _ _ _ _ (c .before .before .before .before .before .before .before .before .before .before .before .before .before .before .before .kind-at .ensures) (c .before .before .before .before .before .before .before .before .before .before .before .before .before .kind-at2 .ensures) (c .before .before .before .before .before .before .before .before .before .before .before .before .before .before .before .before .before .before .before .before .pre .1 .1 .0) _ _ (c .before .before .before .before .before .before .before .before .if1 .taken) (c .before .before .before .before .before .before .before .if2 .left) (c .before .before .before .before .before .before .before .before .before .before .before .value-at .ensures) (c .before .before .before .before .before .same-sides .ensures) (c .before .before .before .before .if3 .taken) (c .before .before .copy-type .ensures), tabled-over (c .before .before .before .before .before .before .before .before .before .before .before .before .before .before .before .before .before .before .before .before .pre .1 .0 .0) ((c .before .before .copy-type .ensures .writes .kept)) (c .before .before .before .before .before .before .before .before .before .before .before .before .before .before .before .before .before .before .before .before .pre .1 .1 .1))
+
+-- src/coerce.rt:714:9
+wrapper-common-requires-2 : (t : ℕ) → wrapper-lts.Need-common-requires-2 (wrapper-calls t) (wrapper-at t) wrapper.Post
+wrapper-common-requires-2 t c κs =
+    (omega (arith, (c .before .before .before .before .before .before .before .before .before .before .before .before .before .before .before .before .before .before .pre .0)), ((c .before .before .before .before .before .before .before .before .before .before .before .before .before .before .before .before .before .before .pre .1 .0), (c .before .before .before .before .before .before .before .before .before .before .before .before .before .before .before .before .before .before .pre .1 .1 .1)))
+
+-- src/coerce.rt:714:9
+wrapper-same-length-4 : (t : ℕ) → wrapper-lts.Need-same-length-4 (wrapper-calls t) (wrapper-at t) wrapper.Post
+wrapper-same-length-4 t c =
+    search needs
+
+-- src/coerce.rt:714:9
+wrapper-same-length-5 : (t : ℕ) → wrapper-lts.Need-same-length-5 (wrapper-calls t) (wrapper-at t) wrapper.Post
+wrapper-same-length-5 t c =
+    search needs
+
+-- src/coerce.rt:714:9
+wrapper-returns-3 : (t : ℕ) → wrapper-lts.Need-returns-3 (wrapper-calls t) (wrapper-at t) wrapper.Post
+wrapper-returns-3 t c =
+    (wrapper-left _ _ _ (c .before .before .before .before .before .before .before .before .before .before .before .before .before .before .before .before .before .before .before .before .before .before .before .args .swap) _ _ _ _ _ (c .before .before .before .before .before .before .before .before .before .before .before .before .before .before .before .before .before .before .kind-at .ensures) (c .before .before .before .before .before .before .before .before .before .before .before .before .before .before .before .before .kind-at2 .ensures) (c .before .before .before .before .before .before .before .before .before .before .before .before .before .before .before .before .before .before .before .before .before .before .before .pre .1 .1 .0) _ _ (c .before .before .before .before .before .before .before .before .before .before .before .if1 .taken) (c .before .before .before .before .before .before .before .before .before .before .if2 .left) (c .before .before .before .before .before .before .before .before .before .before .before .before .before .before .value-at .ensures) (c .before .before .before .before .before .before .before .before .same-sides .ensures) (c .before .before .before .before .before .before .before .if3 .left) (none-known (c .before .before .before .before .before .before .before .before .before .before .before .before .before .before .before .before .before .before .before .before .before .before .before .args .swap) (c .before .before .before .before .common2 .ensures .0)), (c .before .before .before .before .common2 .ensures .1))
+
+-- src/coerce.rt:730:12
+wrapper-same-sides-requires-2 : (t : ℕ) → wrapper-lts.Need-same-sides-requires-2 (wrapper-calls t) (wrapper-at t) wrapper.Post
+wrapper-same-sides-requires-2 t c κs =
+    search needs
+
+-- src/coerce.rt:731:13
+wrapper-copy-type-requires-2 : (t : ℕ) → wrapper-lts.Need-copy-type-requires-2 (wrapper-calls t) (wrapper-at t) wrapper.Post
+wrapper-copy-type-requires-2 t c κs =
+    (c .before .before .before .before .before .before .before .before .before .before .before .before .before .before .before .before .before .pre .1 .0)
+
+-- src/coerce.rt:731:13
+wrapper-same-length-6 : (t : ℕ) → wrapper-lts.Need-same-length-6 (wrapper-calls t) (wrapper-at t) wrapper.Post
+wrapper-same-length-6 t c =
+    search needs
+
+-- src/coerce.rt:731:13
+wrapper-returns-4 : (t : ℕ) → wrapper-lts.Need-returns-4 (wrapper-calls t) (wrapper-at t) wrapper.Post
+wrapper-returns-4 t c =
+    (wrapper-right-same _ _ _ (c .before .before .before .before .before .before .before .before .before .before .before .before .before .before .before .before .before .before .before .before .args .swap) _ _ _ _ _ (c .before .before .before .before .before .before .before .before .before .before .before .before .before .before .before .kind-at .ensures) (c .before .before .before .before .before .before .before .before .before .before .before .before .before .kind-at2 .ensures) (c .before .before .before .before .before .before .before .before .before .before .before .before .before .before .before .before .before .before .before .before .pre .1 .1 .0) _ _ (c .before .before .before .before .before .before .before .before .if1 .left) (c .before .before .before .before .before .before .before .if4 .taken) (c .before .before .before .before .before .before .before .before .before .value-at2 .ensures) (c .before .before .before .before .before .same-sides2 .ensures) (c .before .before .before .before .if5 .taken) (c .before .before .copy-type2 .ensures), tabled-over (c .before .before .before .before .before .before .before .before .before .before .before .before .before .before .before .before .before .before .before .before .pre .1 .0 .0) ((c .before .before .copy-type2 .ensures .writes .kept)) (c .before .before .before .before .before .before .before .before .before .before .before .before .before .before .before .before .before .before .before .before .pre .1 .1 .1))
+
+-- src/coerce.rt:733:9
+wrapper-common-requires-3 : (t : ℕ) → wrapper-lts.Need-common-requires-3 (wrapper-calls t) (wrapper-at t) wrapper.Post
+wrapper-common-requires-3 t c κs =
+    (omega (arith, (c .before .before .before .before .before .before .before .before .before .before .before .before .before .before .before .before .before .before .pre .0)), ((c .before .before .before .before .before .before .before .before .before .before .before .before .before .before .before .before .before .before .pre .1 .0), (c .before .before .before .before .before .before .before .before .before .before .before .before .before .before .before .before .before .before .pre .1 .1 .1)))
+
+-- src/coerce.rt:733:9
+wrapper-same-length-7 : (t : ℕ) → wrapper-lts.Need-same-length-7 (wrapper-calls t) (wrapper-at t) wrapper.Post
+wrapper-same-length-7 t c =
+    search needs
+
+-- src/coerce.rt:733:9
+wrapper-same-length-8 : (t : ℕ) → wrapper-lts.Need-same-length-8 (wrapper-calls t) (wrapper-at t) wrapper.Post
+wrapper-same-length-8 t c =
+    search needs
+
+-- src/coerce.rt:733:9
+wrapper-returns-5 : (t : ℕ) → wrapper-lts.Need-returns-5 (wrapper-calls t) (wrapper-at t) wrapper.Post
+wrapper-returns-5 t c =
+    (wrapper-right _ _ _ (c .before .before .before .before .before .before .before .before .before .before .before .before .before .before .before .before .before .before .before .before .before .before .before .args .swap) _ _ _ _ _ (c .before .before .before .before .before .before .before .before .before .before .before .before .before .before .before .before .before .before .kind-at .ensures) (c .before .before .before .before .before .before .before .before .before .before .before .before .before .before .before .before .kind-at2 .ensures) (c .before .before .before .before .before .before .before .before .before .before .before .before .before .before .before .before .before .before .before .before .before .before .before .pre .1 .1 .0) _ _ (c .before .before .before .before .before .before .before .before .before .before .before .if1 .left) (c .before .before .before .before .before .before .before .before .before .before .if4 .taken) (c .before .before .before .before .before .before .before .before .before .before .before .before .value-at2 .ensures) (c .before .before .before .before .before .before .before .before .same-sides2 .ensures) (c .before .before .before .before .before .before .before .if5 .left) (none-known (c .before .before .before .before .before .before .before .before .before .before .before .before .before .before .before .before .before .before .before .before .before .before .before .args .swap) (c .before .before .before .before .common3 .ensures .0)), (c .before .before .before .before .common3 .ensures .1))
+
+-- src/coerce.rt:670:1
+wrapper-same-length-9 : (t : ℕ) → wrapper-lts.Need-same-length-9 (wrapper-calls t) (wrapper-at t) wrapper.Post
+wrapper-same-length-9 t c =
+    search needs
+
+-- src/coerce.rt:670:1
+wrapper-returns-6 : (t : ℕ) → wrapper-lts.Need-returns-6 (wrapper-calls t) (wrapper-at t) wrapper.Post
+wrapper-returns-6 t c =
+    (wrapper-none _ _ _ (c .before .before .before .before .before .before .before .before .before .before .before .before .before .args .swap) _ _ _ _ _ (c .before .before .before .before .before .before .before .before .kind-at .ensures) (c .before .before .before .before .before .before .kind-at2 .ensures) (c .before .before .before .before .before .before .before .before .before .before .before .before .before .pre .1 .1 .0) (c .before .if1 .left) (c .if4 .left), (c .before .before .before .before .before .before .before .before .before .before .before .before .before .pre .1 .1 .1))
+
+pub +both-parts+coerce-field+coerce-value+common+entry+list-rule+list-struct+map-rule+nested+resolve+resolve-wrapper+rewrapped+rows+struct-rule+under+unwrap+wrapper-spec :
+    {M : Type 1} → statement M
++both-parts+coerce-field+coerce-value+common+entry+list-rule+list-struct+map-rule+nested+resolve+resolve-wrapper+rewrapped+rows+struct-rule+under+unwrap+wrapper-spec =
+    close
+    μ-both-parts
+    μ-coerce-field
+    μ-coerce-value
+    μ-common
+    μ-entry
+    μ-list-rule
+    μ-list-struct
+    μ-map-rule
+    μ-nested
+    μ-resolve
+    μ-resolve-wrapper
+    μ-rewrapped
+    μ-rows
+    μ-struct-rule
+    μ-under
+    μ-unwrap
+    μ-wrapper
+    (λ t. both-parts-lts.spec (both-parts-calls t)
+    (both-parts-at t)
+    both-parts.Post
+    (both-parts-returns t)
+    (both-parts-look-requires t)
+    (both-parts-look-requires-2 t)
+    (both-parts-copy-head-requires t)
+    (both-parts-enum-known-d t)
+    (both-parts-rows-requires t)
+    (both-parts-enum-told t)
+    (both-parts-enum-told-2 t)
+    (both-parts-same-length t)
+    (both-parts-same-length-2 t)
+    (both-parts-returns-2 t)
+    (both-parts-same-length-3 t)
+    (both-parts-returns-3 t)
+    (both-parts-same-length-4 t)
+    (both-parts-returns-4 t))
+    (λ t. coerce-field-lts.spec (coerce-field-calls t)
+    (coerce-field-at t)
+    coerce-field.Post
+    (coerce-field-look-requires t)
+    (coerce-field-is-nullable-requires t)
+    (coerce-field-name-field-requires t)
+    (coerce-field-coerce-value-requires t)
+    (coerce-field-same-length t)
+    (coerce-field-same-length-2 t)
+    (coerce-field-returns t)
+    (coerce-field-same-length-3 t)
+    (coerce-field-returns-2 t))
+    (λ t. coerce-value-lts.spec (coerce-value-calls t)
+    (coerce-value-at t)
+    coerce-value.Post
+    (coerce-value-returns t)
+    (coerce-value-kind-at-requires t)
+    (coerce-value-kind-at-requires-2 t)
+    (coerce-value-either-requires t)
+    (coerce-value-both-requires t)
+    (coerce-value-sub-rewrapped t)
+    (coerce-value-rewrapped-requires t)
+    (coerce-value-same-length t)
+    (coerce-value-same-length-2 t)
+    (coerce-value-returns-2 t)
+    (coerce-value-common-requires t)
+    (coerce-value-same-length-3 t)
+    (coerce-value-same-length-4 t)
+    (coerce-value-returns-3 t)
+    (coerce-value-both-requires-2 t)
+    (coerce-value-plain-rule-requires t)
+    (coerce-value-same-length-5 t)
+    (coerce-value-returns-4 t)
+    (coerce-value-common-requires-2 t)
+    (coerce-value-same-length-6 t)
+    (coerce-value-same-length-7 t)
+    (coerce-value-returns-5 t))
+    (λ t. common-lts.spec (common-calls t)
+    (common-at t)
+    common.Post
+    (common-returns t)
+    (common-is-list-question-requires t)
+    (common-are-same-requires t)
+    (common-copy-type-requires t)
+    (common-same-length t)
+    (common-returns-2 t)
+    (common-kind-at-requires t)
+    (common-kind-at-requires-2 t)
+    (common-both-requires t)
+    (common-plain-rule-requires t)
+    (common-same-length-2 t)
+    (common-returns-3 t)
+    (common-both-requires-2 t)
+    (common-sub-nested t)
+    (common-nested-requires t)
+    (common-same-length-3 t)
+    (common-same-length-4 t)
+    (common-returns-4 t)
+    (common-sub-resolve t)
+    (common-resolve-requires t)
+    (common-same-length-5 t)
+    (common-same-length-6 t)
+    (common-returns-5 t)
+    (common-sub-unwrap t)
+    (common-unwrap-requires t)
+    (common-same-length-7 t)
+    (common-same-length-8 t)
+    (common-returns-6 t))
+    (λ t. entry-lts.spec (entry-calls t)
+    (entry-at t)
+    entry.Post
+    (entry-look-requires t)
+    (entry-is-nullable-requires t)
+    (entry-name-field-requires t)
+    (entry-struct-rule-requires t)
+    (entry-same-length t)
+    (entry-same-length-2 t)
+    (entry-returns t)
+    (entry-same-length-3 t)
+    (entry-returns-2 t))
+    (λ t. list-rule-lts.spec (list-rule-calls t)
+    (list-rule-at t)
+    list-rule.Post
+    (list-rule-look-requires t)
+    (list-rule-look-requires-2 t)
+    (list-rule-list-kind-requires t)
+    (list-rule-list-size-requires t)
+    (list-rule-differ-in-part-requires t)
+    (list-rule-under-requires t)
+    (list-rule-same-length t)
+    (list-rule-same-length-2 t)
+    (list-rule-returns t))
+    (λ t. list-struct-lts.spec (list-struct-calls t)
+    (list-struct-at t)
+    list-struct.Post
+    (list-struct-look-requires t)
+    (list-struct-look-requires-2 t)
+    (list-struct-same-arity-requires t)
+    (list-struct-have-same-names-requires t)
+    (list-struct-both-requires t)
+    (list-struct-differ-in-part-requires t)
+    (list-struct-under-requires t)
+    (list-struct-same-length t)
+    (list-struct-same-length-2 t)
+    (list-struct-returns t)
+    (list-struct-same-length-3 t)
+    (list-struct-returns-2 t))
+    (λ t. map-rule-lts.spec (map-rule-calls t)
+    (map-rule-at t)
+    map-rule.Post
+    (map-rule-add-label t)
+    (map-rule-returns t)
+    (map-rule-look-requires t)
+    (map-rule-look-requires-2 t)
+    (map-rule-both-requires t)
+    (map-rule-same-length t)
+    (map-rule-returns-2 t)
+    (map-rule-same-length-2 t)
+    (map-rule-returns-3 t)
+    (map-rule-differ-in-part-requires t)
+    (map-rule-add-lay t)
+    (map-rule-lay-requires t)
+    (map-rule-add-t36 t)
+    (map-rule-entry-requires t)
+    (map-rule-same-length-3 t)
+    (map-rule-same-length-4 t)
+    (map-rule-returns-4 t))
+    (λ t. nested-lts.spec (nested-calls t)
+    (nested-at t)
+    nested.Post
+    (nested-kind-at-requires t)
+    (nested-kind-at-requires-2 t)
+    (nested-is-list-requires t)
+    (nested-is-list-requires-2 t)
+    (nested-both-requires t)
+    (nested-list-rule-requires t)
+    (nested-same-length t)
+    (nested-same-length-2 t)
+    (nested-returns t)
+    (nested-both-requires-2 t)
+    (nested-is-list-question-requires t)
+    (nested-list-struct-requires t)
+    (nested-same-length-3 t)
+    (nested-same-length-4 t)
+    (nested-returns-2 t)
+    (nested-struct-rule-requires t)
+    (nested-same-length-5 t)
+    (nested-same-length-6 t)
+    (nested-returns-3 t)
+    (nested-both-requires-3 t)
+    (nested-map-rule-requires t)
+    (nested-same-length-7 t)
+    (nested-same-length-8 t)
+    (nested-returns-4 t)
+    (nested-plain-rule-requires t)
+    (nested-same-length-9 t)
+    (nested-returns-5 t))
+    (λ t. resolve-lts.spec (resolve-calls t)
+    (resolve-at t)
+    resolve.Post
+    (resolve-kind-at-requires t)
+    (resolve-kind-at-requires-2 t)
+    (resolve-either-requires t)
+    (resolve-resolve-wrapper-requires t)
+    (resolve-same-length t)
+    (resolve-same-length-2 t)
+    (resolve-returns t)
+    (resolve-either-requires-2 t)
+    (resolve-resolve-wrapper-requires-2 t)
+    (resolve-same-length-3 t)
+    (resolve-same-length-4 t)
+    (resolve-returns-2 t)
+    (resolve-nested-requires t)
+    (resolve-same-length-5 t)
+    (resolve-same-length-6 t)
+    (resolve-returns-3 t))
+    (λ t. resolve-wrapper-lts.spec (resolve-wrapper-calls t)
+    (resolve-wrapper-at t)
+    resolve-wrapper.Post
+    (resolve-wrapper-kind-at-requires t)
+    (resolve-wrapper-kind-at-requires-2 t)
+    (resolve-wrapper-both-parts-requires t)
+    (resolve-wrapper-same-length t)
+    (resolve-wrapper-same-length-2 t)
+    (resolve-wrapper-returns t)
+    (resolve-wrapper-rewrapped-requires t)
+    (resolve-wrapper-same-length-3 t)
+    (resolve-wrapper-same-length-4 t)
+    (resolve-wrapper-returns-2 t)
+    (resolve-wrapper-rewrapped-requires-2 t)
+    (resolve-wrapper-same-length-5 t)
+    (resolve-wrapper-same-length-6 t)
+    (resolve-wrapper-returns-3 t)
+    (resolve-wrapper-same-length-7 t)
+    (resolve-wrapper-returns-4 t))
+    (λ t. rewrapped-lts.spec (rewrapped-calls t)
+    (rewrapped-at t)
+    rewrapped.Post
+    (rewrapped-returns t)
+    (rewrapped-look-requires t)
+    (rewrapped-look-requires-2 t)
+    (rewrapped-copy-parent-requires t)
+    (rewrapped-enum-known-a t)
+    (rewrapped-copy-index-requires t)
+    (rewrapped-enum-known-b t)
+    (rewrapped-coerce-field-requires t)
+    (rewrapped-enum-known-e t)
+    (rewrapped-tie-requires t)
+    (rewrapped-keep-wrapper-requires t)
+    (rewrapped-enum-told t)
+    (rewrapped-enum-told-2 t)
+    (rewrapped-enum-told-3 t)
+    (rewrapped-enum-told-4 t)
+    (rewrapped-enum-told-5 t)
+    (rewrapped-enum-told-6 t)
+    (rewrapped-same-length t)
+    (rewrapped-same-length-2 t)
+    (rewrapped-returns-2 t)
+    (rewrapped-same-length-3 t)
+    (rewrapped-same-length-4 t)
+    (rewrapped-returns-3 t)
+    (rewrapped-same-length-5 t)
+    (rewrapped-same-length-6 t)
+    (rewrapped-returns-4 t)
+    (rewrapped-same-length-7 t)
+    (rewrapped-returns-5 t)
+    (rewrapped-same-length-8 t)
+    (rewrapped-returns-6 t)
+    (rewrapped-same-length-9 t)
+    (rewrapped-returns-7 t)
+    (rewrapped-same-length-10 t)
+    (rewrapped-returns-8 t))
+    (λ t. rows-lts.spec (rows-calls t)
+    (rows-at t)
+    rows.Post
+    (rows-row-end-requires t)
+    (rows-returns t)
+    (rows-returns-2 t)
+    (rows-look-requires t)
+    (rows-row-requires t)
+    (rows-same-length t)
+    (rows-returns-3 t)
+    (rows-name-field-requires t)
+    (rows-same-length-2 t)
+    (rows-returns-4 t)
+    (rows-common-requires t)
+    (rows-enum-known-d t)
+    (rows-sub-rows t)
+    (rows-rows-requires t)
+    (rows-enum-known-e t)
+    (rows-next-link-requires t)
+    (rows-tie-requires t)
+    (rows-enum-told t)
+    (rows-enum-told-2 t)
+    (rows-enum-told-3 t)
+    (rows-enum-told-4 t)
+    (rows-same-length-3 t)
+    (rows-same-length-4 t)
+    (rows-returns-5 t)
+    (rows-same-length-5 t)
+    (rows-same-length-6 t)
+    (rows-returns-6 t)
+    (rows-same-length-7 t)
+    (rows-same-length-8 t)
+    (rows-returns-7 t)
+    (rows-same-length-9 t)
+    (rows-same-length-10 t)
+    (rows-returns-8 t)
+    (rows-same-length-11 t)
+    (rows-same-length-12 t)
+    (rows-returns-9 t))
+    (λ t. struct-rule-lts.spec (struct-rule-calls t)
+    (struct-rule-at t)
+    struct-rule.Post
+    (struct-rule-look-requires t)
+    (struct-rule-look-requires-2 t)
+    (struct-rule-both-requires t)
+    (struct-rule-same-arity-requires t)
+    (struct-rule-both-requires-2 t)
+    (struct-rule-differ-in-part-requires t)
+    (struct-rule-have-same-names-requires t)
+    (struct-rule-under-requires t)
+    (struct-rule-same-length t)
+    (struct-rule-same-length-2 t)
+    (struct-rule-returns t)
+    (struct-rule-under-requires-2 t)
+    (struct-rule-same-length-3 t)
+    (struct-rule-same-length-4 t)
+    (struct-rule-returns-2 t)
+    (struct-rule-same-length-5 t)
+    (struct-rule-returns-3 t))
+    (λ t. under-lts.spec (under-calls t)
+    (under-at t)
+    under.Post
+    (under-add-label t)
+    (under-returns t)
+    (under-first-link-requires t)
+    (under-lay-requires t)
+    (under-add-t23 t)
+    (under-rows-requires t)
+    (under-same-length t)
+    (under-same-length-2 t)
+    (under-returns-2 t))
+    (λ t. unwrap-lts.spec (unwrap-calls t)
+    (unwrap-at t)
+    unwrap.Post
+    (unwrap-way-requires t)
+    (unwrap-wrapper-requires t)
+    (unwrap-enum-known-d t)
+    (unwrap-enum-told t)
+    (unwrap-nested-requires t)
+    (unwrap-enum-told-2 t)
+    (unwrap-same-length t)
+    (unwrap-same-length-2 t)
+    (unwrap-returns t)
+    (unwrap-same-length-3 t)
+    (unwrap-same-length-4 t)
+    (unwrap-returns-2 t)
+    (unwrap-same-length-5 t)
+    (unwrap-same-length-6 t)
+    (unwrap-returns-3 t))
+    λ t. wrapper-lts.spec (wrapper-calls t)
+    (wrapper-at t)
+    wrapper.Post
+    (wrapper-kind-at-requires t)
+    (wrapper-kind-at-requires-2 t)
+    (wrapper-value-at-requires t)
+    (wrapper-value-at-requires-2 t)
+    (wrapper-common-requires t)
+    (wrapper-same-length t)
+    (wrapper-same-length-2 t)
+    (wrapper-returns t)
+    (wrapper-same-sides-requires t)
+    (wrapper-copy-type-requires t)
+    (wrapper-same-length-3 t)
+    (wrapper-returns-2 t)
+    (wrapper-common-requires-2 t)
+    (wrapper-same-length-4 t)
+    (wrapper-same-length-5 t)
+    (wrapper-returns-3 t)
+    (wrapper-same-sides-requires-2 t)
+    (wrapper-copy-type-requires-2 t)
+    (wrapper-same-length-6 t)
+    (wrapper-returns-4 t)
+    (wrapper-common-requires-3 t)
+    (wrapper-same-length-7 t)
+    (wrapper-same-length-8 t)
+    (wrapper-returns-5 t)
+    (wrapper-same-length-9 t)
+    (wrapper-returns-6 t)
