@@ -10,7 +10,6 @@ pub mod Laying
 pub mod Tying
 pub mod Fielding
 pub mod Stamping
-pub mod Naming
 pub mod Rows
 pub mod Steps
 pub mod Turns

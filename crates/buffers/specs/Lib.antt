@@ -7,6 +7,5 @@ pub mod Goal
 pub mod Typed
 pub mod Feeds
 pub mod Partners
-pub mod Naming
 pub mod Plain
 pub mod Steps
