@@ -1,9 +1,9 @@
 -- Two structs that were merged, by name or by place. Assumes nothing.
-use mathlib.Core.Path.{_≡_, refl, ap, ap₂, sym, _∙_}
+use mathlib.Core.Path.{_≡_, refl, ap, ap₂, sym, subst, _∙_}
 use mathlib.Core.Bool.{Bool, true, false, cond, not, _&&_}
 use mathlib.Core.List.{List}
 use mathlib.Core.Option.{Option, none, some, Option·some-injective}
-use Prim.Native.Nat.{ℕ, _+_}
+use Prim.Native.Nat.{ℕ, _+_, _≤_}
 use native.Mathlib.Omega.{arith}
 use lib.Dec.{eqb}
 use borrow.Author.Tests.{eq-eqb, eqb-true, not-true}
@@ -19,19 +19,22 @@ use Rattle.coercion.specs.Same.{sameShape}
 use Rattle.coercion.specs.Nested.{joinFields, withName, byName, fieldsHaveSameNames, partners, listOf, structOf, structCoercion}
 use Rattle.coercion.specs.Answers.{listStruct}
 use Rattle.buffers.specs.Writes.{side}
-use Rattle.buffers.specs.Goal.{letters, shapeFor}
-use Rattle.buffers.specs.Typed.{Typed}
+use Rattle.buffers.specs.Goal.{letters, Means, shapeFor}
+use Rattle.buffers.specs.Typed.{Chain, Typed}
+use Rattle.buffers.specs.Feeds.{Feeds}
+use Rattle.buffers.specs.Partners.{sameOrder}
 use Rattle.buffers.specs.Part.{sameLone, sameButPart, sameFirst}
-use Rattle.merge.specs.Merge.{DifferInPart, MergesKnown, Under}
+use Rattle.merge.specs.Merge.{Differ, DifferInPart, StructFed, MergesKnown, Under}
 use Rattle.buffers.specs.declared.Space.{Space}
 use Rattle.buffers.specs.declared.Goal.{Goal}
 use Rattle.buffers.specs.declared.Out.{Out}
 use Rattle.buffers.specs.declared.Out.the-variants.{No}
+use Rattle.buffers.specs.declared.Feed.{Feed}
 use Rattle.buffers.specs.declared.Feed.the-variants as Feed
 use Rattle.buffers.proofs.Chained.{held-first}
 use Rattle.wrappers.proofs.Values.{chain-first}
 use Rattle.merge.proofs.Merging.{parts-differ, means-for, any-known, merges-none}
-use Rattle.buffers.proofs.Naming.{Asks, sameArity, names-found, names-missing, by-name-fits, end-self}
+use Rattle.partners.proofs.Naming.{Asks, sameArity, names-found, names-missing, by-name-fits, end-self, order-names, order-by-name}
 use Rattle.buffers.proofs.Fielding.{typed-reads}
 
 -- the names of a Struct's fields differ
@@ -98,68 +101,114 @@ module _ (c : DataType → DataType → Option DataType) (space : Space) (left :
   unfolding structCoercion
   struct-none {known} h = any-known known swap (merges-none (structCoercion c) space (left + 1) swap s w l r g (λ X Y a b q. rw (kinds a b ∙ h) refl))
 
-  module _ {named : Bool} (fn : Asks fieldsHaveSameNames space (side swap s w) (side (not swap) s w) l (x .first) (y .first) named) where
-    names : {X Y : DataType} → Typed space (side swap s w) l X → Typed space (side (not swap) s w) r Y → named ≡ fieldsHaveSameNames (X .parts) (Y .parts)
-    names {X} {Y} a b = fn _ _ _ (X .parts) (Y .parts) (held-first (a .chain .held) x ex) (chain-first y ey (b .chain))
+  -- two Structs, by the fields that feed theirs
+  module _ (h : ((eqb (x .kind) 35 && eqb (y .kind) 35) && alike) ≡ true) (known by-names : Bool) {apart : Bool}
+      (fp : DifferInPart known by-names space (side swap s w) l (side (not swap) s w) r apart) {feed : Feed}
+      (ff : StructFed space (side swap s w) (side (not swap) s w) l (x .first) (y .first) feed) (v : List ℕ) (o : Out)
+      (u : Under apart by-names c space left swap s w v feed (shapeFor 35 0 0 0 false) (x .first) (y .first) (y .first) g o) where
+    module _ {X Y : DataType} (a : Typed space (side swap s w) l X) (b : Typed space (side (not swap) s w) r Y) (q : size X + size Y ≤ left + 1) (d : Differ known by-names X Y) where
+      abbrev Merged : Type 0
+      Merged = Means space w v g (size X + size Y) (letters X + letters Y) o (structCoercion c X Y)
 
-    module _ (h : ((eqb (x .kind) 35 && eqb (y .kind) 35) && alike) ≡ true) (v : List ℕ) (o : Out) where
-      pub struct-named : (known by-names : Bool) {apart : Bool} → DifferInPart known by-names space (side swap s w) l (side (not swap) s w) r apart
-          → named ≡ true → Under apart by-names c space left swap s w v Feed.Name (shapeFor 35 0 0 0 false) (x .first) (y .first) (y .first) g o
-          → MergesKnown known by-names (structCoercion c) space (left + 1) swap s w v l r g o
-      struct-named known by-names fp e u =
-          record {
-            writes = u .writes;
-            means =
-                λ X Y a b q d.
-                let n = sym (names a b) ∙ e in
-                let f = names-found (X .parts) (Y .parts) n in
-                let right = chain-first y ey (b .chain) in
-                let fits = by-name-fits (X .parts) (Y .parts) (f .fields) (struct-differ (left-kind a b h) a) (right .held .differ) (f .is) in
-                means-for space w v g (size X + size Y) (letters X + letters Y) o (omega (arith, fits .0)) (omega (arith, fits .1))
-                (struct-by-name c X Y (f .fields) (kinds a b ∙ h) n (f .is))
-                (u .means (X .parts) (Y .parts) (Y .parts) (f .fields) (f .fields) (chain-first x ex (a .chain)) right right
-                (f .is, (refl, ((end-self (Y .parts), struct-differ (right-kind a b h) b), sym (eqb-true _ _ (sym (arities a b) ∙ and-snd (eqb (x .kind) 35 && eqb (y .kind) 35) alike h)))))
-                (omega (arith, fits .0)) (λ k. found-differ by-names X Y (f .fields) (parts-differ known by-names fp a b d k) (f .is)));
-          }
+      right : Chain space (side (not swap) s w) (y .first) (Y .parts)
+      right = chain-first y ey (b .chain)
 
-      pub struct-placed : (known by-names : Bool) {apart : Bool} → DifferInPart known by-names space (side swap s w) l (side (not swap) s w) r apart
-          → named ≡ false → Under apart by-names c space left swap s w v Feed.Place (shapeFor 35 0 0 0 false) (x .first) (y .first) (y .first) g o
-          → MergesKnown known by-names (structCoercion c) space (left + 1) swap s w v l r g o
+      same : arity (X .parts) ≡ arity (Y .parts)
+      same = eqb-true _ _ (sym (arities a b) ∙ and-snd (eqb (x .kind) 35 && eqb (y .kind) 35) alike h)
+
+      by-place : feed ≡ Feed.Place → listOf (shapeFor 35 0 0 0 false) (joinFields c (X .parts) (Y .parts) (Y .parts)) ≡ structCoercion c X Y → Merged
+      by-place e is =
+          means-for space w v g (size X + size Y) (letters X + letters Y) o (omega arith) (omega arith) is
+          (u .means (X .parts) (Y .parts) (Y .parts) (Y .parts) (Y .parts) (chain-first x ex (a .chain)) right right
+          (subst (λ (f : Feed). Feeds f (X .parts) (Y .parts) (Y .parts) (Y .parts) (Y .parts)) (sym e) (refl, refl)) (omega arith) (λ k. parts-differ known by-names fp a b d k .1))
+
+      by-name : feed ≡ Feed.Name → fieldsHaveSameNames (X .parts) (Y .parts) ≡ true → Merged
+      by-name e n =
+          let f = names-found (X .parts) (Y .parts) n in
+          let fits = by-name-fits (X .parts) (Y .parts) (f .fields) (struct-differ (left-kind a b h) a) (right .held .differ) (f .is) in
+          means-for space w v g (size X + size Y) (letters X + letters Y) o (omega (arith, fits .0)) (omega (arith, fits .1))
+          (struct-by-name c X Y (f .fields) (kinds a b ∙ h) n (f .is))
+          (u .means (X .parts) (Y .parts) (Y .parts) (f .fields) (f .fields) (chain-first x ex (a .chain)) right right
+          (subst (λ (i : Feed). Feeds i (X .parts) (Y .parts) (Y .parts) (f .fields) (f .fields)) (sym e)
+          (f .is, (refl, ((end-self (Y .parts), struct-differ (right-kind a b h) b), sym same))))
+          (omega (arith, fits .0)) (λ k. found-differ by-names X Y (f .fields) (parts-differ known by-names fp a b d k) (f .is)))
+
+      by-feed : (i j : Bool) → sameOrder (X .parts) (Y .parts) ≡ i → fieldsHaveSameNames (X .parts) (Y .parts) ≡ j → feed ≡ cond i Feed.Place (cond j Feed.Name Feed.Place) → Merged
       unfolding structCoercion partners
-      struct-placed known by-names fp e u =
-          record {
-            writes = u .writes;
-            means =
-                λ X Y a b q d.
-                let n = sym (names a b) ∙ e in
-                let right = chain-first y ey (b .chain) in
-                means-for space w v g (size X + size Y) (letters X + letters Y) o (omega arith) (omega arith)
-                (struct-list (joinFields c (X .parts) (Y .parts) (Y .parts)) ∙ rw (kinds a b ∙ h) (rw n refl))
-                (u .means (X .parts) (Y .parts) (Y .parts) (Y .parts) (Y .parts) (chain-first x ex (a .chain)) right right (refl, refl) (omega arith) (λ k. parts-differ known by-names fp a b d k .1));
-          }
+      by-feed true j e n is =
+          by-place is
+          (struct-by-name c X Y (Y .parts) (kinds a b ∙ h) (order-names (X .parts) (Y .parts) e) (order-by-name (X .parts) (Y .parts) e same (struct-differ (right-kind a b h) b)))
+      by-feed false true e n is = by-name is n
+      by-feed false false e n is = by-place is (struct-list (joinFields c (X .parts) (Y .parts) (Y .parts)) ∙ rw (kinds a b ∙ h) (rw n refl))
 
-    -- two structs of a list
-    pub listed-none : {known by-names : Bool} → (alike && named) ≡ false → MergesKnown known by-names (listStruct c) space (left + 1) swap s w w l r g No
-    listed-none {known} h = any-known known swap (merges-none (listStruct c) space (left + 1) swap s w l r g (λ X Y a b q. go alike refl X Y a b))
-      where
-        go : (t : Bool) → alike ≡ t → (X Y : DataType) → Typed space (side swap s w) l X → Typed space (side (not swap) s w) r Y → none ≡ listStruct c X Y
-        go true e X Y a b = rw (sym (arities a b) ∙ e) (rw (names-missing (X .parts) (Y .parts) (sym (names a b) ∙ rw e at h)) refl)
-        go false e X Y a b = rw (sym (arities a b) ∙ e) refl
-
-    pub listed-merged : (known by-names : Bool) {apart : Bool} → DifferInPart known by-names space (side swap s w) l (side (not swap) s w) r apart
-        → (alike && named) ≡ true → headAt (side swap s w) l .kind ≡ 35 → headAt (side (not swap) s w) r .kind ≡ 35 → (v : List ℕ) (o : Out)
-        → Under apart by-names c space left swap s w v Feed.NameThenPlace (shapeFor 35 0 0 0 false) (x .first) (y .first) (y .first) g o → MergesKnown known by-names (listStruct c) space (left + 1) swap s w v l r g o
-    listed-merged known by-names fp h k k′ v o u =
+    pub struct-merged : MergesKnown known by-names (structCoercion c) space (left + 1) swap s w v l r g o
+    struct-merged =
         record {
           writes = u .writes;
           means =
               λ X Y a b q d.
-              let n = sym (names a b) ∙ and-snd alike named h in
-              let f = names-found (X .parts) (Y .parts) n in
-              let right = chain-first y ey (b .chain) in
-              let fits = by-name-fits (X .parts) (Y .parts) (f .fields) (struct-differ (typed-reads a refl .kind ∙ k) a) (right .held .differ) (f .is) in
-              means-for space w v g (size X + size Y) (letters X + letters Y) o (omega (arith, fits .0)) (omega (arith, fits .1))
-              (struct-list (joinFields c (X .parts) (f .fields) (Y .parts)) ∙ rw (sym (arities a b) ∙ and-fst alike named h) (rw (f .is) refl))
-              (u .means (X .parts) (Y .parts) (Y .parts) (f .fields) (Y .parts) (chain-first x ex (a .chain)) right right
-              (f .is, (refl, (end-self (Y .parts), struct-differ (typed-reads b refl .kind ∙ k′) b))) (omega (arith, fits .0)) (λ k. found-differ by-names X Y (f .fields) (parts-differ known by-names fp a b d k) (f .is)));
+              by-feed a b q d (sameOrder (X .parts) (Y .parts)) (fieldsHaveSameNames (X .parts) (Y .parts)) refl refl
+              (ff _ _ _ (X .parts) (Y .parts) (held-first (a .chain .held) x ex) (chain-first y ey (b .chain)));
         }
+
+  -- two Structs of a list
+  pub listed-unlike : {known by-names : Bool} → alike ≡ false → MergesKnown known by-names (listStruct c) space (left + 1) swap s w w l r g No
+  listed-unlike {known} h = any-known known swap (merges-none (listStruct c) space (left + 1) swap s w l r g (λ X Y a b q. rw (sym (arities a b) ∙ h) refl))
+
+  module _ (h : alike ≡ true) where
+    module _ {named : Bool} (fn : Asks fieldsHaveSameNames space (side swap s w) (side (not swap) s w) l (x .first) (y .first) named) where
+      names : {X Y : DataType} → Typed space (side swap s w) l X → Typed space (side (not swap) s w) r Y → named ≡ fieldsHaveSameNames (X .parts) (Y .parts)
+      names {X} {Y} a b = fn _ _ _ (X .parts) (Y .parts) (held-first (a .chain .held) x ex) (chain-first y ey (b .chain))
+
+      pub listed-none : {known by-names : Bool} → named ≡ false → MergesKnown known by-names (listStruct c) space (left + 1) swap s w w l r g No
+      listed-none {known} e =
+          any-known known swap (merges-none (listStruct c) space (left + 1) swap s w l r g
+          (λ X Y a b q. rw (sym (arities a b) ∙ h) (rw (names-missing (X .parts) (Y .parts) (sym (names a b) ∙ e)) refl)))
+
+      pub listed-named : (known by-names : Bool) {apart : Bool} → DifferInPart known by-names space (side swap s w) l (side (not swap) s w) r apart
+          → named ≡ true → headAt (side swap s w) l .kind ≡ 35 → headAt (side (not swap) s w) r .kind ≡ 35 → (v : List ℕ) (o : Out)
+          → Under apart by-names c space left swap s w v Feed.NameThenPlace (shapeFor 35 0 0 0 false) (x .first) (y .first) (y .first) g o
+          → MergesKnown known by-names (listStruct c) space (left + 1) swap s w v l r g o
+      listed-named known by-names fp e k k′ v o u =
+          record {
+            writes = u .writes;
+            means =
+                λ X Y a b q d.
+                let f = names-found (X .parts) (Y .parts) (sym (names a b) ∙ e) in
+                let right = chain-first y ey (b .chain) in
+                let fits = by-name-fits (X .parts) (Y .parts) (f .fields) (struct-differ (typed-reads a refl .kind ∙ k) a) (right .held .differ) (f .is) in
+                means-for space w v g (size X + size Y) (letters X + letters Y) o (omega (arith, fits .0)) (omega (arith, fits .1))
+                (struct-list (joinFields c (X .parts) (f .fields) (Y .parts)) ∙ rw (sym (arities a b) ∙ h) (rw (f .is) refl))
+                (u .means (X .parts) (Y .parts) (Y .parts) (f .fields) (Y .parts) (chain-first x ex (a .chain)) right right
+                (f .is, (refl, (end-self (Y .parts), struct-differ (typed-reads b refl .kind ∙ k′) b))) (omega (arith, fits .0)) (λ k. found-differ by-names X Y (f .fields) (parts-differ known by-names fp a b d k) (f .is)));
+          }
+
+    pub listed-ordered : {ordered : Bool} → Asks sameOrder space (side swap s w) (side (not swap) s w) l (x .first) (y .first) ordered → (known by-names : Bool) {apart : Bool}
+        → DifferInPart known by-names space (side swap s w) l (side (not swap) s w) r apart → ordered ≡ true → headAt (side (not swap) s w) r .kind ≡ 35 → (v : List ℕ) (o : Out)
+        → Under apart by-names c space left swap s w v Feed.Place (shapeFor 35 0 0 0 false) (x .first) (y .first) (y .first) g o
+        → MergesKnown known by-names (listStruct c) space (left + 1) swap s w v l r g o
+    listed-ordered fo known by-names fp e k v o u =
+        record {
+          writes = u .writes;
+          means =
+              λ X Y a b q d.
+              let right = chain-first y ey (b .chain) in
+              let same = sym (arities a b) ∙ h in
+              let order = sym (fo _ _ _ (X .parts) (Y .parts) (held-first (a .chain .held) x ex) right) ∙ e in
+              let by = order-by-name (X .parts) (Y .parts) order (eqb-true _ _ same) (struct-differ (typed-reads b refl .kind ∙ k) b) in
+              means-for space w v g (size X + size Y) (letters X + letters Y) o (omega arith) (omega arith)
+              (struct-list (joinFields c (X .parts) (Y .parts) (Y .parts)) ∙ rw same (rw by refl))
+              (u .means (X .parts) (Y .parts) (Y .parts) (Y .parts) (Y .parts) (chain-first x ex (a .chain)) right right (refl, refl) (omega arith) (λ k. parts-differ known by-names fp a b d k .1));
+        }
+
+-- what the tests of names say of the fields that feed a Struct's
+module _ {space : Space} {s t : List ℕ} {floor l r : ℕ} {ordered : Bool} (fo : Asks sameOrder space s t floor l r ordered) where
+  pub fed-ordered : ordered ≡ true → StructFed space s t floor l r Feed.Place
+  fed-ordered e a o up lf rf f c = rw (sym (fo a o up lf rf f c) ∙ e) refl
+
+  module _ {named : Bool} (fn : Asks fieldsHaveSameNames space s t floor l r named) (z : ordered ≡ false) where
+    pub fed-named : named ≡ true → StructFed space s t floor l r Feed.Name
+    fed-named e a o up lf rf f c = rw (sym (fo a o up lf rf f c) ∙ z) (rw (sym (fn a o up lf rf f c) ∙ e) refl)
+
+    pub fed-placed : named ≡ false → StructFed space s t floor l r Feed.Place
+    fed-placed e a o up lf rf f c = rw (sym (fo a o up lf rf f c) ∙ z) (rw (sym (fn a o up lf rf f c) ∙ e) refl)

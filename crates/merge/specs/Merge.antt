@@ -1,26 +1,27 @@
 -- What the merge of two fields and of two chains says, whatever types stand at its links.
 use mathlib.Core.Path.{_≡_}
 use Prim.Native.Nat.{ℕ, _+_, _≤_}
-use mathlib.Core.Bool.{Bool, true, false, not, _&&_}
+use mathlib.Core.Bool.{Bool, true, false, cond, not, _&&_}
 use mathlib.Core.List.{List}
 use mathlib.Core.Option.{Option, none, some}
 use lib.ListN.{length}
 use Rattle.sheet.specs.Types.{Shape, Fields, end, field, count, labels}
 use Rattle.coercion.specs.Data.{DataType, size}
 use Rattle.coercion.specs.Same.{sameType}
-use Rattle.coercion.specs.Nested.{before, joinFields, listOf}
+use Rattle.coercion.specs.Nested.{before, fieldsHaveSameNames, joinFields, listOf}
 use Rattle.buffers.specs.Writes.{side}
-use Rattle.buffers.specs.Region.{Kept, Grows}
+use Rattle.buffers.specs.Region.{Kept, Held, Grows}
 use Rattle.buffers.specs.Goal.{letters, Means, Writes}
 use Rattle.buffers.specs.Typed.{Chain, Typed, ChainIs}
 use Rattle.buffers.specs.Feeds.{Feeds}
 use Rattle.buffers.specs.Part.{sameButPart, sameFirst}
-use Rattle.buffers.specs.Partners.{Partners}
+use Rattle.buffers.specs.Partners.{Partners, sameOrder}
 use Rattle.buffers.specs.declared.Space.{Space}
 use Rattle.buffers.specs.declared.Spot.{Spot}
 use Rattle.buffers.specs.declared.Goal.{Goal}
 use Rattle.buffers.specs.declared.Out.{Out}
 use Rattle.buffers.specs.declared.Feed.{Feed}
+use Rattle.buffers.specs.declared.Feed.the-variants as Feed
 
 -- each entry of a table of partners is true
 pub record Tabled (space : Space) (s w table : List ℕ) : Type 0 where
@@ -37,6 +38,14 @@ SameKnown known named space s l t r e = (x y : DataType) → Typed space s l x �
 -- two types are known to differ, and are the same but for the type of the one part that each has
 abbrev pub DifferInPart : Bool → Bool → Space → List ℕ → ℕ → List ℕ → ℕ → Bool → Type 0
 DifferInPart known named space s l t r e = (x y : DataType) → Typed space s l x → Typed space t r y → e ≡ (known && sameButPart named x y)
+
+-- which fields feed those of a Struct in a union: the ones at their places where the names stand in one order, and where they are not the same
+abbrev pub structFeed : Fields → Fields → Feed
+structFeed l r = cond (sameOrder l r) Feed.Place (cond (fieldsHaveSameNames l r) Feed.Name Feed.Place)
+
+-- the same of whatever chains stand at two links
+abbrev pub StructFed : Space → List ℕ → List ℕ → ℕ → ℕ → ℕ → Feed → Type 0
+StructFed space s t floor l r feed = (a o up : ℕ) (lf rf : Fields) → Held space s floor l a o up lf → Chain space t r rf → feed ≡ structFeed lf rf
 
 -- two types that may be known to differ were merged as a rule says, where no more than `left` records are left in both
 pub record MergesKnown (known named : Bool) (answer : DataType → DataType → Option DataType) (space : Space) (left : ℕ) (swap : Bool) (s w v : List ℕ) (l r : ℕ) (g : Goal) (o : Out) : Type 0 where

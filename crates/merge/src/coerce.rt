@@ -14,7 +14,7 @@ ghost use Rattle.buffers.specs.Plain.{asked, rulesOf, isListQuestion};
 ghost use Rattle.wrappers.specs.Ways.{isWrapper};
 ghost use Rattle.merge.specs.Turns.{resolved, unwrapped, eitherWrapped, nestedOf, bothWrapped, rewrapped, listRule, mapRule};
 ghost use Rattle.buffers.specs.Typed.{Merges};
-ghost use Rattle.merge.specs.Merge.{Tabled, MergesKnown, SameKnown, DifferInPart, MergesField, Rowed, Under};
+ghost use Rattle.merge.specs.Merge.{Tabled, MergesKnown, SameKnown, DifferInPart, StructFed, MergesField, Rowed, Under};
 use buffers::Feed;
 use buffers::Goal;
 use buffers::Out;
@@ -34,9 +34,6 @@ use buffers::field::row_end;
 use buffers::lay::copy_type;
 use buffers::lay::lay;
 use buffers::lay::tie;
-use buffers::names::have_same_names;
-use buffers::names::row;
-use buffers::names::same_arity;
 use buffers::part::sides_but_part;
 use buffers::plain::is_list_question;
 use buffers::plain::list_kind;
@@ -48,6 +45,10 @@ use buffers::write::value_at;
 use kinds::tests::both;
 use kinds::tests::either;
 use kinds::tests::is_list;
+use partners::names::have_same_names;
+use partners::names::in_order;
+use partners::names::same_arity;
+use partners::rows::row;
 use wrappers::walk::way;
 
 // Whether there are few records from a link on and before another.
@@ -931,6 +932,31 @@ fn list_rule(
     )
 }
 
+// What feeds the fields of two Structs at a link: the fields at their places where names stand in one order, and where they are not the same.
+fn struct_feed(
+    sheet: &[u8],
+    work: &[u8],
+    table: &mut [u32],
+    space: Space,
+    swap: bool,
+    floor: usize,
+    l: usize,
+    r: usize,
+) -> Feed
+    requires { ⌜ space .n ≤ 1024 ⌝ }
+    requires { ⌜ Tabled space (now sheet) (now work) (now table) ⌝ }
+    ensures { λ f. ⌜ StructFed space (side swap (now (sheet .entry)) (now (work .entry))) (side (not swap) (now (sheet .entry)) (now (work .entry))) floor l r f ⌝ }
+    ensures { λ f. ⌜ Tabled space (now (sheet .entry)) (now (work .entry)) (now (table .exit)) ⌝ }
+{
+    if in_order(sheet, work, space, swap, floor, l, r) {
+        return Feed::Place;
+    }
+    if have_same_names(sheet, work, space, swap, floor, l, r, table) {
+        return Feed::Name;
+    }
+    Feed::Place
+}
+
 // `struct_coercion`, of two types.
 fn struct_rule(
     sheet: &[u8],
@@ -960,26 +986,7 @@ fn struct_rule(
         same_arity(sheet, &*work, space, swap, l, a, b),
     ) {
         let apart = differ_in_part(sheet, &*work, space, question, swap, known, l, r);
-        if have_same_names(sheet, &*work, space, swap, l, a, b) {
-            return under(
-                sheet,
-                work,
-                table,
-                space,
-                question,
-                mask,
-                left,
-                swap,
-                apart,
-                Feed::Name,
-                35,
-                0,
-                a,
-                b,
-                b,
-                g,
-            );
-        }
+        let feed = struct_feed(sheet, &*work, table, space, swap, l, a, b);
         return under(
             sheet,
             work,
@@ -990,7 +997,7 @@ fn struct_rule(
             left,
             swap,
             apart,
-            Feed::Place,
+            feed,
             35,
             0,
             a,
@@ -1025,11 +1032,31 @@ fn list_struct(
 {
     let a = look(sheet, &*work, swap, l).first;
     let b = look(sheet, &*work, !swap, r).first;
-    if both(
-        same_arity(sheet, &*work, space, swap, l, a, b),
-        have_same_names(sheet, &*work, space, swap, l, a, b),
-    ) {
-        let apart = differ_in_part(sheet, &*work, space, question, swap, known, l, r);
+    if !same_arity(sheet, &*work, space, swap, l, a, b) {
+        return Out::No;
+    }
+    let apart = differ_in_part(sheet, &*work, space, question, swap, known, l, r);
+    if in_order(sheet, &*work, space, swap, l, a, b) {
+        return under(
+            sheet,
+            work,
+            table,
+            space,
+            question,
+            mask,
+            left,
+            swap,
+            apart,
+            Feed::Place,
+            35,
+            0,
+            a,
+            b,
+            b,
+            g,
+        );
+    }
+    if have_same_names(sheet, &*work, space, swap, l, a, b, table) {
         return under(
             sheet,
             work,
@@ -1183,7 +1210,7 @@ fn rows(
         return Out::No;
     }
     let x = look(sheet, &*work, swap, l);
-    let row = row(sheet, &*work, space, swap, feed, l, r, p);
+    let row = row(sheet, &*work, space, swap, feed, l, r, p, &*table);
     let at = to.at;
     let nlen = x.nlen;
     let next = x.next;

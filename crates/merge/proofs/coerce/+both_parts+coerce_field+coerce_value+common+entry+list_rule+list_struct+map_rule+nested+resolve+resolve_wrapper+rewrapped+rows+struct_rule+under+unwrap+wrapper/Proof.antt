@@ -13,7 +13,7 @@ use Rattle.buffers.proofs.Tying.{tied-kept}
 use Rattle.merge.proofs.Rewrapping.{index-none, index-full, value-none, value-full, wrapper-on, viewed-tabled}
 use Rattle.merge.proofs.Parents.{under-full, under-on, head-crowded, both-on, field-crowded, field-merged, map-left-end, map-right-end, map-on, after-passes}
 use Rattle.merge.proofs.Turning.{and-are, both-are, resolve-dictionary, resolve-runs, resolve-nested, wrap-both, wrap-left, wrap-right, wrap-none, unwrap-done, unwrap-full, unwrap-nested, wrapper-none, wrapper-both, wrapper-left-same, wrapper-left, wrapper-right-same, wrapper-right, nested-list, nested-listed, nested-struct, nested-map, nested-plain, list-merged}
-use Rattle.merge.proofs.Structs.{struct-none, struct-named, struct-placed, listed-none, listed-merged}
+use Rattle.merge.proofs.Structs.{struct-none, struct-merged, listed-unlike, listed-none, listed-named, listed-ordered}
 use Prim.Native.Nat.{ℕ, _<_}
 use borrow.Fn.Kinds.{In}
 use borrow.Fn.PlainCycle.{Measures, is, falls, and}
@@ -81,9 +81,6 @@ use Rattle.buffers.proofs.field.row_end.Reads as row-end-reads
 use Rattle.buffers.proofs.lay.copy_type.Reads as copy-type-reads
 use Rattle.buffers.proofs.lay.lay.Reads as lay-reads
 use Rattle.buffers.proofs.lay.tie.Reads as tie-reads
-use Rattle.buffers.proofs.names.have_same_names.Reads as have-same-names-reads
-use Rattle.buffers.proofs.names.row.Reads as row-reads
-use Rattle.buffers.proofs.names.same_arity.Reads as same-arity-reads
 use Rattle.buffers.proofs.plain.is_list_question.Reads as is-list-question-reads
 use Rattle.buffers.proofs.plain.list_kind.Reads as list-kind-reads
 use Rattle.buffers.proofs.plain.list_size.Reads as list-size-reads
@@ -96,6 +93,11 @@ use Rattle.kinds.proofs.tests.either.Reads as either-reads
 use Rattle.kinds.proofs.tests.is_list.Reads as is-list-reads
 use Rattle.merge.proofs.coerce.are_same.Reads as are-same-reads
 use Rattle.merge.proofs.coerce.differ_in_part.Reads as differ-in-part-reads
+use Rattle.merge.proofs.coerce.struct_feed.Reads as struct-feed-reads
+use Rattle.partners.proofs.names.have_same_names.Reads as have-same-names-reads
+use Rattle.partners.proofs.names.in_order.Reads as in-order-reads
+use Rattle.partners.proofs.names.same_arity.Reads as same-arity-reads
+use Rattle.partners.proofs.rows.row.Reads as row-reads
 use Rattle.wrappers.proofs.walk.way.Reads as way-reads
 use Rattle.merge.proofs.coerce.+both_parts+coerce_field+coerce_value+common+entry+list_rule+list_struct+map_rule+nested+resolve+resolve_wrapper+rewrapped+rows+struct_rule+under+unwrap+wrapper.{
   statement,
@@ -331,7 +333,7 @@ list-rule-calls t =
 
 abbrev list-struct-calls : ℕ → list-struct-lts.Claims
 list-struct-calls t =
-    (look-reads.Asked, look-reads.Learnt, same-arity-reads.Asked, same-arity-reads.Learnt, have-same-names-reads.Asked, have-same-names-reads.Learnt, both-reads.Asked, both-reads.Learnt, differ-in-part-reads.Asked, differ-in-part-reads.Learnt, under-below t, under.Post)
+    (look-reads.Asked, look-reads.Learnt, same-arity-reads.Asked, same-arity-reads.Learnt, differ-in-part-reads.Asked, differ-in-part-reads.Learnt, in-order-reads.Asked, in-order-reads.Learnt, under-below t, under.Post, have-same-names-reads.Asked, have-same-names-reads.Learnt)
 
 abbrev map-rule-calls : ℕ → map-rule-lts.Claims
 map-rule-calls t =
@@ -359,7 +361,7 @@ rows-calls t =
 
 abbrev struct-rule-calls : ℕ → struct-rule-lts.Claims
 struct-rule-calls t =
-    (look-reads.Asked, look-reads.Learnt, both-reads.Asked, both-reads.Learnt, same-arity-reads.Asked, same-arity-reads.Learnt, differ-in-part-reads.Asked, differ-in-part-reads.Learnt, have-same-names-reads.Asked, have-same-names-reads.Learnt, under-below t, under.Post)
+    (look-reads.Asked, look-reads.Learnt, both-reads.Asked, both-reads.Learnt, same-arity-reads.Asked, same-arity-reads.Learnt, differ-in-part-reads.Asked, differ-in-part-reads.Learnt, struct-feed-reads.Asked, struct-feed-reads.Learnt, under-below t, under.Post)
 
 abbrev under-calls : ℕ → under-lts.Claims
 under-calls t =
@@ -745,47 +747,47 @@ common-returns-6 : (t : ℕ) → common-lts.Need-returns-6 (common-calls t) (com
 common-returns-6 t c =
     (coerce-pair (c .before .before .before .before .before .before .before .before .before .before .before .before .before .before .before .before .before .before .before .before .before .before .before .before .args .question) (c .before .before .before .before .before .before .before .before .before .before .before .before .before .before .before .before .before .before .before .before .before .before .before .before .args .mask) (c .before .before .before .before .before .before .before .before .before .before .before .before .before .before .before .before .before .before .before .before .before .before .before .before .args .space) (c .before .before .before .before .before .before .before .before .before .before .before .before .before .before .before .before .before .before .before .before .before .before .before .before .args .left) (c .before .before .before .before .before .before .before .before .before .before .before .before .before .before .before .before .before .before .before .before .before .before .before .before .args .swap) _ _ _ _ _ (c .before .before .before .before .before .before .before .before .before .before .before .before .before .before .before .before .before .before .before .is-list-question .ensures) (c .before .before .before .before .before .before .before .before .before .before .before .before .before .before .before .before .before .are-same .ensures) _ _ (c .before .before .before .before .before .before .before .before .before .before .before .before .before .before .before .before .if2 .left) (c .before .before .before .before .before .before .before .if5 .left) (c .before .before .before .before .before .before .before .before .before .before .before .before .before .before .before .before .before .before .before .before .if1 .left) (c .before .before .before .before .unwrap .ensures .0), (c .before .before .before .before .unwrap .ensures .1))
 
--- src/coerce.rt:1130:9
+-- src/coerce.rt:1156:9
 entry-look-requires : (t : ℕ) → entry-lts.Need-look-requires (entry-calls t) (entry-at t) entry.Post
 entry-look-requires t c κs =
     search needs
 
--- src/coerce.rt:1132:9
+-- src/coerce.rt:1158:9
 entry-is-nullable-requires : (t : ℕ) → entry-lts.Need-is-nullable-requires (entry-calls t) (entry-at t) entry.Post
 entry-is-nullable-requires t c κs =
     search needs
 
--- src/coerce.rt:1133:8
+-- src/coerce.rt:1159:8
 entry-name-field-requires : (t : ℕ) → entry-lts.Need-name-field-requires (entry-calls t) (entry-at t) entry.Post
 entry-name-field-requires t c κs =
     ((c .before .before .before .before .before .before .before .pre .1 .0 .0), ((c .before .before .before .before .before .before .before .pre .1 .0 .1), (c .before .before .look .ensures .1)))
 
--- src/coerce.rt:1140:9
+-- src/coerce.rt:1166:9
 entry-struct-rule-requires : (t : ℕ) → entry-lts.Need-struct-rule-requires (entry-calls t) (entry-at t) entry.Post
 entry-struct-rule-requires t c κs =
     (omega (arith, (c .before .before .before .before .before .before .before .before .before .before .before .before .before .pre .0)), ((room-kept ((c .before .before .before .before .before .name-field .ensures .kept)) (c .before .before .before .before .before .before .before .before .before .before .before .before .before .pre .1 .0 .0), field-ready _ (c .before .before .before .before .before .before .before .before .before .before .before .before .before .pre .1 .0 .1) (c .before .before .before .before .before .before .before .before .look .ensures .1) (c .before .before .if1 .taken) (c .before .before .before .before .before .name-field .ensures)), tabled-over (c .before .before .before .before .before .before .before .before .before .before .before .before .before .pre .1 .0 .0) ((c .before .before .before .before .before .name-field .ensures .kept)) (c .before .before .before .before .before .before .before .before .before .before .before .before .before .pre .1 .1)))
 
--- src/coerce.rt:1140:9
+-- src/coerce.rt:1166:9
 entry-same-length : (t : ℕ) → entry-lts.Need-same-length (entry-calls t) (entry-at t) entry.Post
 entry-same-length t c =
     search needs
 
--- src/coerce.rt:1140:9
+-- src/coerce.rt:1166:9
 entry-same-length-2 : (t : ℕ) → entry-lts.Need-same-length-2 (entry-calls t) (entry-at t) entry.Post
 entry-same-length-2 t c =
     search needs
 
--- src/coerce.rt:1140:9
+-- src/coerce.rt:1166:9
 entry-returns : (t : ℕ) → entry-lts.Need-returns (entry-calls t) (entry-at t) entry.Post
 entry-returns t c =
     (field-merged _ _ _ _ _ _ _ _ _ _ (c .before .before .before .before .before .before .before .before .before .before .before .before .before .look .ensures .0) _ _ (c .before .before .before .before .before .before .before .before .before .before .name-field .ensures) _ _ _ (c .before .before .before .before .before .before .before .before .before .before .before .before .before .before .before .before .before .before .pre .1 .0 .0) (c .before .before .before .before .before .before .before .if1 .taken) (c .before .before .before .before .before .before .before .before .before .before .before .before .is-nullable .ensures) (c .before .before .before .before .struct-rule .ensures .0), (c .before .before .before .before .struct-rule .ensures .1))
 
--- src/coerce.rt:1111:1
+-- src/coerce.rt:1137:1
 entry-same-length-3 : (t : ℕ) → entry-lts.Need-same-length-3 (entry-calls t) (entry-at t) entry.Post
 entry-same-length-3 t c =
     search needs
 
--- src/coerce.rt:1111:1
+-- src/coerce.rt:1137:1
 entry-returns-2 : (t : ℕ) → entry-lts.Need-returns-2 (entry-calls t) (entry-at t) entry.Post
 entry-returns-2 t c =
     (field-crowded _ _ _ _ _ _ _ _ _ _ (c .before .before .before .before .before .before .look .ensures .0) _ _ (c .before .before .before .name-field .ensures) (c .if1 .left), tabled-over (c .before .before .before .before .before .before .before .before .before .before .before .pre .1 .0 .0) ((c .before .before .before .name-field .ensures .kept)) (c .before .before .before .before .before .before .before .before .before .before .before .pre .1 .1))
@@ -835,147 +837,182 @@ list-rule-returns : (t : ℕ) → list-rule-lts.Need-returns (list-rule-calls t)
 list-rule-returns t c =
     (list-merged _ _ _ (c .before .before .before .before .before .before .before .before .before .before .before .before .before .before .before .before .before .before .args .swap) _ _ _ _ _ _ _ (c .before .before .before .before .before .before .before .before .before .before .before .before .before .look .ensures .0) (c .before .before .before .before .before .before .before .before .before .before .before .look2 .ensures .0) (c .before .before .before .before .before .before .before .differ-in-part .ensures) (c .before .before .before .before .before .before .before .before .before .before .list-kind .ensures) (c .before .before .before .before .before .before .before .before .before .list-size .ensures .0) _ _ (c .before .before .before .before .under .ensures .0), (c .before .before .before .before .under .ensures .1))
 
--- src/coerce.rt:1027:13
+-- src/coerce.rt:1033:13
 list-struct-look-requires : (t : ℕ) → list-struct-lts.Need-look-requires (list-struct-calls t) (list-struct-at t) list-struct.Post
 list-struct-look-requires t c κs =
     search needs
 
--- src/coerce.rt:1028:13
+-- src/coerce.rt:1034:13
 list-struct-look-requires-2 : (t : ℕ) → list-struct-lts.Need-look-requires-2 (list-struct-calls t) (list-struct-at t) list-struct.Post
 list-struct-look-requires-2 t c κs =
     search needs
 
--- src/coerce.rt:1030:9
+-- src/coerce.rt:1035:9
 list-struct-same-arity-requires : (t : ℕ) → list-struct-lts.Need-same-arity-requires (list-struct-calls t) (list-struct-at t) list-struct.Post
 list-struct-same-arity-requires t c κs =
     search needs
 
--- src/coerce.rt:1031:9
-list-struct-have-same-names-requires : (t : ℕ) → list-struct-lts.Need-have-same-names-requires (list-struct-calls t) (list-struct-at t) list-struct.Post
-list-struct-have-same-names-requires t c κs =
-    (c .before .before .before .before .before .before .before .before .before .before .pre .1 .0 .0 .few)
-
--- src/coerce.rt:1029:8
-list-struct-both-requires : (t : ℕ) → list-struct-lts.Need-both-requires (list-struct-calls t) (list-struct-at t) list-struct.Post
-list-struct-both-requires t c κs =
-    search needs
-
--- src/coerce.rt:1033:13
-list-struct-differ-in-part-requires : (t : ℕ) → list-struct-lts.Need-differ-in-part-requires (list-struct-calls t) (list-struct-at t) list-struct.Post
-list-struct-differ-in-part-requires t c κs =
-    omega (arith, (c .before .before .before .before .before .before .before .before .before .before .before .before .before .before .pre .1 .0 .0 .few))
-
--- src/coerce.rt:1034:9
-list-struct-under-requires : (t : ℕ) → list-struct-lts.Need-under-requires (list-struct-calls t) (list-struct-at t) list-struct.Post
-list-struct-under-requires t c κs =
-    (omega (arith, (c .before .before .before .before .before .before .before .before .before .before .before .before .before .before .before .before .before .pre .0)), (((c .before .before .before .before .before .before .before .before .before .before .before .before .before .before .before .before .before .pre .1 .0), omega arith), (c .before .before .before .before .before .before .before .before .before .before .before .before .before .before .before .before .before .pre .1 .1 .1)))
-
--- src/coerce.rt:1034:9
+-- src/coerce.rt:1036:9
 list-struct-same-length : (t : ℕ) → list-struct-lts.Need-same-length (list-struct-calls t) (list-struct-at t) list-struct.Post
 list-struct-same-length t c =
     search needs
 
--- src/coerce.rt:1034:9
+-- src/coerce.rt:1036:9
+list-struct-returns : (t : ℕ) → list-struct-lts.Need-returns (list-struct-calls t) (list-struct-at t) list-struct.Post
+list-struct-returns t c =
+    (listed-unlike _ _ _ (c .before .before .before .before .before .before .before .before .before .before .args .swap) _ _ _ _ _ _ _ (c .before .before .before .before .before .look .ensures .0) (c .before .before .before .look2 .ensures .0) (c .before .same-arity .ensures) (not-true _ (c .if1 .taken)), (c .before .before .before .before .before .before .before .before .before .before .pre .1 .1 .1))
+
+-- src/coerce.rt:1038:9
+list-struct-differ-in-part-requires : (t : ℕ) → list-struct-lts.Need-differ-in-part-requires (list-struct-calls t) (list-struct-at t) list-struct.Post
+list-struct-differ-in-part-requires t c κs =
+    omega (arith, (c .before .before .before .before .before .before .before .before .before .before .before .pre .1 .0 .0 .few))
+
+-- src/coerce.rt:1039:8
+list-struct-in-order-requires : (t : ℕ) → list-struct-lts.Need-in-order-requires (list-struct-calls t) (list-struct-at t) list-struct.Post
+list-struct-in-order-requires t c κs =
+    (c .before .before .before .before .before .before .before .before .before .before .before .before .before .pre .1 .0 .0 .few)
+
+-- src/coerce.rt:1040:9
+list-struct-under-requires : (t : ℕ) → list-struct-lts.Need-under-requires (list-struct-calls t) (list-struct-at t) list-struct.Post
+list-struct-under-requires t c κs =
+    (omega (arith, (c .before .before .before .before .before .before .before .before .before .before .before .before .before .before .before .before .before .pre .0)), (((c .before .before .before .before .before .before .before .before .before .before .before .before .before .before .before .before .before .pre .1 .0), omega arith), (c .before .before .before .before .before .before .before .before .before .before .before .before .before .before .before .before .before .pre .1 .1 .1)))
+
+-- src/coerce.rt:1040:9
 list-struct-same-length-2 : (t : ℕ) → list-struct-lts.Need-same-length-2 (list-struct-calls t) (list-struct-at t) list-struct.Post
 list-struct-same-length-2 t c =
     search needs
 
--- src/coerce.rt:1034:9
-list-struct-returns : (t : ℕ) → list-struct-lts.Need-returns (list-struct-calls t) (list-struct-at t) list-struct.Post
-list-struct-returns t c =
-    (listed-merged _ _ _ (c .before .before .before .before .before .before .before .before .before .before .before .before .before .before .before .before .before .before .before .before .before .before .args .swap) _ _ _ _ _ _ _ (c .before .before .before .before .before .before .before .before .before .before .before .before .before .before .before .before .before .look .ensures .0) (c .before .before .before .before .before .before .before .before .before .before .before .before .before .before .before .look2 .ensures .0) (c .before .before .before .before .before .before .before .before .before .before .before .before .before .same-arity .ensures) (c .before .before .before .before .before .before .before .before .before .before .before .have-same-names .ensures) (c .before .before .before .before .before .before .before .before .before .before .before .before .before .before .before .before .before .before .before .before .before .before .args .known) _ (c .before .before .before .before .before .before .before .differ-in-part .ensures) (sym (c .before .before .before .before .before .before .before .before .before .before .both .ensures) ∙ (c .before .before .before .before .before .before .before .before .before .if1 .taken)) (c .before .before .before .before .before .before .before .before .before .before .before .before .before .before .before .before .before .before .before .before .before .before .pre .1 .1 .0 .0) (c .before .before .before .before .before .before .before .before .before .before .before .before .before .before .before .before .before .before .before .before .before .before .pre .1 .1 .0 .1) _ _ (c .before .before .before .before .under .ensures .0), (c .before .before .before .before .under .ensures .1))
-
--- src/coerce.rt:1007:1
+-- src/coerce.rt:1040:9
 list-struct-same-length-3 : (t : ℕ) → list-struct-lts.Need-same-length-3 (list-struct-calls t) (list-struct-at t) list-struct.Post
 list-struct-same-length-3 t c =
     search needs
 
--- src/coerce.rt:1007:1
+-- src/coerce.rt:1040:9
 list-struct-returns-2 : (t : ℕ) → list-struct-lts.Need-returns-2 (list-struct-calls t) (list-struct-at t) list-struct.Post
 list-struct-returns-2 t c =
-    (listed-none _ _ _ (c .before .before .before .before .before .before .before .before .before .before .before .before .before .args .swap) _ _ _ _ _ _ _ (c .before .before .before .before .before .before .before .before .look .ensures .0) (c .before .before .before .before .before .before .look2 .ensures .0) (c .before .before .before .before .same-arity .ensures) (c .before .before .have-same-names .ensures) (sym (c .before .both .ensures) ∙ (c .if1 .left)), (c .before .before .before .before .before .before .before .before .before .before .before .before .before .pre .1 .1 .1))
+    (listed-ordered _ _ _ (c .before .before .before .before .before .before .before .before .before .before .before .before .before .before .before .before .before .before .before .before .before .before .args .swap) _ _ _ _ _ _ _ (c .before .before .before .before .before .before .before .before .before .before .before .before .before .before .before .before .before .look .ensures .0) (c .before .before .before .before .before .before .before .before .before .before .before .before .before .before .before .look2 .ensures .0) (c .before .before .before .before .before .before .before .before .before .before .before .before .before .same-arity .ensures) (not-false _ (c .before .before .before .before .before .before .before .before .before .before .before .before .if1 .left)) (c .before .before .before .before .before .before .before .before .in-order .ensures) (c .before .before .before .before .before .before .before .before .before .before .before .before .before .before .before .before .before .before .before .before .before .before .args .known) _ (c .before .before .before .before .before .before .before .before .before .before .differ-in-part .ensures) (c .before .before .before .before .before .before .before .if2 .taken) (c .before .before .before .before .before .before .before .before .before .before .before .before .before .before .before .before .before .before .before .before .before .before .pre .1 .1 .0 .1) _ _ (c .before .before .before .before .under .ensures .0), (c .before .before .before .before .under .ensures .1))
 
--- src/coerce.rt:1077:17
+-- src/coerce.rt:1059:8
+list-struct-have-same-names-requires : (t : ℕ) → list-struct-lts.Need-have-same-names-requires (list-struct-calls t) (list-struct-at t) list-struct.Post
+list-struct-have-same-names-requires t c κs =
+    (c .before .before .before .before .before .before .before .before .before .before .before .before .before .before .before .before .before .pre .1 .0 .0 .few)
+
+-- src/coerce.rt:1060:9
+list-struct-under-requires-2 : (t : ℕ) → list-struct-lts.Need-under-requires-2 (list-struct-calls t) (list-struct-at t) list-struct.Post
+list-struct-under-requires-2 t c κs =
+    (omega (arith, (c .before .before .before .before .before .before .before .before .before .before .before .before .before .before .before .before .before .before .before .before .before .before .before .pre .0)), (((c .before .before .before .before .before .before .before .before .before .before .before .before .before .before .before .before .before .before .before .before .before .before .before .pre .1 .0), omega arith), record { partners = (c .before .before .before .before .before .have-same-names .ensures .1 .1) (c .before .before .before .before .before .before .before .before .before .before .before .before .before .before .before .before .before .before .before .before .before .before .before .pre .1 .1 .1 .partners) }))
+
+-- src/coerce.rt:1060:9
+list-struct-same-length-4 : (t : ℕ) → list-struct-lts.Need-same-length-4 (list-struct-calls t) (list-struct-at t) list-struct.Post
+list-struct-same-length-4 t c =
+    search needs
+
+-- src/coerce.rt:1060:9
+list-struct-same-length-5 : (t : ℕ) → list-struct-lts.Need-same-length-5 (list-struct-calls t) (list-struct-at t) list-struct.Post
+list-struct-same-length-5 t c =
+    search needs
+
+-- src/coerce.rt:1060:9
+list-struct-returns-3 : (t : ℕ) → list-struct-lts.Need-returns-3 (list-struct-calls t) (list-struct-at t) list-struct.Post
+list-struct-returns-3 t c =
+    (listed-named _ _ _ (c .before .before .before .before .before .before .before .before .before .before .before .before .before .before .before .before .before .before .before .before .before .before .before .before .before .before .before .before .args .swap) _ _ _ _ _ _ _ (c .before .before .before .before .before .before .before .before .before .before .before .before .before .before .before .before .before .before .before .before .before .before .before .look .ensures .0) (c .before .before .before .before .before .before .before .before .before .before .before .before .before .before .before .before .before .before .before .before .before .look2 .ensures .0) (c .before .before .before .before .before .before .before .before .before .before .before .before .before .before .before .before .before .before .before .same-arity .ensures) (not-false _ (c .before .before .before .before .before .before .before .before .before .before .before .before .before .before .before .before .before .before .if1 .left)) (c .before .before .before .before .before .before .before .before .before .before .have-same-names .ensures .0) (c .before .before .before .before .before .before .before .before .before .before .before .before .before .before .before .before .before .before .before .before .before .before .before .before .before .before .before .before .args .known) _ (c .before .before .before .before .before .before .before .before .before .before .before .before .before .before .before .before .differ-in-part .ensures) (c .before .before .before .before .before .before .before .if3 .taken) (c .before .before .before .before .before .before .before .before .before .before .before .before .before .before .before .before .before .before .before .before .before .before .before .before .before .before .before .before .pre .1 .1 .0 .0) (c .before .before .before .before .before .before .before .before .before .before .before .before .before .before .before .before .before .before .before .before .before .before .before .before .before .before .before .before .pre .1 .1 .0 .1) _ _ (c .before .before .before .before .under2 .ensures .0), (c .before .before .before .before .under2 .ensures .1))
+
+-- src/coerce.rt:1013:1
+list-struct-same-length-6 : (t : ℕ) → list-struct-lts.Need-same-length-6 (list-struct-calls t) (list-struct-at t) list-struct.Post
+list-struct-same-length-6 t c =
+    search needs
+
+-- src/coerce.rt:1013:1
+list-struct-same-length-7 : (t : ℕ) → list-struct-lts.Need-same-length-7 (list-struct-calls t) (list-struct-at t) list-struct.Post
+list-struct-same-length-7 t c =
+    search needs
+
+-- src/coerce.rt:1013:1
+list-struct-returns-4 : (t : ℕ) → list-struct-lts.Need-returns-4 (list-struct-calls t) (list-struct-at t) list-struct.Post
+list-struct-returns-4 t c =
+    (listed-none _ _ _ (c .before .before .before .before .before .before .before .before .before .before .before .before .before .before .before .before .before .before .before .before .before .args .swap) _ _ _ _ _ _ _ (c .before .before .before .before .before .before .before .before .before .before .before .before .before .before .before .before .look .ensures .0) (c .before .before .before .before .before .before .before .before .before .before .before .before .before .before .look2 .ensures .0) (c .before .before .before .before .before .before .before .before .before .before .before .before .same-arity .ensures) (not-false _ (c .before .before .before .before .before .before .before .before .before .before .before .if1 .left)) (c .before .before .before .have-same-names .ensures .0) (c .if3 .left), record { partners = (c .before .before .before .have-same-names .ensures .1 .1) (c .before .before .before .before .before .before .before .before .before .before .before .before .before .before .before .before .before .before .before .before .before .pre .1 .1 .1 .partners) })
+
+-- src/coerce.rt:1103:17
 map-rule-add-label : (t : ℕ) → map-rule-lts.Need-add-label (map-rule-calls t) (map-rule-at t) map-rule.Post
 map-rule-add-label t c =
     search needs
 
--- src/coerce.rt:1079:9
+-- src/coerce.rt:1105:9
 map-rule-returns : (t : ℕ) → map-rule-lts.Need-returns (map-rule-calls t) (map-rule-at t) map-rule.Post
 map-rule-returns t c =
     (any-known _ (c .before .before .before .before .before .before .args .swap) (merges-full _ _ _ _ _ _ _ _ _ (c .if1 .taken)), (c .before .before .before .before .before .before .pre .1 .1))
 
--- src/coerce.rt:1081:9
+-- src/coerce.rt:1107:9
 map-rule-look-requires : (t : ℕ) → map-rule-lts.Need-look-requires (map-rule-calls t) (map-rule-at t) map-rule.Post
 map-rule-look-requires t c κs =
     search needs
 
--- src/coerce.rt:1082:9
+-- src/coerce.rt:1108:9
 map-rule-look-requires-2 : (t : ℕ) → map-rule-lts.Need-look-requires-2 (map-rule-calls t) (map-rule-at t) map-rule.Post
 map-rule-look-requires-2 t c κs =
     search needs
 
--- src/coerce.rt:1085:9
+-- src/coerce.rt:1111:9
 map-rule-both-requires : (t : ℕ) → map-rule-lts.Need-both-requires (map-rule-calls t) (map-rule-at t) map-rule.Post
 map-rule-both-requires t c κs =
     search needs
 
--- src/coerce.rt:1087:9
+-- src/coerce.rt:1113:9
 map-rule-same-length : (t : ℕ) → map-rule-lts.Need-same-length (map-rule-calls t) (map-rule-at t) map-rule.Post
 map-rule-same-length t c =
     search needs
 
--- src/coerce.rt:1087:9
+-- src/coerce.rt:1113:9
 map-rule-returns-2 : (t : ℕ) → map-rule-lts.Need-returns-2 (map-rule-calls t) (map-rule-at t) map-rule.Post
 map-rule-returns-2 t c =
     (map-left-end _ _ _ _ _ _ _ _ _ _ _ (c .before .before .before .before .before .before .look .ensures .0) (c .before .before .before .before .look2 .ensures .0) (c .if2 .taken), (c .before .before .before .before .before .before .before .before .before .before .before .before .before .before .pre .1 .1))
 
--- src/coerce.rt:1090:9
+-- src/coerce.rt:1116:9
 map-rule-same-length-2 : (t : ℕ) → map-rule-lts.Need-same-length-2 (map-rule-calls t) (map-rule-at t) map-rule.Post
 map-rule-same-length-2 t c =
     search needs
 
--- src/coerce.rt:1090:9
+-- src/coerce.rt:1116:9
 map-rule-returns-3 : (t : ℕ) → map-rule-lts.Need-returns-3 (map-rule-calls t) (map-rule-at t) map-rule.Post
 map-rule-returns-3 t c =
     (map-right-end _ _ _ _ _ _ _ _ _ _ _ (c .before .before .before .before .before .before .before .look .ensures .0) (c .before .before .before .before .before .look2 .ensures .0) (c .if3 .taken), (c .before .before .before .before .before .before .before .before .before .before .before .before .before .before .before .pre .1 .1))
 
--- src/coerce.rt:1092:9
+-- src/coerce.rt:1118:9
 map-rule-differ-in-part-requires : (t : ℕ) → map-rule-lts.Need-differ-in-part-requires (map-rule-calls t) (map-rule-at t) map-rule.Post
 map-rule-differ-in-part-requires t c κs =
     omega (arith, (c .before .before .before .before .before .before .before .before .before .before .before .before .before .before .before .before .pre .1 .0 .0 .few))
 
--- src/coerce.rt:1093:46
+-- src/coerce.rt:1119:46
 map-rule-add-lay : (t : ℕ) → map-rule-lts.Need-add-lay (map-rule-calls t) (map-rule-at t) map-rule.Post
 map-rule-add-lay t c =
     record { fits = omega (arith, (c .before .before .before .before .before .before .before .before .before .before .before .before .if1 .left), (c .before .before .before .before .before .before .before .before .before .before .before .before .before .before .before .before .before .before .pre .1 .0 .0 .few)) }
 
--- src/coerce.rt:1093:5
+-- src/coerce.rt:1119:5
 map-rule-lay-requires : (t : ℕ) → map-rule-lts.Need-lay-requires (map-rule-calls t) (map-rule-at t) map-rule.Post
 map-rule-lay-requires t c κs =
     ((c .before .before .before .before .before .before .before .before .before .before .before .before .before .before .before .before .before .before .pre .1 .0), ((c .before .before .before .before .before .before .before .before .before .before .before .before .if1 .left), (omega arith, omega (arith, (c .before .before .before .before .before .before .before .before .before .before .before .before .if1 .left), (c .before .before .before .before .before .before .before .before .before .before .before .before .before .before .before .before .before .before .pre .1 .0 .0 .few)))))
 
--- src/coerce.rt:1106:20
+-- src/coerce.rt:1132:20
 map-rule-add-t36 : (t : ℕ) → map-rule-lts.Need-add-t36 (map-rule-calls t) (map-rule-at t) map-rule.Post
 map-rule-add-t36 t c =
     record { fits = omega (arith, (c .before .before .before .before .before .before .before .before .before .before .before .before .before .before .before .before .before .if1 .left), (c .before .before .before .before .before .before .before .before .before .before .before .before .before .before .before .before .before .before .before .before .before .before .before .pre .1 .0 .0 .few)) }
 
--- src/coerce.rt:1094:5
+-- src/coerce.rt:1120:5
 map-rule-entry-requires : (t : ℕ) → map-rule-lts.Need-entry-requires (map-rule-calls t) (map-rule-at t) map-rule.Post
 map-rule-entry-requires t c κs =
     (omega (arith, (c .before .before .before .before .before .before .before .before .before .before .before .before .before .before .before .before .before .before .before .before .before .before .before .pre .0)), ((room-kept ((c .before .before .before .before .lay .ensures .kept)) (c .before .before .before .before .before .before .before .before .before .before .before .before .before .before .before .before .before .before .before .before .before .before .before .pre .1 .0 .0), after-passes _ (c .before .before .before .before .before .before .before .before .before .before .before .before .before .before .before .before .before .before .before .before .before .before .before .pre .1 .0 .1) (c .before .before .before .before .before .before .before .before .before .before .before .before .before .before .before .before .before .if1 .left) .0), tabled-over (c .before .before .before .before .before .before .before .before .before .before .before .before .before .before .before .before .before .before .before .before .before .before .before .pre .1 .0 .0) ((c .before .before .before .before .lay .ensures .kept)) (c .before .before .before .before .before .before .before .before .before .before .before .before .before .before .before .before .before .before .before .before .before .before .before .pre .1 .1)))
 
--- src/coerce.rt:1057:1
+-- src/coerce.rt:1083:1
 map-rule-same-length-3 : (t : ℕ) → map-rule-lts.Need-same-length-3 (map-rule-calls t) (map-rule-at t) map-rule.Post
 map-rule-same-length-3 t c =
     search needs
 
--- src/coerce.rt:1057:1
+-- src/coerce.rt:1083:1
 map-rule-same-length-4 : (t : ℕ) → map-rule-lts.Need-same-length-4 (map-rule-calls t) (map-rule-at t) map-rule.Post
 map-rule-same-length-4 t c =
     search needs
 
--- src/coerce.rt:1057:1
+-- src/coerce.rt:1083:1
 map-rule-returns-4 : (t : ℕ) → map-rule-lts.Need-returns-4 (map-rule-calls t) (map-rule-at t) map-rule.Post
 map-rule-returns-4 t c =
     (map-on _ _ _ _ _ _ _ _ _ _ _ (c .before .before .before .before .before .before .before .before .before .before .before .before .before .before .before .before .before .before .before .before .look .ensures .0) (c .before .before .before .before .before .before .before .before .before .before .before .before .before .before .before .before .before .before .look2 .ensures .0) (c .before .before .before .before .before .before .before .before .before .before .before .before .before .before .before .before .before .before .before .before .before .before .before .before .before .before .before .before .pre .1 .0 .0) (c .before .before .before .before .before .before .before .before .before .before .before .before .before .before .before .before .before .before .before .before .before .before .before .before .before .before .before .before .pre .1 .0 .1) (c .before .before .before .before .before .before .before .before .before .before .before .before .before .before .before .before .before .before .before .before .before .before .if1 .left) _ _ _ _ (c .before .before .before .before .before .before .before .before .before .before .before .before .before .before .before .both .ensures) (c .before .before .before .before .before .before .before .before .before .before .before .before .before .before .if2 .left) (c .before .before .before .before .before .before .before .before .before .before .before .before .before .if3 .left) (c .before .before .before .before .before .before .before .before .before .lay .ensures) (c .before .before .before .before .before .before .before .before .before .before .before .before .before .before .before .before .before .before .before .before .before .before .before .before .before .before .before .before .args .known) _ (c .before .before .before .before .before .before .before .before .before .before .before .differ-in-part .ensures) (c .before .before .before .before .entry .ensures .0), (c .before .before .before .before .entry .ensures .1))
@@ -1466,283 +1503,273 @@ rewrapped-returns-8 : (t : ℕ) → rewrapped-lts.Need-returns-8 (rewrapped-call
 rewrapped-returns-8 t c =
     (head-crowded _ _ _ _ _ _ _ _ _ _ (c .before .before .before .before .before .before .before .before .look .ensures .0) _ (rw (c .enum-told6 .given .1) at (c .before .before .before .before .copy-parent .ensures)), tabled-over (c .before .before .before .before .before .before .before .before .before .before .before .before .before .before .before .before .pre .1 .0 .0) ((rw (c .enum-told6 .given .1) at (c .before .before .before .before .copy-parent .ensures)) .kept) (c .before .before .before .before .before .before .before .before .before .before .before .before .before .before .before .before .pre .1 .1 .1))
 
--- src/coerce.rt:1181:9
+-- src/coerce.rt:1207:9
 rows-row-end-requires : (t : ℕ) → rows-lts.Need-row-end-requires (rows-calls t) (rows-at t) rows.Post
 rows-row-end-requires t c κs =
     search needs
 
--- src/coerce.rt:1181:9
+-- src/coerce.rt:1207:9
 rows-returns : (t : ℕ) → rows-lts.Need-returns (rows-calls t) (rows-at t) rows.Post
 rows-returns t c =
     (rows-end (c .before .before .before .before .before .args .known) _ _ (c .before .before .before .before .before .args .space) (c .before .before .before .before .before .args .left) (c .before .before .before .before .before .args .swap) _ _ (c .before .before .before .before .before .args .feed) _ _ _ _ _ (c .before .before .before .before .before .pre .1 .0 .1) (c .before .if1 .taken) (c .row-end .ensures), (c .before .before .before .before .before .pre .1 .1))
 
--- src/coerce.rt:1184:9
+-- src/coerce.rt:1210:9
 rows-returns-2 : (t : ℕ) → rows-lts.Need-returns-2 (rows-calls t) (rows-at t) rows.Post
 rows-returns-2 t c =
     (rows-spent (c .before .before .before .before .before .args .known) _ _ (c .before .before .before .before .before .args .space) (c .before .before .before .before .before .args .left) (c .before .before .before .before .before .args .swap) _ _ (c .before .before .before .before .before .args .feed) _ _ _ _ (c .before .if1 .left) (c .if2 .taken), (c .before .before .before .before .before .pre .1 .1))
 
--- src/coerce.rt:1186:9
+-- src/coerce.rt:1212:9
 rows-look-requires : (t : ℕ) → rows-lts.Need-look-requires (rows-calls t) (rows-at t) rows.Post
 rows-look-requires t c κs =
     search needs
 
--- src/coerce.rt:1187:9
+-- src/coerce.rt:1213:9
 rows-row-requires : (t : ℕ) → rows-lts.Need-row-requires (rows-calls t) (rows-at t) rows.Post
 rows-row-requires t c κs =
-    (c .before .before .before .before .before .before .before .before .pre .1 .0 .0 .few)
+    (c .before .before .before .before .before .before .before .before .before .pre .1 .0 .0 .few)
 
--- src/coerce.rt:1194:9
+-- src/coerce.rt:1220:9
 rows-same-length : (t : ℕ) → rows-lts.Need-same-length (rows-calls t) (rows-at t) rows.Post
 rows-same-length t c =
     search needs
 
--- src/coerce.rt:1194:9
-rows-returns-3 : (t : ℕ) → rows-lts.Need-returns-3 (rows-calls t) (rows-at t) rows.Post
-rows-returns-3 t c =
-    (rows-unfed (c .before .before .before .before .before .before .before .before .before .before .args .known) _ _ (c .before .before .before .before .before .before .before .before .before .before .args .space) (c .before .before .before .before .before .before .before .before .before .before .args .left) (c .before .before .before .before .before .before .before .before .before .before .args .swap) _ _ (c .before .before .before .before .before .before .before .before .before .before .args .feed) _ _ _ _ _ (c .before .before .before .before .before .before .if1 .left) (c .before .row .ensures) (c .if3 .taken), (c .before .before .before .before .before .before .before .before .before .before .pre .1 .1))
-
--- src/coerce.rt:1196:9
-rows-name-field-requires : (t : ℕ) → rows-lts.Need-name-field-requires (rows-calls t) (rows-at t) rows.Post
-rows-name-field-requires t c κs =
-    ((c .before .before .before .before .before .before .before .before .before .before .before .pre .1 .0 .0), ((c .before .before .before .before .before .before .before .before .before .before .before .pre .1 .0 .1), (c .before .before .before .before .look .ensures .1)))
-
--- src/coerce.rt:1197:9
+-- src/coerce.rt:1220:9
 rows-same-length-2 : (t : ℕ) → rows-lts.Need-same-length-2 (rows-calls t) (rows-at t) rows.Post
 rows-same-length-2 t c =
     search needs
 
--- src/coerce.rt:1197:9
-rows-returns-4 : (t : ℕ) → rows-lts.Need-returns-4 (rows-calls t) (rows-at t) rows.Post
-rows-returns-4 t c =
-    (rows-crowded (c .before .before .before .before .before .before .before .before .before .before .before .before .before .before .before .args .known) _ _ (c .before .before .before .before .before .before .before .before .before .before .before .before .before .before .before .args .space) (c .before .before .before .before .before .before .before .before .before .before .before .before .before .before .before .args .left) (c .before .before .before .before .before .before .before .before .before .before .before .before .before .before .before .args .swap) _ _ (c .before .before .before .before .before .before .before .before .before .before .before .before .before .before .before .args .feed) _ _ _ _ (c .before .before .before .before .before .before .before .before .before .before .before .before .before .before .before .pre .1 .0 .0) (c .before .before .before .before .before .before .before .before .before .before .before .before .before .before .before .pre .1 .0 .1) _ (c .before .before .before .before .before .before .before .before .look .ensures .0) (c .before .before .before .before .before .before .before .before .before .before .before .if1 .left) _ (c .before .before .before .before .before .before .row .ensures) (c .before .before .before .before .before .if3 .left) _ _ (c .before .before .before .name-field .ensures) (not-true _ (c .if4 .taken)), tabled-over (c .before .before .before .before .before .before .before .before .before .before .before .before .before .before .before .pre .1 .0 .0) ((c .before .before .before .name-field .ensures .kept)) (c .before .before .before .before .before .before .before .before .before .before .before .before .before .before .before .pre .1 .1))
+-- src/coerce.rt:1220:9
+rows-returns-3 : (t : ℕ) → rows-lts.Need-returns-3 (rows-calls t) (rows-at t) rows.Post
+rows-returns-3 t c =
+    (rows-unfed (c .before .before .before .before .before .before .before .before .before .before .before .args .known) _ _ (c .before .before .before .before .before .before .before .before .before .before .before .args .space) (c .before .before .before .before .before .before .before .before .before .before .before .args .left) (c .before .before .before .before .before .before .before .before .before .before .before .args .swap) _ _ (c .before .before .before .before .before .before .before .before .before .before .before .args .feed) _ _ _ _ _ (c .before .before .before .before .before .before .before .if1 .left) ((c .before .row .ensures) (c .before .before .before .before .before .before .before .before .before .before .before .pre .1 .1 .partners)) (c .if3 .taken), (c .before .before .before .before .before .before .before .before .before .before .before .pre .1 .1))
 
--- src/coerce.rt:1205:11
-rows-common-requires : (t : ℕ) → rows-lts.Need-common-requires (rows-calls t) (rows-at t) rows.Post
-rows-common-requires t c κs =
-    (omega (arith, (c .before .before .before .before .before .before .before .before .before .before .before .before .before .before .before .before .before .pre .0)), ((room-kept (c .before .before .before .before .before .name-field .ensures .kept) (c .before .before .before .before .before .before .before .before .before .before .before .before .before .before .before .before .before .pre .1 .0 .0), field-ready _ (c .before .before .before .before .before .before .before .before .before .before .before .before .before .before .before .before .before .pre .1 .0 .1) (c .before .before .before .before .before .before .before .before .before .before .look .ensures .1) (not-false _ (c .before .before .if4 .left)) (c .before .before .before .before .before .name-field .ensures)), tabled-over (c .before .before .before .before .before .before .before .before .before .before .before .before .before .before .before .before .before .pre .1 .0 .0) ((c .before .before .before .before .before .name-field .ensures .kept)) (c .before .before .before .before .before .before .before .before .before .before .before .before .before .before .before .before .before .pre .1 .1)))
+-- src/coerce.rt:1222:9
+rows-name-field-requires : (t : ℕ) → rows-lts.Need-name-field-requires (rows-calls t) (rows-at t) rows.Post
+rows-name-field-requires t c κs =
+    ((c .before .before .before .before .before .before .before .before .before .before .before .before .pre .1 .0 .0), ((c .before .before .before .before .before .before .before .before .before .before .before .before .pre .1 .0 .1), (c .before .before .before .before .before .look .ensures .1)))
 
--- src/coerce.rt:1219:19
-rows-enum-known-d : (t : ℕ) → rows-lts.Need-enum-known-d (rows-calls t) (rows-at t) rows.Post
-rows-enum-known-d t c =
-    search needs
-
--- src/coerce.rt:1226:13
-rows-sub-rows : (t : ℕ) → rows-lts.Need-sub-rows (rows-calls t) (rows-at t) rows.Post
-rows-sub-rows t c =
-    omega (arith, (c .before .before .before .before .before .before .before .before .before .before .before .before .before .before .before .before .before .before .before .before .before .before .if2 .left))
-
--- src/coerce.rt:1219:31
-rows-rows-requires : (t : ℕ) → rows-lts.Need-rows-requires (rows-calls t) (rows-at t) rows.Post
-rows-rows-requires t c κs =
-    let done = rw (c .before .before .before .d .given .1) at (c .before .before .before .before .before .before .before .before .before .common .ensures .0) in
-    (omega (arith, (c .before .before .before .before .before .before .before .before .before .before .before .before .before .before .before .before .before .before .before .before .before .before .before .before .before .before .before .pre .0), (c .before .before .before .before .before .before .before .before .before .before .before .before .before .before .before .before .before .before .before .before .before .before .if2 .left)), ((room-kept (done .writes .kept) (room-kept (c .before .before .before .before .before .before .before .before .before .before .before .before .before .before .before .name-field .ensures .kept) (c .before .before .before .before .before .before .before .before .before .before .before .before .before .before .before .before .before .before .before .before .before .before .before .before .before .before .before .pre .1 .0 .0)), done .writes .passes .0), (c .before .before .before .before .before .before .before .before .before .common .ensures .1)))
-
--- src/coerce.rt:1235:23
-rows-enum-known-e : (t : ℕ) → rows-lts.Need-enum-known-e (rows-calls t) (rows-at t) rows.Post
-rows-enum-known-e t c =
-    search needs
-
--- src/coerce.rt:1236:38
-rows-next-link-requires : (t : ℕ) → rows-lts.Need-next-link-requires (rows-calls t) (rows-at t) rows.Post
-rows-next-link-requires t c κs =
-    search needs
-
--- src/coerce.rt:1236:17
-rows-tie-requires : (t : ℕ) → rows-lts.Need-tie-requires (rows-calls t) (rows-at t) rows.Post
-rows-tie-requires t c κs =
-    let done = rw (c .before .before .before .before .before .before .before .before .before .before .before .before .before .d .given .1) at (c .before .before .before .before .before .before .before .before .before .before .before .before .before .before .before .before .before .before .before .common .ensures .0) in
-    let more = rw (c .before .before .before .e .given .1) at (c .before .before .before .before .before .before .before .before .before .rows .ensures .0) in
-    let room = room-kept (more .kept) (room-kept (done .writes .kept) (room-kept (c .before .before .before .before .before .before .before .before .before .before .before .before .before .before .before .before .before .before .before .before .before .before .before .before .before .name-field .ensures .kept) (c .before .before .before .before .before .before .before .before .before .before .before .before .before .before .before .before .before .before .before .before .before .before .before .before .before .before .before .before .before .before .before .before .before .before .before .before .before .pre .1 .0 .0))) in
-    (room, (omega (arith, done .writes .passes .1 .0, done .writes .passes .0 .records), omega (arith, (c .next-link .ensures .1), done .writes .passes .0 .records, room .few)))
-
--- src/coerce.rt:1239:24
-rows-enum-told : (t : ℕ) → rows-lts.Need-enum-told (rows-calls t) (rows-at t) rows.Post
-rows-enum-told t c =
-    search needs
-
--- src/coerce.rt:1240:26
-rows-enum-told-2 : (t : ℕ) → rows-lts.Need-enum-told-2 (rows-calls t) (rows-at t) rows.Post
-rows-enum-told-2 t c =
-    search needs
-
--- src/coerce.rt:1242:20
-rows-enum-told-3 : (t : ℕ) → rows-lts.Need-enum-told-3 (rows-calls t) (rows-at t) rows.Post
-rows-enum-told-3 t c =
-    search needs
-
--- src/coerce.rt:1243:22
-rows-enum-told-4 : (t : ℕ) → rows-lts.Need-enum-told-4 (rows-calls t) (rows-at t) rows.Post
-rows-enum-told-4 t c =
-    search needs
-
--- src/coerce.rt:1159:1
+-- src/coerce.rt:1223:9
 rows-same-length-3 : (t : ℕ) → rows-lts.Need-same-length-3 (rows-calls t) (rows-at t) rows.Post
 rows-same-length-3 t c =
-    let done = rw (c .before .before .before .before .before .before .before .before .before .before .before .before .before .before .before .before .d .given .1) at (c .before .before .before .before .before .before .before .before .before .before .before .before .before .before .before .before .before .before .before .before .before .before .common .ensures .0) in
-    let more = rw (c .before .before .before .before .before .before .e .given .1) at (c .before .before .before .before .before .before .before .before .before .before .before .before .rows .ensures .0) in
-    rows-done (c .before .before .before .before .before .before .before .before .before .before .before .before .before .before .before .before .before .before .before .before .before .before .before .before .before .before .before .before .before .before .before .before .before .before .before .before .before .before .before .before .args .known) _ _ (c .before .before .before .before .before .before .before .before .before .before .before .before .before .before .before .before .before .before .before .before .before .before .before .before .before .before .before .before .before .before .before .before .before .before .before .before .before .before .before .before .args .space) (c .before .before .before .before .before .before .before .before .before .before .before .before .before .before .before .before .before .before .before .before .before .before .before .before .before .before .before .before .before .before .before .before .before .before .before .before .before .before .before .before .args .left) (c .before .before .before .before .before .before .before .before .before .before .before .before .before .before .before .before .before .before .before .before .before .before .before .before .before .before .before .before .before .before .before .before .before .before .before .before .before .before .before .before .args .swap) _ _ (c .before .before .before .before .before .before .before .before .before .before .before .before .before .before .before .before .before .before .before .before .before .before .before .before .before .before .before .before .before .before .before .before .before .before .before .before .before .before .before .before .args .feed) _ _ _ _ (c .before .before .before .before .before .before .before .before .before .before .before .before .before .before .before .before .before .before .before .before .before .before .before .before .before .before .before .before .before .before .before .before .before .before .before .before .before .before .before .before .pre .1 .0 .0) (c .before .before .before .before .before .before .before .before .before .before .before .before .before .before .before .before .before .before .before .before .before .before .before .before .before .before .before .before .before .before .before .before .before .before .before .before .before .before .before .before .pre .1 .0 .1) _ (c .before .before .before .before .before .before .before .before .before .before .before .before .before .before .before .before .before .before .before .before .before .before .before .before .before .before .before .before .before .before .before .before .before .look .ensures .0) (c .before .before .before .before .before .before .before .before .before .before .before .before .before .before .before .before .before .before .before .before .before .before .before .before .before .before .before .before .before .before .before .before .before .before .before .before .if1 .left) _ (c .before .before .before .before .before .before .before .before .before .before .before .before .before .before .before .before .before .before .before .before .before .before .before .before .before .before .before .before .before .before .before .row .ensures) (c .before .before .before .before .before .before .before .before .before .before .before .before .before .before .before .before .before .before .before .before .before .before .before .before .before .before .before .before .before .before .if3 .left) _ _ (c .before .before .before .before .before .before .before .before .before .before .before .before .before .before .before .before .before .before .before .before .before .before .before .before .before .before .before .before .name-field .ensures) (not-false _ (c .before .before .before .before .before .before .before .before .before .before .before .before .before .before .before .before .before .before .before .before .before .before .before .before .before .if4 .left)) _ _ done _ _ _ _ more (c .before .before .before .next-link .ensures .0) (c .before .before .tie .ensures) .kept .long
+    search needs
 
--- src/coerce.rt:1159:1
+-- src/coerce.rt:1223:9
 rows-same-length-4 : (t : ℕ) → rows-lts.Need-same-length-4 (rows-calls t) (rows-at t) rows.Post
 rows-same-length-4 t c =
     search needs
 
--- src/coerce.rt:1159:1
-rows-returns-5 : (t : ℕ) → rows-lts.Need-returns-5 (rows-calls t) (rows-at t) rows.Post
-rows-returns-5 t c =
-    let done = rw (c .before .before .before .before .before .before .before .before .before .before .before .before .before .before .before .before .d .given .1) at (c .before .before .before .before .before .before .before .before .before .before .before .before .before .before .before .before .before .before .before .before .before .before .common .ensures .0) in
-    let more = rw (c .before .before .before .before .before .before .e .given .1) at (c .before .before .before .before .before .before .before .before .before .before .before .before .rows .ensures .0) in
-    (rows-done (c .before .before .before .before .before .before .before .before .before .before .before .before .before .before .before .before .before .before .before .before .before .before .before .before .before .before .before .before .before .before .before .before .before .before .before .before .before .before .before .before .args .known) _ _ (c .before .before .before .before .before .before .before .before .before .before .before .before .before .before .before .before .before .before .before .before .before .before .before .before .before .before .before .before .before .before .before .before .before .before .before .before .before .before .before .before .args .space) (c .before .before .before .before .before .before .before .before .before .before .before .before .before .before .before .before .before .before .before .before .before .before .before .before .before .before .before .before .before .before .before .before .before .before .before .before .before .before .before .before .args .left) (c .before .before .before .before .before .before .before .before .before .before .before .before .before .before .before .before .before .before .before .before .before .before .before .before .before .before .before .before .before .before .before .before .before .before .before .before .before .before .before .before .args .swap) _ _ (c .before .before .before .before .before .before .before .before .before .before .before .before .before .before .before .before .before .before .before .before .before .before .before .before .before .before .before .before .before .before .before .before .before .before .before .before .before .before .before .before .args .feed) _ _ _ _ (c .before .before .before .before .before .before .before .before .before .before .before .before .before .before .before .before .before .before .before .before .before .before .before .before .before .before .before .before .before .before .before .before .before .before .before .before .before .before .before .before .pre .1 .0 .0) (c .before .before .before .before .before .before .before .before .before .before .before .before .before .before .before .before .before .before .before .before .before .before .before .before .before .before .before .before .before .before .before .before .before .before .before .before .before .before .before .before .pre .1 .0 .1) _ (c .before .before .before .before .before .before .before .before .before .before .before .before .before .before .before .before .before .before .before .before .before .before .before .before .before .before .before .before .before .before .before .before .before .look .ensures .0) (c .before .before .before .before .before .before .before .before .before .before .before .before .before .before .before .before .before .before .before .before .before .before .before .before .before .before .before .before .before .before .before .before .before .before .before .before .if1 .left) _ (c .before .before .before .before .before .before .before .before .before .before .before .before .before .before .before .before .before .before .before .before .before .before .before .before .before .before .before .before .before .before .before .row .ensures) (c .before .before .before .before .before .before .before .before .before .before .before .before .before .before .before .before .before .before .before .before .before .before .before .before .before .before .before .before .before .before .if3 .left) _ _ (c .before .before .before .before .before .before .before .before .before .before .before .before .before .before .before .before .before .before .before .before .before .before .before .before .before .before .before .before .name-field .ensures) (not-false _ (c .before .before .before .before .before .before .before .before .before .before .before .before .before .before .before .before .before .before .before .before .before .before .before .before .before .if4 .left)) _ _ done _ _ _ _ more (c .before .before .before .next-link .ensures .0) (c .before .before .tie .ensures), tabled-over (c .before .before .before .before .before .before .before .before .before .before .before .before .before .before .before .before .before .before .before .before .before .before .before .before .before .before .before .before .before .before .before .before .before .before .before .before .before .before .before .before .pre .1 .0 .0) (tied-kept _ _ _ _ _ (c .before .before .tie .ensures) 0 (omega (arith, done .writes .passes .1 .0, done .writes .passes .0 .records))) (c .before .before .before .before .before .before .before .before .before .before .before .before .rows .ensures .1))
+-- src/coerce.rt:1223:9
+rows-returns-4 : (t : ℕ) → rows-lts.Need-returns-4 (rows-calls t) (rows-at t) rows.Post
+rows-returns-4 t c =
+    (rows-crowded (c .before .before .before .before .before .before .before .before .before .before .before .before .before .before .before .before .args .known) _ _ (c .before .before .before .before .before .before .before .before .before .before .before .before .before .before .before .before .args .space) (c .before .before .before .before .before .before .before .before .before .before .before .before .before .before .before .before .args .left) (c .before .before .before .before .before .before .before .before .before .before .before .before .before .before .before .before .args .swap) _ _ (c .before .before .before .before .before .before .before .before .before .before .before .before .before .before .before .before .args .feed) _ _ _ _ (c .before .before .before .before .before .before .before .before .before .before .before .before .before .before .before .before .pre .1 .0 .0) (c .before .before .before .before .before .before .before .before .before .before .before .before .before .before .before .before .pre .1 .0 .1) _ (c .before .before .before .before .before .before .before .before .before .look .ensures .0) (c .before .before .before .before .before .before .before .before .before .before .before .before .if1 .left) _ ((c .before .before .before .before .before .before .row .ensures) (c .before .before .before .before .before .before .before .before .before .before .before .before .before .before .before .before .pre .1 .1 .partners)) (c .before .before .before .before .before .if3 .left) _ _ (c .before .before .before .name-field .ensures) (not-true _ (c .if4 .taken)), tabled-over (c .before .before .before .before .before .before .before .before .before .before .before .before .before .before .before .before .pre .1 .0 .0) ((c .before .before .before .name-field .ensures .kept)) (c .before .before .before .before .before .before .before .before .before .before .before .before .before .before .before .before .pre .1 .1))
 
--- src/coerce.rt:1159:1
-rows-same-length-5 : (t : ℕ) → rows-lts.Need-same-length-5 (rows-calls t) (rows-at t) rows.Post
-rows-same-length-5 t c =
+-- src/coerce.rt:1231:11
+rows-common-requires : (t : ℕ) → rows-lts.Need-common-requires (rows-calls t) (rows-at t) rows.Post
+rows-common-requires t c κs =
+    (omega (arith, (c .before .before .before .before .before .before .before .before .before .before .before .before .before .before .before .before .before .before .pre .0)), ((room-kept (c .before .before .before .before .before .name-field .ensures .kept) (c .before .before .before .before .before .before .before .before .before .before .before .before .before .before .before .before .before .before .pre .1 .0 .0), field-ready _ (c .before .before .before .before .before .before .before .before .before .before .before .before .before .before .before .before .before .before .pre .1 .0 .1) (c .before .before .before .before .before .before .before .before .before .before .before .look .ensures .1) (not-false _ (c .before .before .if4 .left)) (c .before .before .before .before .before .name-field .ensures)), tabled-over (c .before .before .before .before .before .before .before .before .before .before .before .before .before .before .before .before .before .before .pre .1 .0 .0) ((c .before .before .before .before .before .name-field .ensures .kept)) (c .before .before .before .before .before .before .before .before .before .before .before .before .before .before .before .before .before .before .pre .1 .1)))
+
+-- src/coerce.rt:1245:19
+rows-enum-known-d : (t : ℕ) → rows-lts.Need-enum-known-d (rows-calls t) (rows-at t) rows.Post
+rows-enum-known-d t c =
     search needs
 
--- src/coerce.rt:1159:1
+-- src/coerce.rt:1252:13
+rows-sub-rows : (t : ℕ) → rows-lts.Need-sub-rows (rows-calls t) (rows-at t) rows.Post
+rows-sub-rows t c =
+    omega (arith, (c .before .before .before .before .before .before .before .before .before .before .before .before .before .before .before .before .before .before .before .before .before .before .before .if2 .left))
+
+-- src/coerce.rt:1245:31
+rows-rows-requires : (t : ℕ) → rows-lts.Need-rows-requires (rows-calls t) (rows-at t) rows.Post
+rows-rows-requires t c κs =
+    let done = rw (c .before .before .before .d .given .1) at (c .before .before .before .before .before .before .before .before .before .common .ensures .0) in
+    (omega (arith, (c .before .before .before .before .before .before .before .before .before .before .before .before .before .before .before .before .before .before .before .before .before .before .before .before .before .before .before .before .pre .0), (c .before .before .before .before .before .before .before .before .before .before .before .before .before .before .before .before .before .before .before .before .before .before .before .if2 .left)), ((room-kept (done .writes .kept) (room-kept (c .before .before .before .before .before .before .before .before .before .before .before .before .before .before .before .name-field .ensures .kept) (c .before .before .before .before .before .before .before .before .before .before .before .before .before .before .before .before .before .before .before .before .before .before .before .before .before .before .before .before .pre .1 .0 .0)), done .writes .passes .0), (c .before .before .before .before .before .before .before .before .before .common .ensures .1)))
+
+-- src/coerce.rt:1261:23
+rows-enum-known-e : (t : ℕ) → rows-lts.Need-enum-known-e (rows-calls t) (rows-at t) rows.Post
+rows-enum-known-e t c =
+    search needs
+
+-- src/coerce.rt:1262:38
+rows-next-link-requires : (t : ℕ) → rows-lts.Need-next-link-requires (rows-calls t) (rows-at t) rows.Post
+rows-next-link-requires t c κs =
+    search needs
+
+-- src/coerce.rt:1262:17
+rows-tie-requires : (t : ℕ) → rows-lts.Need-tie-requires (rows-calls t) (rows-at t) rows.Post
+rows-tie-requires t c κs =
+    let done = rw (c .before .before .before .before .before .before .before .before .before .before .before .before .before .d .given .1) at (c .before .before .before .before .before .before .before .before .before .before .before .before .before .before .before .before .before .before .before .common .ensures .0) in
+    let more = rw (c .before .before .before .e .given .1) at (c .before .before .before .before .before .before .before .before .before .rows .ensures .0) in
+    let room = room-kept (more .kept) (room-kept (done .writes .kept) (room-kept (c .before .before .before .before .before .before .before .before .before .before .before .before .before .before .before .before .before .before .before .before .before .before .before .before .before .name-field .ensures .kept) (c .before .before .before .before .before .before .before .before .before .before .before .before .before .before .before .before .before .before .before .before .before .before .before .before .before .before .before .before .before .before .before .before .before .before .before .before .before .before .pre .1 .0 .0))) in
+    (room, (omega (arith, done .writes .passes .1 .0, done .writes .passes .0 .records), omega (arith, (c .next-link .ensures .1), done .writes .passes .0 .records, room .few)))
+
+-- src/coerce.rt:1265:24
+rows-enum-told : (t : ℕ) → rows-lts.Need-enum-told (rows-calls t) (rows-at t) rows.Post
+rows-enum-told t c =
+    search needs
+
+-- src/coerce.rt:1266:26
+rows-enum-told-2 : (t : ℕ) → rows-lts.Need-enum-told-2 (rows-calls t) (rows-at t) rows.Post
+rows-enum-told-2 t c =
+    search needs
+
+-- src/coerce.rt:1268:20
+rows-enum-told-3 : (t : ℕ) → rows-lts.Need-enum-told-3 (rows-calls t) (rows-at t) rows.Post
+rows-enum-told-3 t c =
+    search needs
+
+-- src/coerce.rt:1269:22
+rows-enum-told-4 : (t : ℕ) → rows-lts.Need-enum-told-4 (rows-calls t) (rows-at t) rows.Post
+rows-enum-told-4 t c =
+    search needs
+
+-- src/coerce.rt:1185:1
+rows-same-length-5 : (t : ℕ) → rows-lts.Need-same-length-5 (rows-calls t) (rows-at t) rows.Post
+rows-same-length-5 t c =
+    let done = rw (c .before .before .before .before .before .before .before .before .before .before .before .before .before .before .before .before .d .given .1) at (c .before .before .before .before .before .before .before .before .before .before .before .before .before .before .before .before .before .before .before .before .before .before .common .ensures .0) in
+    let more = rw (c .before .before .before .before .before .before .e .given .1) at (c .before .before .before .before .before .before .before .before .before .before .before .before .rows .ensures .0) in
+    rows-done (c .before .before .before .before .before .before .before .before .before .before .before .before .before .before .before .before .before .before .before .before .before .before .before .before .before .before .before .before .before .before .before .before .before .before .before .before .before .before .before .before .before .args .known) _ _ (c .before .before .before .before .before .before .before .before .before .before .before .before .before .before .before .before .before .before .before .before .before .before .before .before .before .before .before .before .before .before .before .before .before .before .before .before .before .before .before .before .before .args .space) (c .before .before .before .before .before .before .before .before .before .before .before .before .before .before .before .before .before .before .before .before .before .before .before .before .before .before .before .before .before .before .before .before .before .before .before .before .before .before .before .before .before .args .left) (c .before .before .before .before .before .before .before .before .before .before .before .before .before .before .before .before .before .before .before .before .before .before .before .before .before .before .before .before .before .before .before .before .before .before .before .before .before .before .before .before .before .args .swap) _ _ (c .before .before .before .before .before .before .before .before .before .before .before .before .before .before .before .before .before .before .before .before .before .before .before .before .before .before .before .before .before .before .before .before .before .before .before .before .before .before .before .before .before .args .feed) _ _ _ _ (c .before .before .before .before .before .before .before .before .before .before .before .before .before .before .before .before .before .before .before .before .before .before .before .before .before .before .before .before .before .before .before .before .before .before .before .before .before .before .before .before .before .pre .1 .0 .0) (c .before .before .before .before .before .before .before .before .before .before .before .before .before .before .before .before .before .before .before .before .before .before .before .before .before .before .before .before .before .before .before .before .before .before .before .before .before .before .before .before .before .pre .1 .0 .1) _ (c .before .before .before .before .before .before .before .before .before .before .before .before .before .before .before .before .before .before .before .before .before .before .before .before .before .before .before .before .before .before .before .before .before .before .look .ensures .0) (c .before .before .before .before .before .before .before .before .before .before .before .before .before .before .before .before .before .before .before .before .before .before .before .before .before .before .before .before .before .before .before .before .before .before .before .before .before .if1 .left) _ ((c .before .before .before .before .before .before .before .before .before .before .before .before .before .before .before .before .before .before .before .before .before .before .before .before .before .before .before .before .before .before .before .row .ensures) (c .before .before .before .before .before .before .before .before .before .before .before .before .before .before .before .before .before .before .before .before .before .before .before .before .before .before .before .before .before .before .before .before .before .before .before .before .before .before .before .before .before .pre .1 .1 .partners)) (c .before .before .before .before .before .before .before .before .before .before .before .before .before .before .before .before .before .before .before .before .before .before .before .before .before .before .before .before .before .before .if3 .left) _ _ (c .before .before .before .before .before .before .before .before .before .before .before .before .before .before .before .before .before .before .before .before .before .before .before .before .before .before .before .before .name-field .ensures) (not-false _ (c .before .before .before .before .before .before .before .before .before .before .before .before .before .before .before .before .before .before .before .before .before .before .before .before .before .if4 .left)) _ _ done _ _ _ _ more (c .before .before .before .next-link .ensures .0) (c .before .before .tie .ensures) .kept .long
+
+-- src/coerce.rt:1185:1
 rows-same-length-6 : (t : ℕ) → rows-lts.Need-same-length-6 (rows-calls t) (rows-at t) rows.Post
 rows-same-length-6 t c =
     search needs
 
--- src/coerce.rt:1159:1
-rows-returns-6 : (t : ℕ) → rows-lts.Need-returns-6 (rows-calls t) (rows-at t) rows.Post
-rows-returns-6 t c =
-    let done = rw (c .before .before .before .before .before .before .before .before .before .before .d .given .1) at (c .before .before .before .before .before .before .before .before .before .before .before .before .before .before .before .before .common .ensures .0) in
-    let more = rw (c .enum-told .given .1) at (c .before .before .before .before .before .before .rows .ensures .0) in
-    (rows-rest-none (c .before .before .before .before .before .before .before .before .before .before .before .before .before .before .before .before .before .before .before .before .before .before .before .before .before .before .before .before .before .before .before .before .before .before .args .known) _ _ (c .before .before .before .before .before .before .before .before .before .before .before .before .before .before .before .before .before .before .before .before .before .before .before .before .before .before .before .before .before .before .before .before .before .before .args .space) (c .before .before .before .before .before .before .before .before .before .before .before .before .before .before .before .before .before .before .before .before .before .before .before .before .before .before .before .before .before .before .before .before .before .before .args .left) (c .before .before .before .before .before .before .before .before .before .before .before .before .before .before .before .before .before .before .before .before .before .before .before .before .before .before .before .before .before .before .before .before .before .before .args .swap) _ _ (c .before .before .before .before .before .before .before .before .before .before .before .before .before .before .before .before .before .before .before .before .before .before .before .before .before .before .before .before .before .before .before .before .before .before .args .feed) _ _ _ _ (c .before .before .before .before .before .before .before .before .before .before .before .before .before .before .before .before .before .before .before .before .before .before .before .before .before .before .before .before .before .before .before .before .before .before .pre .1 .0 .0) (c .before .before .before .before .before .before .before .before .before .before .before .before .before .before .before .before .before .before .before .before .before .before .before .before .before .before .before .before .before .before .before .before .before .before .pre .1 .0 .1) _ (c .before .before .before .before .before .before .before .before .before .before .before .before .before .before .before .before .before .before .before .before .before .before .before .before .before .before .before .look .ensures .0) (c .before .before .before .before .before .before .before .before .before .before .before .before .before .before .before .before .before .before .before .before .before .before .before .before .before .before .before .before .before .before .if1 .left) _ (c .before .before .before .before .before .before .before .before .before .before .before .before .before .before .before .before .before .before .before .before .before .before .before .before .before .row .ensures) (c .before .before .before .before .before .before .before .before .before .before .before .before .before .before .before .before .before .before .before .before .before .before .before .before .if3 .left) _ _ (c .before .before .before .before .before .before .before .before .before .before .before .before .before .before .before .before .before .before .before .before .before .before .name-field .ensures) (not-false _ (c .before .before .before .before .before .before .before .before .before .before .before .before .before .before .before .before .before .before .before .if4 .left)) _ _ done _ more, (c .before .before .before .before .before .before .rows .ensures .1))
+-- src/coerce.rt:1185:1
+rows-returns-5 : (t : ℕ) → rows-lts.Need-returns-5 (rows-calls t) (rows-at t) rows.Post
+rows-returns-5 t c =
+    let done = rw (c .before .before .before .before .before .before .before .before .before .before .before .before .before .before .before .before .d .given .1) at (c .before .before .before .before .before .before .before .before .before .before .before .before .before .before .before .before .before .before .before .before .before .before .common .ensures .0) in
+    let more = rw (c .before .before .before .before .before .before .e .given .1) at (c .before .before .before .before .before .before .before .before .before .before .before .before .rows .ensures .0) in
+    (rows-done (c .before .before .before .before .before .before .before .before .before .before .before .before .before .before .before .before .before .before .before .before .before .before .before .before .before .before .before .before .before .before .before .before .before .before .before .before .before .before .before .before .before .args .known) _ _ (c .before .before .before .before .before .before .before .before .before .before .before .before .before .before .before .before .before .before .before .before .before .before .before .before .before .before .before .before .before .before .before .before .before .before .before .before .before .before .before .before .before .args .space) (c .before .before .before .before .before .before .before .before .before .before .before .before .before .before .before .before .before .before .before .before .before .before .before .before .before .before .before .before .before .before .before .before .before .before .before .before .before .before .before .before .before .args .left) (c .before .before .before .before .before .before .before .before .before .before .before .before .before .before .before .before .before .before .before .before .before .before .before .before .before .before .before .before .before .before .before .before .before .before .before .before .before .before .before .before .before .args .swap) _ _ (c .before .before .before .before .before .before .before .before .before .before .before .before .before .before .before .before .before .before .before .before .before .before .before .before .before .before .before .before .before .before .before .before .before .before .before .before .before .before .before .before .before .args .feed) _ _ _ _ (c .before .before .before .before .before .before .before .before .before .before .before .before .before .before .before .before .before .before .before .before .before .before .before .before .before .before .before .before .before .before .before .before .before .before .before .before .before .before .before .before .before .pre .1 .0 .0) (c .before .before .before .before .before .before .before .before .before .before .before .before .before .before .before .before .before .before .before .before .before .before .before .before .before .before .before .before .before .before .before .before .before .before .before .before .before .before .before .before .before .pre .1 .0 .1) _ (c .before .before .before .before .before .before .before .before .before .before .before .before .before .before .before .before .before .before .before .before .before .before .before .before .before .before .before .before .before .before .before .before .before .before .look .ensures .0) (c .before .before .before .before .before .before .before .before .before .before .before .before .before .before .before .before .before .before .before .before .before .before .before .before .before .before .before .before .before .before .before .before .before .before .before .before .before .if1 .left) _ ((c .before .before .before .before .before .before .before .before .before .before .before .before .before .before .before .before .before .before .before .before .before .before .before .before .before .before .before .before .before .before .before .row .ensures) (c .before .before .before .before .before .before .before .before .before .before .before .before .before .before .before .before .before .before .before .before .before .before .before .before .before .before .before .before .before .before .before .before .before .before .before .before .before .before .before .before .before .pre .1 .1 .partners)) (c .before .before .before .before .before .before .before .before .before .before .before .before .before .before .before .before .before .before .before .before .before .before .before .before .before .before .before .before .before .before .if3 .left) _ _ (c .before .before .before .before .before .before .before .before .before .before .before .before .before .before .before .before .before .before .before .before .before .before .before .before .before .before .before .before .name-field .ensures) (not-false _ (c .before .before .before .before .before .before .before .before .before .before .before .before .before .before .before .before .before .before .before .before .before .before .before .before .before .if4 .left)) _ _ done _ _ _ _ more (c .before .before .before .next-link .ensures .0) (c .before .before .tie .ensures), tabled-over (c .before .before .before .before .before .before .before .before .before .before .before .before .before .before .before .before .before .before .before .before .before .before .before .before .before .before .before .before .before .before .before .before .before .before .before .before .before .before .before .before .before .pre .1 .0 .0) (tied-kept _ _ _ _ _ (c .before .before .tie .ensures) 0 (omega (arith, done .writes .passes .1 .0, done .writes .passes .0 .records))) (c .before .before .before .before .before .before .before .before .before .before .before .before .rows .ensures .1))
 
--- src/coerce.rt:1159:1
+-- src/coerce.rt:1185:1
 rows-same-length-7 : (t : ℕ) → rows-lts.Need-same-length-7 (rows-calls t) (rows-at t) rows.Post
 rows-same-length-7 t c =
     search needs
 
--- src/coerce.rt:1159:1
+-- src/coerce.rt:1185:1
 rows-same-length-8 : (t : ℕ) → rows-lts.Need-same-length-8 (rows-calls t) (rows-at t) rows.Post
 rows-same-length-8 t c =
     search needs
 
--- src/coerce.rt:1159:1
-rows-returns-7 : (t : ℕ) → rows-lts.Need-returns-7 (rows-calls t) (rows-at t) rows.Post
-rows-returns-7 t c =
+-- src/coerce.rt:1185:1
+rows-returns-6 : (t : ℕ) → rows-lts.Need-returns-6 (rows-calls t) (rows-at t) rows.Post
+rows-returns-6 t c =
     let done = rw (c .before .before .before .before .before .before .before .before .before .before .d .given .1) at (c .before .before .before .before .before .before .before .before .before .before .before .before .before .before .before .before .common .ensures .0) in
-    let more = rw (c .enum-told2 .given .1) at (c .before .before .before .before .before .before .rows .ensures .0) in
-    (rows-rest-full (c .before .before .before .before .before .before .before .before .before .before .before .before .before .before .before .before .before .before .before .before .before .before .before .before .before .before .before .before .before .before .before .before .before .before .args .known) _ _ (c .before .before .before .before .before .before .before .before .before .before .before .before .before .before .before .before .before .before .before .before .before .before .before .before .before .before .before .before .before .before .before .before .before .before .args .space) (c .before .before .before .before .before .before .before .before .before .before .before .before .before .before .before .before .before .before .before .before .before .before .before .before .before .before .before .before .before .before .before .before .before .before .args .left) (c .before .before .before .before .before .before .before .before .before .before .before .before .before .before .before .before .before .before .before .before .before .before .before .before .before .before .before .before .before .before .before .before .before .before .args .swap) _ _ (c .before .before .before .before .before .before .before .before .before .before .before .before .before .before .before .before .before .before .before .before .before .before .before .before .before .before .before .before .before .before .before .before .before .before .args .feed) _ _ _ _ (c .before .before .before .before .before .before .before .before .before .before .before .before .before .before .before .before .before .before .before .before .before .before .before .before .before .before .before .before .before .before .before .before .before .before .pre .1 .0 .0) (c .before .before .before .before .before .before .before .before .before .before .before .before .before .before .before .before .before .before .before .before .before .before .before .before .before .before .before .before .before .before .before .before .before .before .pre .1 .0 .1) _ (c .before .before .before .before .before .before .before .before .before .before .before .before .before .before .before .before .before .before .before .before .before .before .before .before .before .before .before .look .ensures .0) (c .before .before .before .before .before .before .before .before .before .before .before .before .before .before .before .before .before .before .before .before .before .before .before .before .before .before .before .before .before .before .if1 .left) _ (c .before .before .before .before .before .before .before .before .before .before .before .before .before .before .before .before .before .before .before .before .before .before .before .before .before .row .ensures) (c .before .before .before .before .before .before .before .before .before .before .before .before .before .before .before .before .before .before .before .before .before .before .before .before .if3 .left) _ _ (c .before .before .before .before .before .before .before .before .before .before .before .before .before .before .before .before .before .before .before .before .before .before .name-field .ensures) (not-false _ (c .before .before .before .before .before .before .before .before .before .before .before .before .before .before .before .before .before .before .before .if4 .left)) _ _ done _ more, (c .before .before .before .before .before .before .rows .ensures .1))
+    let more = rw (c .enum-told .given .1) at (c .before .before .before .before .before .before .rows .ensures .0) in
+    (rows-rest-none (c .before .before .before .before .before .before .before .before .before .before .before .before .before .before .before .before .before .before .before .before .before .before .before .before .before .before .before .before .before .before .before .before .before .before .before .args .known) _ _ (c .before .before .before .before .before .before .before .before .before .before .before .before .before .before .before .before .before .before .before .before .before .before .before .before .before .before .before .before .before .before .before .before .before .before .before .args .space) (c .before .before .before .before .before .before .before .before .before .before .before .before .before .before .before .before .before .before .before .before .before .before .before .before .before .before .before .before .before .before .before .before .before .before .before .args .left) (c .before .before .before .before .before .before .before .before .before .before .before .before .before .before .before .before .before .before .before .before .before .before .before .before .before .before .before .before .before .before .before .before .before .before .before .args .swap) _ _ (c .before .before .before .before .before .before .before .before .before .before .before .before .before .before .before .before .before .before .before .before .before .before .before .before .before .before .before .before .before .before .before .before .before .before .before .args .feed) _ _ _ _ (c .before .before .before .before .before .before .before .before .before .before .before .before .before .before .before .before .before .before .before .before .before .before .before .before .before .before .before .before .before .before .before .before .before .before .before .pre .1 .0 .0) (c .before .before .before .before .before .before .before .before .before .before .before .before .before .before .before .before .before .before .before .before .before .before .before .before .before .before .before .before .before .before .before .before .before .before .before .pre .1 .0 .1) _ (c .before .before .before .before .before .before .before .before .before .before .before .before .before .before .before .before .before .before .before .before .before .before .before .before .before .before .before .before .look .ensures .0) (c .before .before .before .before .before .before .before .before .before .before .before .before .before .before .before .before .before .before .before .before .before .before .before .before .before .before .before .before .before .before .before .if1 .left) _ ((c .before .before .before .before .before .before .before .before .before .before .before .before .before .before .before .before .before .before .before .before .before .before .before .before .before .row .ensures) (c .before .before .before .before .before .before .before .before .before .before .before .before .before .before .before .before .before .before .before .before .before .before .before .before .before .before .before .before .before .before .before .before .before .before .before .pre .1 .1 .partners)) (c .before .before .before .before .before .before .before .before .before .before .before .before .before .before .before .before .before .before .before .before .before .before .before .before .if3 .left) _ _ (c .before .before .before .before .before .before .before .before .before .before .before .before .before .before .before .before .before .before .before .before .before .before .name-field .ensures) (not-false _ (c .before .before .before .before .before .before .before .before .before .before .before .before .before .before .before .before .before .before .before .if4 .left)) _ _ done _ more, (c .before .before .before .before .before .before .rows .ensures .1))
 
--- src/coerce.rt:1159:1
+-- src/coerce.rt:1185:1
 rows-same-length-9 : (t : ℕ) → rows-lts.Need-same-length-9 (rows-calls t) (rows-at t) rows.Post
 rows-same-length-9 t c =
     search needs
 
--- src/coerce.rt:1159:1
+-- src/coerce.rt:1185:1
 rows-same-length-10 : (t : ℕ) → rows-lts.Need-same-length-10 (rows-calls t) (rows-at t) rows.Post
 rows-same-length-10 t c =
     search needs
 
--- src/coerce.rt:1159:1
-rows-returns-8 : (t : ℕ) → rows-lts.Need-returns-8 (rows-calls t) (rows-at t) rows.Post
-rows-returns-8 t c =
-    let one = rw (c .enum-told3 .given .1) at (c .before .before .before .before .before .before .common .ensures .0) in
-    (rows-none (c .before .before .before .before .before .before .before .before .before .before .before .before .before .before .before .before .before .before .before .before .before .before .before .before .args .known) _ _ (c .before .before .before .before .before .before .before .before .before .before .before .before .before .before .before .before .before .before .before .before .before .before .before .before .args .space) (c .before .before .before .before .before .before .before .before .before .before .before .before .before .before .before .before .before .before .before .before .before .before .before .before .args .left) (c .before .before .before .before .before .before .before .before .before .before .before .before .before .before .before .before .before .before .before .before .before .before .before .before .args .swap) _ _ (c .before .before .before .before .before .before .before .before .before .before .before .before .before .before .before .before .before .before .before .before .before .before .before .before .args .feed) _ _ _ _ (c .before .before .before .before .before .before .before .before .before .before .before .before .before .before .before .before .before .before .before .before .before .before .before .before .pre .1 .0 .0) (c .before .before .before .before .before .before .before .before .before .before .before .before .before .before .before .before .before .before .before .before .before .before .before .before .pre .1 .0 .1) _ (c .before .before .before .before .before .before .before .before .before .before .before .before .before .before .before .before .before .look .ensures .0) (c .before .before .before .before .before .before .before .before .before .before .before .before .before .before .before .before .before .before .before .before .if1 .left) _ (c .before .before .before .before .before .before .before .before .before .before .before .before .before .before .before .row .ensures) (c .before .before .before .before .before .before .before .before .before .before .before .before .before .before .if3 .left) _ _ (c .before .before .before .before .before .before .before .before .before .before .before .before .name-field .ensures) (not-false _ (c .before .before .before .before .before .before .before .before .before .if4 .left)) _ one, (c .before .before .before .before .before .before .common .ensures .1))
+-- src/coerce.rt:1185:1
+rows-returns-7 : (t : ℕ) → rows-lts.Need-returns-7 (rows-calls t) (rows-at t) rows.Post
+rows-returns-7 t c =
+    let done = rw (c .before .before .before .before .before .before .before .before .before .before .d .given .1) at (c .before .before .before .before .before .before .before .before .before .before .before .before .before .before .before .before .common .ensures .0) in
+    let more = rw (c .enum-told2 .given .1) at (c .before .before .before .before .before .before .rows .ensures .0) in
+    (rows-rest-full (c .before .before .before .before .before .before .before .before .before .before .before .before .before .before .before .before .before .before .before .before .before .before .before .before .before .before .before .before .before .before .before .before .before .before .before .args .known) _ _ (c .before .before .before .before .before .before .before .before .before .before .before .before .before .before .before .before .before .before .before .before .before .before .before .before .before .before .before .before .before .before .before .before .before .before .before .args .space) (c .before .before .before .before .before .before .before .before .before .before .before .before .before .before .before .before .before .before .before .before .before .before .before .before .before .before .before .before .before .before .before .before .before .before .before .args .left) (c .before .before .before .before .before .before .before .before .before .before .before .before .before .before .before .before .before .before .before .before .before .before .before .before .before .before .before .before .before .before .before .before .before .before .before .args .swap) _ _ (c .before .before .before .before .before .before .before .before .before .before .before .before .before .before .before .before .before .before .before .before .before .before .before .before .before .before .before .before .before .before .before .before .before .before .before .args .feed) _ _ _ _ (c .before .before .before .before .before .before .before .before .before .before .before .before .before .before .before .before .before .before .before .before .before .before .before .before .before .before .before .before .before .before .before .before .before .before .before .pre .1 .0 .0) (c .before .before .before .before .before .before .before .before .before .before .before .before .before .before .before .before .before .before .before .before .before .before .before .before .before .before .before .before .before .before .before .before .before .before .before .pre .1 .0 .1) _ (c .before .before .before .before .before .before .before .before .before .before .before .before .before .before .before .before .before .before .before .before .before .before .before .before .before .before .before .before .look .ensures .0) (c .before .before .before .before .before .before .before .before .before .before .before .before .before .before .before .before .before .before .before .before .before .before .before .before .before .before .before .before .before .before .before .if1 .left) _ ((c .before .before .before .before .before .before .before .before .before .before .before .before .before .before .before .before .before .before .before .before .before .before .before .before .before .row .ensures) (c .before .before .before .before .before .before .before .before .before .before .before .before .before .before .before .before .before .before .before .before .before .before .before .before .before .before .before .before .before .before .before .before .before .before .before .pre .1 .1 .partners)) (c .before .before .before .before .before .before .before .before .before .before .before .before .before .before .before .before .before .before .before .before .before .before .before .before .if3 .left) _ _ (c .before .before .before .before .before .before .before .before .before .before .before .before .before .before .before .before .before .before .before .before .before .before .name-field .ensures) (not-false _ (c .before .before .before .before .before .before .before .before .before .before .before .before .before .before .before .before .before .before .before .if4 .left)) _ _ done _ more, (c .before .before .before .before .before .before .rows .ensures .1))
 
--- src/coerce.rt:1159:1
+-- src/coerce.rt:1185:1
 rows-same-length-11 : (t : ℕ) → rows-lts.Need-same-length-11 (rows-calls t) (rows-at t) rows.Post
 rows-same-length-11 t c =
     search needs
 
--- src/coerce.rt:1159:1
+-- src/coerce.rt:1185:1
 rows-same-length-12 : (t : ℕ) → rows-lts.Need-same-length-12 (rows-calls t) (rows-at t) rows.Post
 rows-same-length-12 t c =
     search needs
 
--- src/coerce.rt:1159:1
+-- src/coerce.rt:1185:1
+rows-returns-8 : (t : ℕ) → rows-lts.Need-returns-8 (rows-calls t) (rows-at t) rows.Post
+rows-returns-8 t c =
+    let one = rw (c .enum-told3 .given .1) at (c .before .before .before .before .before .before .common .ensures .0) in
+    (rows-none (c .before .before .before .before .before .before .before .before .before .before .before .before .before .before .before .before .before .before .before .before .before .before .before .before .before .args .known) _ _ (c .before .before .before .before .before .before .before .before .before .before .before .before .before .before .before .before .before .before .before .before .before .before .before .before .before .args .space) (c .before .before .before .before .before .before .before .before .before .before .before .before .before .before .before .before .before .before .before .before .before .before .before .before .before .args .left) (c .before .before .before .before .before .before .before .before .before .before .before .before .before .before .before .before .before .before .before .before .before .before .before .before .before .args .swap) _ _ (c .before .before .before .before .before .before .before .before .before .before .before .before .before .before .before .before .before .before .before .before .before .before .before .before .before .args .feed) _ _ _ _ (c .before .before .before .before .before .before .before .before .before .before .before .before .before .before .before .before .before .before .before .before .before .before .before .before .before .pre .1 .0 .0) (c .before .before .before .before .before .before .before .before .before .before .before .before .before .before .before .before .before .before .before .before .before .before .before .before .before .pre .1 .0 .1) _ (c .before .before .before .before .before .before .before .before .before .before .before .before .before .before .before .before .before .before .look .ensures .0) (c .before .before .before .before .before .before .before .before .before .before .before .before .before .before .before .before .before .before .before .before .before .if1 .left) _ ((c .before .before .before .before .before .before .before .before .before .before .before .before .before .before .before .row .ensures) (c .before .before .before .before .before .before .before .before .before .before .before .before .before .before .before .before .before .before .before .before .before .before .before .before .before .pre .1 .1 .partners)) (c .before .before .before .before .before .before .before .before .before .before .before .before .before .before .if3 .left) _ _ (c .before .before .before .before .before .before .before .before .before .before .before .before .name-field .ensures) (not-false _ (c .before .before .before .before .before .before .before .before .before .if4 .left)) _ one, (c .before .before .before .before .before .before .common .ensures .1))
+
+-- src/coerce.rt:1185:1
+rows-same-length-13 : (t : ℕ) → rows-lts.Need-same-length-13 (rows-calls t) (rows-at t) rows.Post
+rows-same-length-13 t c =
+    search needs
+
+-- src/coerce.rt:1185:1
+rows-same-length-14 : (t : ℕ) → rows-lts.Need-same-length-14 (rows-calls t) (rows-at t) rows.Post
+rows-same-length-14 t c =
+    search needs
+
+-- src/coerce.rt:1185:1
 rows-returns-9 : (t : ℕ) → rows-lts.Need-returns-9 (rows-calls t) (rows-at t) rows.Post
 rows-returns-9 t c =
     let one = rw (c .enum-told4 .given .1) at (c .before .before .before .before .before .before .common .ensures .0) in
-    (rows-full (c .before .before .before .before .before .before .before .before .before .before .before .before .before .before .before .before .before .before .before .before .before .before .before .before .args .known) _ _ (c .before .before .before .before .before .before .before .before .before .before .before .before .before .before .before .before .before .before .before .before .before .before .before .before .args .space) (c .before .before .before .before .before .before .before .before .before .before .before .before .before .before .before .before .before .before .before .before .before .before .before .before .args .left) (c .before .before .before .before .before .before .before .before .before .before .before .before .before .before .before .before .before .before .before .before .before .before .before .before .args .swap) _ _ (c .before .before .before .before .before .before .before .before .before .before .before .before .before .before .before .before .before .before .before .before .before .before .before .before .args .feed) _ _ _ _ (c .before .before .before .before .before .before .before .before .before .before .before .before .before .before .before .before .before .before .before .before .before .before .before .before .pre .1 .0 .0) (c .before .before .before .before .before .before .before .before .before .before .before .before .before .before .before .before .before .before .before .before .before .before .before .before .pre .1 .0 .1) _ (c .before .before .before .before .before .before .before .before .before .before .before .before .before .before .before .before .before .look .ensures .0) (c .before .before .before .before .before .before .before .before .before .before .before .before .before .before .before .before .before .before .before .before .if1 .left) _ (c .before .before .before .before .before .before .before .before .before .before .before .before .before .before .before .row .ensures) (c .before .before .before .before .before .before .before .before .before .before .before .before .before .before .if3 .left) _ _ (c .before .before .before .before .before .before .before .before .before .before .before .before .name-field .ensures) (not-false _ (c .before .before .before .before .before .before .before .before .before .if4 .left)) _ one, (c .before .before .before .before .before .before .common .ensures .1))
+    (rows-full (c .before .before .before .before .before .before .before .before .before .before .before .before .before .before .before .before .before .before .before .before .before .before .before .before .before .args .known) _ _ (c .before .before .before .before .before .before .before .before .before .before .before .before .before .before .before .before .before .before .before .before .before .before .before .before .before .args .space) (c .before .before .before .before .before .before .before .before .before .before .before .before .before .before .before .before .before .before .before .before .before .before .before .before .before .args .left) (c .before .before .before .before .before .before .before .before .before .before .before .before .before .before .before .before .before .before .before .before .before .before .before .before .before .args .swap) _ _ (c .before .before .before .before .before .before .before .before .before .before .before .before .before .before .before .before .before .before .before .before .before .before .before .before .before .args .feed) _ _ _ _ (c .before .before .before .before .before .before .before .before .before .before .before .before .before .before .before .before .before .before .before .before .before .before .before .before .before .pre .1 .0 .0) (c .before .before .before .before .before .before .before .before .before .before .before .before .before .before .before .before .before .before .before .before .before .before .before .before .before .pre .1 .0 .1) _ (c .before .before .before .before .before .before .before .before .before .before .before .before .before .before .before .before .before .before .look .ensures .0) (c .before .before .before .before .before .before .before .before .before .before .before .before .before .before .before .before .before .before .before .before .before .if1 .left) _ ((c .before .before .before .before .before .before .before .before .before .before .before .before .before .before .before .row .ensures) (c .before .before .before .before .before .before .before .before .before .before .before .before .before .before .before .before .before .before .before .before .before .before .before .before .before .pre .1 .1 .partners)) (c .before .before .before .before .before .before .before .before .before .before .before .before .before .before .if3 .left) _ _ (c .before .before .before .before .before .before .before .before .before .before .before .before .name-field .ensures) (not-false _ (c .before .before .before .before .before .before .before .before .before .if4 .left)) _ one, (c .before .before .before .before .before .before .common .ensures .1))
 
--- src/coerce.rt:955:9
+-- src/coerce.rt:980:9
 struct-rule-look-requires : (t : ℕ) → struct-rule-lts.Need-look-requires (struct-rule-calls t) (struct-rule-at t) struct-rule.Post
 struct-rule-look-requires t c κs =
     search needs
 
--- src/coerce.rt:956:9
+-- src/coerce.rt:981:9
 struct-rule-look-requires-2 : (t : ℕ) → struct-rule-lts.Need-look-requires-2 (struct-rule-calls t) (struct-rule-at t) struct-rule.Post
 struct-rule-look-requires-2 t c κs =
     search needs
 
--- src/coerce.rt:960:9
+-- src/coerce.rt:985:9
 struct-rule-both-requires : (t : ℕ) → struct-rule-lts.Need-both-requires (struct-rule-calls t) (struct-rule-at t) struct-rule.Post
 struct-rule-both-requires t c κs =
     search needs
 
--- src/coerce.rt:961:9
+-- src/coerce.rt:986:9
 struct-rule-same-arity-requires : (t : ℕ) → struct-rule-lts.Need-same-arity-requires (struct-rule-calls t) (struct-rule-at t) struct-rule.Post
 struct-rule-same-arity-requires t c κs =
     search needs
 
--- src/coerce.rt:959:8
+-- src/coerce.rt:984:8
 struct-rule-both-requires-2 : (t : ℕ) → struct-rule-lts.Need-both-requires-2 (struct-rule-calls t) (struct-rule-at t) struct-rule.Post
 struct-rule-both-requires-2 t c κs =
     search needs
 
--- src/coerce.rt:963:13
+-- src/coerce.rt:988:13
 struct-rule-differ-in-part-requires : (t : ℕ) → struct-rule-lts.Need-differ-in-part-requires (struct-rule-calls t) (struct-rule-at t) struct-rule.Post
 struct-rule-differ-in-part-requires t c κs =
     omega (arith, (c .before .before .before .before .before .before .before .before .before .before .before .before .before .before .before .pre .1 .0 .0 .few))
 
--- src/coerce.rt:964:12
-struct-rule-have-same-names-requires : (t : ℕ) → struct-rule-lts.Need-have-same-names-requires (struct-rule-calls t) (struct-rule-at t) struct-rule.Post
-struct-rule-have-same-names-requires t c κs =
-    (c .before .before .before .before .before .before .before .before .before .before .before .before .before .before .before .before .before .pre .1 .0 .0 .few)
+-- src/coerce.rt:989:13
+struct-rule-struct-feed-requires : (t : ℕ) → struct-rule-lts.Need-struct-feed-requires (struct-rule-calls t) (struct-rule-at t) struct-rule.Post
+struct-rule-struct-feed-requires t c κs =
+    ((c .before .before .before .before .before .before .before .before .before .before .before .before .before .before .before .before .before .before .pre .1 .0 .0 .few), (c .before .before .before .before .before .before .before .before .before .before .before .before .before .before .before .before .before .before .pre .1 .1))
 
--- src/coerce.rt:965:13
+-- src/coerce.rt:990:9
 struct-rule-under-requires : (t : ℕ) → struct-rule-lts.Need-under-requires (struct-rule-calls t) (struct-rule-at t) struct-rule.Post
 struct-rule-under-requires t c κs =
-    (omega (arith, (c .before .before .before .before .before .before .before .before .before .before .before .before .before .before .before .before .before .before .before .before .before .pre .0)), (((c .before .before .before .before .before .before .before .before .before .before .before .before .before .before .before .before .before .before .before .before .before .pre .1 .0), omega arith), (c .before .before .before .before .before .before .before .before .before .before .before .before .before .before .before .before .before .before .before .before .before .pre .1 .1)))
+    (omega (arith, (c .before .before .before .before .before .before .before .before .before .before .before .before .before .before .before .before .before .before .before .before .before .before .before .pre .0)), (((c .before .before .before .before .before .before .before .before .before .before .before .before .before .before .before .before .before .before .before .before .before .before .before .pre .1 .0), omega arith), (c .before .before .before .before .struct-feed .ensures .1)))
 
--- src/coerce.rt:965:13
+-- src/coerce.rt:990:9
 struct-rule-same-length : (t : ℕ) → struct-rule-lts.Need-same-length (struct-rule-calls t) (struct-rule-at t) struct-rule.Post
 struct-rule-same-length t c =
     search needs
 
--- src/coerce.rt:965:13
+-- src/coerce.rt:990:9
 struct-rule-same-length-2 : (t : ℕ) → struct-rule-lts.Need-same-length-2 (struct-rule-calls t) (struct-rule-at t) struct-rule.Post
 struct-rule-same-length-2 t c =
     search needs
 
--- src/coerce.rt:965:13
+-- src/coerce.rt:990:9
 struct-rule-returns : (t : ℕ) → struct-rule-lts.Need-returns (struct-rule-calls t) (struct-rule-at t) struct-rule.Post
 struct-rule-returns t c =
-    (struct-named _ _ _ (c .before .before .before .before .before .before .before .before .before .before .before .before .before .before .before .before .before .before .before .before .before .before .before .before .before .before .args .swap) _ _ _ _ _ _ _ (c .before .before .before .before .before .before .before .before .before .before .before .before .before .before .before .before .before .before .before .before .before .look .ensures .0) (c .before .before .before .before .before .before .before .before .before .before .before .before .before .before .before .before .before .before .before .look2 .ensures .0) (c .before .before .before .before .before .before .before .before .before .before .before .before .before .before .same-arity .ensures) (c .before .before .before .before .before .before .before .before .have-same-names .ensures) (and-are (c .before .before .before .before .before .before .before .before .before .before .before .before .before .before .before .before .both .ensures) refl (c .before .before .before .before .before .before .before .before .before .before .before .before .before .both2 .ensures) ∙ (c .before .before .before .before .before .before .before .before .before .before .before .before .if1 .taken)) _ _ (c .before .before .before .before .before .before .before .before .before .before .before .before .before .before .before .before .before .before .before .before .before .before .before .before .before .before .args .known) _ (c .before .before .before .before .before .before .before .before .before .before .differ-in-part .ensures) (c .before .before .before .before .before .before .before .if2 .taken) (c .before .before .before .before .under .ensures .0), (c .before .before .before .before .under .ensures .1))
+    (struct-merged _ _ _ (c .before .before .before .before .before .before .before .before .before .before .before .before .before .before .before .before .before .before .before .before .before .before .before .before .before .before .before .before .args .swap) _ _ _ _ _ _ _ (c .before .before .before .before .before .before .before .before .before .before .before .before .before .before .before .before .before .before .before .before .before .before .before .look .ensures .0) (c .before .before .before .before .before .before .before .before .before .before .before .before .before .before .before .before .before .before .before .before .before .look2 .ensures .0) (c .before .before .before .before .before .before .before .before .before .before .before .before .before .before .before .before .same-arity .ensures) (and-are (c .before .before .before .before .before .before .before .before .before .before .before .before .before .before .before .before .before .before .both .ensures) refl (c .before .before .before .before .before .before .before .before .before .before .before .before .before .before .before .both2 .ensures) ∙ (c .before .before .before .before .before .before .before .before .before .before .before .before .before .before .if1 .taken)) (c .before .before .before .before .before .before .before .before .before .before .before .before .before .before .before .before .before .before .before .before .before .before .before .before .before .before .before .before .args .known) _ (c .before .before .before .before .before .before .before .before .before .before .before .before .differ-in-part .ensures) (c .before .before .before .before .before .before .before .before .before .struct-feed .ensures .0) _ _ (c .before .before .before .before .under .ensures .0), (c .before .before .before .before .under .ensures .1))
 
--- src/coerce.rt:984:9
-struct-rule-under-requires-2 : (t : ℕ) → struct-rule-lts.Need-under-requires-2 (struct-rule-calls t) (struct-rule-at t) struct-rule.Post
-struct-rule-under-requires-2 t c κs =
-    (omega (arith, (c .before .before .before .before .before .before .before .before .before .before .before .before .before .before .before .before .before .before .before .before .before .pre .0)), (((c .before .before .before .before .before .before .before .before .before .before .before .before .before .before .before .before .before .before .before .before .before .pre .1 .0), omega arith), (c .before .before .before .before .before .before .before .before .before .before .before .before .before .before .before .before .before .before .before .before .before .pre .1 .1)))
-
--- src/coerce.rt:984:9
+-- src/coerce.rt:961:1
 struct-rule-same-length-3 : (t : ℕ) → struct-rule-lts.Need-same-length-3 (struct-rule-calls t) (struct-rule-at t) struct-rule.Post
 struct-rule-same-length-3 t c =
     search needs
 
--- src/coerce.rt:984:9
-struct-rule-same-length-4 : (t : ℕ) → struct-rule-lts.Need-same-length-4 (struct-rule-calls t) (struct-rule-at t) struct-rule.Post
-struct-rule-same-length-4 t c =
-    search needs
-
--- src/coerce.rt:984:9
+-- src/coerce.rt:961:1
 struct-rule-returns-2 : (t : ℕ) → struct-rule-lts.Need-returns-2 (struct-rule-calls t) (struct-rule-at t) struct-rule.Post
 struct-rule-returns-2 t c =
-    (struct-placed _ _ _ (c .before .before .before .before .before .before .before .before .before .before .before .before .before .before .before .before .before .before .before .before .before .before .before .before .before .before .args .swap) _ _ _ _ _ _ _ (c .before .before .before .before .before .before .before .before .before .before .before .before .before .before .before .before .before .before .before .before .before .look .ensures .0) (c .before .before .before .before .before .before .before .before .before .before .before .before .before .before .before .before .before .before .before .look2 .ensures .0) (c .before .before .before .before .before .before .before .before .before .before .before .before .before .before .same-arity .ensures) (c .before .before .before .before .before .before .before .before .have-same-names .ensures) (and-are (c .before .before .before .before .before .before .before .before .before .before .before .before .before .before .before .before .both .ensures) refl (c .before .before .before .before .before .before .before .before .before .before .before .before .before .both2 .ensures) ∙ (c .before .before .before .before .before .before .before .before .before .before .before .before .if1 .taken)) _ _ (c .before .before .before .before .before .before .before .before .before .before .before .before .before .before .before .before .before .before .before .before .before .before .before .before .before .before .args .known) _ (c .before .before .before .before .before .before .before .before .before .before .differ-in-part .ensures) (c .before .before .before .before .before .before .before .if2 .left) (c .before .before .before .before .under2 .ensures .0), (c .before .before .before .before .under2 .ensures .1))
-
--- src/coerce.rt:936:1
-struct-rule-same-length-5 : (t : ℕ) → struct-rule-lts.Need-same-length-5 (struct-rule-calls t) (struct-rule-at t) struct-rule.Post
-struct-rule-same-length-5 t c =
-    search needs
-
--- src/coerce.rt:936:1
-struct-rule-returns-3 : (t : ℕ) → struct-rule-lts.Need-returns-3 (struct-rule-calls t) (struct-rule-at t) struct-rule.Post
-struct-rule-returns-3 t c =
     (struct-none _ _ _ (c .before .before .before .before .before .before .before .before .before .before .before .before .before .before .args .swap) _ _ _ _ _ _ _ (c .before .before .before .before .before .before .before .before .before .look .ensures .0) (c .before .before .before .before .before .before .before .look2 .ensures .0) (c .before .before .same-arity .ensures) (and-are (c .before .before .before .before .both .ensures) refl (c .before .both2 .ensures) ∙ (c .if1 .left)), (c .before .before .before .before .before .before .before .before .before .before .before .before .before .before .pre .1 .1))
 
 -- src/coerce.rt:865:17
@@ -2132,15 +2159,22 @@ pub +both-parts+coerce-field+coerce-value+common+entry+list-rule+list-struct+map
     (list-struct-look-requires t)
     (list-struct-look-requires-2 t)
     (list-struct-same-arity-requires t)
-    (list-struct-have-same-names-requires t)
-    (list-struct-both-requires t)
-    (list-struct-differ-in-part-requires t)
-    (list-struct-under-requires t)
     (list-struct-same-length t)
-    (list-struct-same-length-2 t)
     (list-struct-returns t)
+    (list-struct-differ-in-part-requires t)
+    (list-struct-in-order-requires t)
+    (list-struct-under-requires t)
+    (list-struct-same-length-2 t)
     (list-struct-same-length-3 t)
-    (list-struct-returns-2 t))
+    (list-struct-returns-2 t)
+    (list-struct-have-same-names-requires t)
+    (list-struct-under-requires-2 t)
+    (list-struct-same-length-4 t)
+    (list-struct-same-length-5 t)
+    (list-struct-returns-3 t)
+    (list-struct-same-length-6 t)
+    (list-struct-same-length-7 t)
+    (list-struct-returns-4 t))
     (λ t. map-rule-lts.spec (map-rule-calls t)
     (map-rule-at t)
     map-rule.Post
@@ -2275,9 +2309,11 @@ pub +both-parts+coerce-field+coerce-value+common+entry+list-rule+list-struct+map
     (rows-look-requires t)
     (rows-row-requires t)
     (rows-same-length t)
+    (rows-same-length-2 t)
     (rows-returns-3 t)
     (rows-name-field-requires t)
-    (rows-same-length-2 t)
+    (rows-same-length-3 t)
+    (rows-same-length-4 t)
     (rows-returns-4 t)
     (rows-common-requires t)
     (rows-enum-known-d t)
@@ -2290,20 +2326,20 @@ pub +both-parts+coerce-field+coerce-value+common+entry+list-rule+list-struct+map
     (rows-enum-told-2 t)
     (rows-enum-told-3 t)
     (rows-enum-told-4 t)
-    (rows-same-length-3 t)
-    (rows-same-length-4 t)
-    (rows-returns-5 t)
     (rows-same-length-5 t)
     (rows-same-length-6 t)
-    (rows-returns-6 t)
+    (rows-returns-5 t)
     (rows-same-length-7 t)
     (rows-same-length-8 t)
-    (rows-returns-7 t)
+    (rows-returns-6 t)
     (rows-same-length-9 t)
     (rows-same-length-10 t)
-    (rows-returns-8 t)
+    (rows-returns-7 t)
     (rows-same-length-11 t)
     (rows-same-length-12 t)
+    (rows-returns-8 t)
+    (rows-same-length-13 t)
+    (rows-same-length-14 t)
     (rows-returns-9 t))
     (λ t. struct-rule-lts.spec (struct-rule-calls t)
     (struct-rule-at t)
@@ -2314,17 +2350,13 @@ pub +both-parts+coerce-field+coerce-value+common+entry+list-rule+list-struct+map
     (struct-rule-same-arity-requires t)
     (struct-rule-both-requires-2 t)
     (struct-rule-differ-in-part-requires t)
-    (struct-rule-have-same-names-requires t)
+    (struct-rule-struct-feed-requires t)
     (struct-rule-under-requires t)
     (struct-rule-same-length t)
     (struct-rule-same-length-2 t)
     (struct-rule-returns t)
-    (struct-rule-under-requires-2 t)
     (struct-rule-same-length-3 t)
-    (struct-rule-same-length-4 t)
-    (struct-rule-returns-2 t)
-    (struct-rule-same-length-5 t)
-    (struct-rule-returns-3 t))
+    (struct-rule-returns-2 t))
     (λ t. under-lts.spec (under-calls t)
     (under-at t)
     under.Post
