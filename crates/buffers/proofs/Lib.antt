@@ -1,4 +1,5 @@
 pub mod Sources
+pub mod Differing
 pub mod Sameness
 pub mod Parting
 pub mod Puts

@@ -1,4 +1,4 @@
--- The returns of the test for sameness. Assumes nothing.
+-- The returns of the comparison of two types. Assumes nothing.
 use mathlib.Core.Path.{_≡_, refl, ap, ap₂, sym, _∙_}
 use mathlib.Core.Bool.{Bool, true, false, cond, _&&_, Bool·beq}
 use mathlib.Core.List.{List, [], _∷_}
@@ -7,16 +7,19 @@ use native.Mathlib.Omega.{arith}
 use lib.Dec.{eqb}
 use borrow.Author.Tests.{eq-eqb, ne-eqb, eqb-true, eqb-false}
 use Rattle.sheet.specs.Tests.{allOf, implies}
-use Rattle.sheet.specs.Types.{absent, present, Shape, Fields, end, field}
+use Rattle.sheet.specs.Types.{absent, present, Shape, Fields, end, field, count}
+use Rattle.sheet.specs.Encode.{linkTo}
 use Rattle.sheet.specs.Head.{headAt, nullableIn, zonedIn, sortedIn, zoneAt, zoneLen}
 use Rattle.sheet.specs.Read.{labelAt, shapeOf}
 use Rattle.sheet.specs.Names.{sameBytes}
 use Rattle.sheet.specs.declared.Head.{Head}
 use Rattle.sheet.proofs.Tests.{and-true, all-not}
-use Rattle.coercion.specs.Same.{sameZone, sameShape, sameFields, sameType}
-use Rattle.buffers.specs.Source.{Source, SameTypes, SameChains, Apart}
+use Rattle.coercion.specs.Same.{sameZone, sameShape}
+use Rattle.buffers.specs.Source.{Source, SameTypes, typeOf}
+use Rattle.buffers.specs.Differ.{firstOf, fieldsDiffer, typeDiffers, DifferChains, DifferTypes}
 use Rattle.buffers.specs.Records.{sameFigures, sameContent}
-use Rattle.buffers.proofs.Sources.{link-inside, read-name, read-nullable, read-shape, source-first, source-next, source-lower}
+use Rattle.buffers.proofs.Differing.{from-link, type-same}
+use Rattle.buffers.proofs.Sources.{source-none, link-is, link-inside, read-name, read-nullable, read-shape, source-first, source-next, source-lower}
 
 -- two bits, each compared by itself, or both by the number that they make
 bit-same : (x y : ℕ) → x < 2 → y < 2 → Bool·beq (eqb x 1) (eqb y 1) ≡ eqb x y
@@ -136,34 +139,35 @@ module _ (s : List ℕ) (n : ℕ) (g : Head) (t : List ℕ) (m : ℕ) (h : Head)
       go true true true true = refl
 
 -- two chains of which the first is empty
-pub fields-none : (s : List ℕ) (n floor i : ℕ) (t : List ℕ) (m j : ℕ) (named : Bool) → i ≤ floor → SameChains s n floor i t m j named (eqb j 0)
-unfolding sameFields
-fields-none s n floor i t m j named h r o up end r′ o′ up′ end x y = eq-eqb j 0 (y .leads .is)
-fields-none s n floor i t m j named h r o up end r′ o′ up′ (field name nullable shape parts rest) x y =
-    ne-eqb j 0 (λ e. let z : 0 < r′ = y .leads .above in let q = y .leads .is in absurd (omega arith))
-fields-none s n floor i t m j named h r o up (field name nullable shape parts rest) r′ o′ up′ b x y = absurd (omega (arith, x .leads .is, x .leads .above))
+module _ (s : List ℕ) (n floor i : ℕ) (t : List ℕ) (m j : ℕ) (named : Bool) (d : ℕ) (h : i ≤ floor) where
+  pub fields-none : j ≡ 0 → DifferChains s n floor i t m j named d 0
+  unfolding fieldsDiffer
+  fields-none z r o up a r′ o′ up′ b x y = rw (source-none h x, source-none (omega arith) y)
 
-pub fields-past : (s : List ℕ) (n floor i : ℕ) (t : List ℕ) (m j : ℕ) (named v : Bool) → floor < i → n ≤ i → SameChains s n floor i t m j named v
-fields-past s n floor i t m j named v lo hi r o up end r′ o′ up′ b x y = absurd (omega (arith, x .leads .is))
-fields-past s n floor i t m j named v lo hi r o up (field name nullable shape parts rest) r′ o′ up′ b x y = absurd (omega (arith, link-inside x))
+  pub fields-longer : ¬ (j ≡ 0) → DifferChains s n floor i t m j named d d
+  unfolding fieldsDiffer
+  fields-longer z r o up a r′ o′ up′ end x y = absurd (z (y .leads .is))
+  fields-longer z r o up a r′ o′ up′ (field name nullable shape parts rest) x y = rw (source-none h x)
 
-pub fields-short : (s : List ℕ) (n floor i : ℕ) (t : List ℕ) (m j : ℕ) (named : Bool) → floor < i → j ≡ 0 → SameChains s n floor i t m j named false
-unfolding sameFields
-fields-short s n floor i t m j named lo e r o up end r′ o′ up′ b x y = absurd (omega (arith, x .leads .is))
-fields-short s n floor i t m j named lo e r o up (field name nullable shape parts rest) r′ o′ up′ end x y = refl
-fields-short s n floor i t m j named lo e r o up (field name nullable shape parts rest) r′ o′ up′ (field name′ nullable′ shape′ parts′ rest′) x y =
-    absurd (omega (arith, y .leads .is, y .leads .above))
+pub fields-past : (s : List ℕ) (n floor i : ℕ) (t : List ℕ) (m j : ℕ) (named : Bool) (d v : ℕ) → floor < i → n ≤ i → DifferChains s n floor i t m j named d v
+fields-past s n floor i t m j named d v lo hi r o up end r′ o′ up′ b x y = absurd (omega (arith, x .leads .is))
+fields-past s n floor i t m j named d v lo hi r o up (field name nullable shape parts rest) r′ o′ up′ b x y = absurd (omega (arith, link-inside x))
+
+pub fields-short : (s : List ℕ) (n floor i : ℕ) (t : List ℕ) (m j : ℕ) (named : Bool) (d : ℕ) → floor < i → j ≡ 0 → DifferChains s n floor i t m j named d d
+unfolding fieldsDiffer
+fields-short s n floor i t m j named d lo e r o up end r′ o′ up′ b x y = absurd (omega (arith, x .leads .is))
+fields-short s n floor i t m j named d lo e r o up (field name nullable shape parts rest) r′ o′ up′ b x y = rw (source-none (omega arith) y)
 
 -- two records
-module _ (s : List ℕ) (n floor i : ℕ) (t : List ℕ) (m j : ℕ) (named : Bool) (past : floor < i) (some : ¬ (j ≡ 0)) (g h : Head) (eg : g ≡ headAt s i) (eh : h ≡ headAt t j) where
-  abbrev Claim : Bool → Type 0
-  Claim v = SameChains s n floor i t m j named v
+module _ (s : List ℕ) (n floor i : ℕ) (t : List ℕ) (m j : ℕ) (named : Bool) (d : ℕ) (past : floor < i) (some : ¬ (j ≡ 0)) (g h : Head) (eg : g ≡ headAt s i) (eh : h ≡ headAt t j) where
+  abbrev Claim : ℕ → Type 0
+  Claim v = DifferChains s n floor i t m j named d v
 
   -- what is asked of two records is asked of their own tests, their parts and the rest
-  both : (v : Bool)
+  both : (v : ℕ)
       → ((r o up : ℕ) (name : List ℕ) (nullable : Bool) (shape : Shape) (parts rest : Fields) (r′ o′ up′ : ℕ) (name′ : List ℕ) (nullable′ : Bool) (shape′ : Shape) (parts′ rest′ : Fields)
       → Source s n floor i r o up (field name nullable shape parts rest) → Source t m 0 j r′ o′ up′ (field name′ nullable′ shape′ parts′ rest′)
-      → v ≡ sameFields named (field name nullable shape parts rest) (field name′ nullable′ shape′ parts′ rest′))
+      → v ≡ fieldsDiffer named d i (field name nullable shape parts rest) (field name′ nullable′ shape′ parts′ rest′))
       → Claim v
   both v f r o up end r′ o′ up′ b x y = absurd (omega (arith, x .leads .is))
   both v f r o up (field name nullable shape parts rest) r′ o′ up′ end x y = absurd (some (y .leads .is))
@@ -181,87 +185,45 @@ module _ (s : List ℕ) (n floor i : ℕ) (t : List ℕ) (m j : ℕ) (named : Bo
         ∷ sameShape (read-shape x g eg k) (read-shape y h eh k)
         ∷ [])
 
-    whole-is : sameFields named (field name nullable shape parts rest) (field name′ nullable′ shape′ parts′ rest′)
-        ≡ (ownSame named s n g t m h && (sameFields named parts parts′ && sameFields named rest rest′))
-    unfolding sameFields allOf
-    whole-is = go (implies named (sameBytes name name′)) (Bool·beq nullable nullable′) (sameShape shape shape′) (sameFields named parts parts′) (sameFields named rest rest′)
-        ∙ ap (λ (b : Bool). b && (sameFields named parts parts′ && sameFields named rest rest′)) (sym own-is)
-      where
-        go : (a b c d e : Bool) → (a && (b && (c && (d && (e && true))))) ≡ ((a && (b && (c && true))) && (d && e))
-        go false b c d e = refl
-        go true false c d e = refl
-        go true true false d e = refl
-        go true true true false e = refl
-        go true true true true false = refl
-        go true true true true true = refl
+    whole-is : {v : Bool} {w u : ℕ} → v ≡ ownSame named s n g t m h → w ≡ fieldsDiffer named i (g .first) parts parts′ → u ≡ fieldsDiffer named d (g .next) rest rest′
+        → cond v (firstOf w u) i ≡ fieldsDiffer named d i (field name nullable shape parts rest) (field name′ nullable′ shape′ parts′ rest′)
+    unfolding fieldsDiffer
+    whole-is e f k =
+        let p : g .first ≡ linkTo (i + 1) parts = source-first x g eg .leads .is ∙ ap (λ (r : ℕ). linkTo (r + 1) parts) (sym (link-is x)) in
+        let q : g .next ≡ linkTo (i + 1 + count parts) rest = source-next x g eg .leads .is ∙ ap (λ (r : ℕ). linkTo (r + 1 + count parts) rest) (sym (link-is x)) in
+        ap₂ (λ (b : Bool) (l : ℕ). cond b l i) (e ∙ own-is)
+        (ap₂ firstOf (f ∙ from-link named i (i + 1) parts parts′ p) (k ∙ from-link named d (i + 1 + count parts) rest rest′ q))
 
-  pub fields-own : {v : Bool} → v ≡ ownSame named s n g t m h → v ≡ false → Claim false
+  pub fields-own : {v : Bool} → v ≡ ownSame named s n g t m h → v ≡ false → Claim i
   fields-own e z =
-      both false (λ r o up name nullable shape parts rest r′ o′ up′ name′ nullable′ shape′ parts′ rest′ x y.
-      sym (whole-is x y ∙ ap (λ (b : Bool). b && (sameFields named parts parts′ && sameFields named rest rest′)) (sym e ∙ z)))
+      both i (λ r o up name nullable shape parts rest r′ o′ up′ name′ nullable′ shape′ parts′ rest′ x y.
+      rw z at (whole-is x y e refl refl))
 
   module _ {v : Bool} (e : v ≡ ownSame named s n g t m h) (z : v ≡ true) where
-    pub fields-parts : {w : Bool}
-        → SameChains s n i (g .first) t m (h .first) named w
-        → w ≡ false → Claim false
-    fields-parts f q =
-        both false (λ r o up name nullable shape parts rest r′ o′ up′ name′ nullable′ shape′ parts′ rest′ x y.
-        sym
-        (whole-is x y
-        ∙ ap₂ (λ (b d : Bool). b && (d && sameFields named rest rest′)) (sym e ∙ z)
-        (sym (f _ _ _ parts _ _ _ parts′ (source-first x g eg) (source-lower 0 (omega arith) (source-first y h eh))) ∙ q)))
+    pub fields-parts : {w : ℕ}
+        → DifferChains s n i (g .first) t m (h .first) named i w
+        → ¬ (w ≡ 0) → Claim w
+    fields-parts {w} f q =
+        both w (λ r o up name nullable shape parts rest r′ o′ up′ name′ nullable′ shape′ parts′ rest′ x y.
+        let k : eqb w 0 ≡ false = ne-eqb w 0 q in
+        rw (z, k) at (whole-is x y e (f _ _ _ parts _ _ _ parts′ (source-first x g eg) (source-lower 0 (omega arith) (source-first y h eh))) refl))
 
-    pub fields-rest : {w u : Bool}
-        → SameChains s n i (g .first) t m (h .first) named w
-        → w ≡ true
-        → SameChains s n i (g .next) t m (h .next) named u
+    pub fields-rest : {w u : ℕ}
+        → DifferChains s n i (g .first) t m (h .first) named i w
+        → w ≡ 0
+        → DifferChains s n i (g .next) t m (h .next) named d u
         → Claim u
     fields-rest {w} {u} f q k =
         both u (λ r o up name nullable shape parts rest r′ o′ up′ name′ nullable′ shape′ parts′ rest′ x y.
-        k _ _ _ rest _ _ _ rest′ (source-next x g eg) (source-lower 0 (omega arith) (source-next y h eh))
-        ∙ sym
-        (whole-is x y
-        ∙ ap₂ (λ (b d : Bool). b && (d && sameFields named rest rest′)) (sym e ∙ z)
-        (sym (f _ _ _ parts _ _ _ parts′ (source-first x g eg) (source-lower 0 (omega arith) (source-first y h eh))) ∙ q)))
+        rw (z, q) at
+        (whole-is x y e (f _ _ _ parts _ _ _ parts′ (source-first x g eg) (source-lower 0 (omega arith) (source-first y h eh)))
+        (k _ _ _ rest _ _ _ rest′ (source-next x g eg) (source-lower 0 (omega arith) (source-next y h eh)))))
 
     -- two records have no parts
-    pub fields-plain : {u : Bool} → g .first + h .first ≡ 0
-        → SameChains s n i (g .next) t m (h .next) named u
+    pub fields-plain : {u : ℕ} → g .first + h .first ≡ 0
+        → DifferChains s n i (g .next) t m (h .next) named d u
         → Claim u
-    fields-plain q k = fields-rest (fields-none s n i (g .first) t m (h .first) named (omega arith)) (eq-eqb (h .first) 0 (omega arith)) k
-
--- what tells two chains apart
-module _ (s : List ℕ) (floor i : ℕ) (t : List ℕ) (j : ℕ) (past : floor < i) where
-  pub apart-short : j ≡ 0 → Apart s floor i t j
-  apart-short e n m named = fields-short s n floor i t m j named past e
-
-  module _ (some : ¬ (j ≡ 0)) (g h : Head) (eg : g ≡ headAt s i) (eh : h ≡ headAt t j) where
-    pub apart-figures : {v : Bool} → v ≡ sameFigures g h → v ≡ false → Apart s floor i t j
-    apart-figures e z n m named =
-        fields-own s n floor i t m j named past some g h eg eh
-        (sym (all-not _ 2 (sym (shapes-apart s n g t m h e z)))) refl
-
-    pub apart-nullable : ¬ (g .flags % 2 ≡ h .flags % 2) → Apart s floor i t j
-    apart-nullable z n m named =
-        fields-own s n floor i t m j named past some g h eg eh
-        (sym (all-not _ 1 (nullable-is g h ∙ ne-eqb (g .flags % 2) (h .flags % 2) z))) refl
-
-    pub apart-rest : Apart s i (g .next) t (h .next) → Apart s floor i t j
-    unfolding sameFields
-    apart-rest f n m named =
-        both s n floor i t m j named past some g h eg eh false
-        (λ r o up name nullable shape parts rest r′ o′ up′ name′ nullable′ shape′ parts′ rest′ x y.
-        sym (all-not _ 4 (sym (f n m named _ _ _ rest _ _ _ rest′ (source-next x g eg) (source-lower 0 (omega arith) (source-next y h eh))))))
-
-    pub apart-parts : Apart s i (g .first) t (h .first) → Apart s floor i t j
-    unfolding sameFields
-    apart-parts f n m named =
-        both s n floor i t m j named past some g h eg eh false
-        (λ r o up name nullable shape parts rest r′ o′ up′ name′ nullable′ shape′ parts′ rest′ x y.
-        sym (all-not _ 3 (sym (f n m named _ _ _ parts _ _ _ parts′ (source-first x g eg) (source-lower 0 (omega arith) (source-first y h eh))))))
-
-pub apart-longer : (s : List ℕ) (floor i : ℕ) (t : List ℕ) (j : ℕ) → i ≤ floor → ¬ (j ≡ 0) → Apart s floor i t j
-apart-longer s floor i t j h z n m named r o up a r′ o′ up′ b x y = sym (ne-eqb j 0 z) ∙ fields-none s n floor i t m j named h r o up a r′ o′ up′ b x y
+    fields-plain q k = fields-rest (fields-none s n i (g .first) t m (h .first) named i (omega arith) (omega arith)) refl k
 
 -- shapes of unlike kinds
 pub shapes-unlike : (a b : Shape) → ¬ (a .kind ≡ b .kind) → sameShape a b ≡ false
@@ -269,24 +231,31 @@ unfolding sameShape
 shapes-unlike a b ne = all-not _ 0 (ne-eqb (a .kind) (b .kind) ne)
 
 -- two types, by their shapes and their parts
-module _ (s : List ℕ) (n i : ℕ) (t : List ℕ) (m j : ℕ) (named : Bool) (g h : Head) (eg : g ≡ headAt s i) (eh : h ≡ headAt t j)
-    {v : Bool} (ev : v ≡ sameShape (shapeOf s n g) (shapeOf t m h)) where
-  pub types-differ : v ≡ false → SameTypes s n i t m j named false
-  unfolding sameType
-  types-differ z r o up name nullable shape parts rest r′ o′ up′ name′ nullable′ shape′ parts′ rest′ x y =
-      let e : sameShape shape shape′ ≡ false = sym (ap₂ sameShape (read-shape x g eg) (read-shape y h eh)) ∙ sym ev ∙ z in
-      rw e
+module _ (s : List ℕ) (n i : ℕ) (t : List ℕ) (m j : ℕ) (named : Bool) where
+  module _ (g h : Head) (eg : g ≡ headAt s i) (eh : h ≡ headAt t j) {v : Bool} (ev : v ≡ sameShape (shapeOf s n g) (shapeOf t m h)) where
+    pub types-differ : v ≡ false → DifferTypes s n i t m j named i
+    unfolding typeDiffers
+    types-differ z r o up name nullable shape parts rest r′ o′ up′ name′ nullable′ shape′ parts′ rest′ x y =
+        let e : sameShape shape shape′ ≡ false = sym (ap₂ sameShape (read-shape x g eg) (read-shape y h eh)) ∙ sym ev ∙ z in
+        rw e
 
-  pub types-parts : (w : Bool) → v ≡ true
-      → SameChains s n i (g .first) t m (h .first) named w
-      → SameTypes s n i t m j named w
-  unfolding sameType
-  types-parts w z f r o up name nullable shape parts rest r′ o′ up′ name′ nullable′ shape′ parts′ rest′ x y =
-      let e : sameShape shape shape′ ≡ true = sym (ap₂ sameShape (read-shape x g eg) (read-shape y h eh)) ∙ sym ev ∙ z in
-      rw e (f _ _ _ parts _ _ _ parts′ (source-first x g eg) (source-lower 0 (omega arith) (source-first y h eh)))
+    pub types-parts : (w : ℕ) → v ≡ true
+        → DifferChains s n i (g .first) t m (h .first) named i w
+        → DifferTypes s n i t m j named w
+    unfolding typeDiffers
+    types-parts w z f r o up name nullable shape parts rest r′ o′ up′ name′ nullable′ shape′ parts′ rest′ x y =
+        let e : sameShape shape shape′ ≡ true = sym (ap₂ sameShape (read-shape x g eg) (read-shape y h eh)) ∙ sym ev ∙ z in
+        let p : g .first ≡ linkTo (i + 1) parts = source-first x g eg .leads .is ∙ ap (λ (r : ℕ). linkTo (r + 1) parts) (sym (link-is x)) in
+        rw e
+        (f _ _ _ parts _ _ _ parts′ (source-first x g eg) (source-lower 0 (omega arith) (source-first y h eh))
+        ∙ from-link named i (i + 1) parts parts′ p)
 
-  -- neither type has parts
-  pub types-plain : v ≡ true → g .first + h .first ≡ 0 → SameTypes s n i t m j named true
-  types-plain z q =
-      types-parts true z (λ r o up a r′ o′ up′ b x y.
-      sym (eq-eqb (h .first) 0 (omega arith)) ∙ fields-none s n i (g .first) t m (h .first) named (omega arith) r o up a r′ o′ up′ b x y)
+    -- neither type has parts
+    pub types-plain : v ≡ true → g .first + h .first ≡ 0 → DifferTypes s n i t m j named 0
+    types-plain z q = types-parts 0 z (fields-none s n i (g .first) t m (h .first) named i (omega arith) (omega arith))
+
+  -- two types that differ at no record are the same
+  pub types-same : (e : ℕ) → DifferTypes s n i t m j named e → SameTypes s n i t m j named (eqb e 0)
+  types-same e f r o up name nullable shape parts rest r′ o′ up′ name′ nullable′ shape′ parts′ rest′ x y =
+      ap (λ (d : ℕ). eqb d 0) (f r o up name nullable shape parts rest r′ o′ up′ name′ nullable′ shape′ parts′ rest′ x y)
+      ∙ type-same named i (typeOf shape parts) (typeOf shape′ parts′) (omega (arith, x .leads .is, x .leads .above))

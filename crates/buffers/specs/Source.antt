@@ -1,14 +1,14 @@
 -- Types that stand in a buffer, as the merge reads them.
 use mathlib.Core.Path.{_≡_}
 use Prim.Native.Nat.{ℕ, _+_, _<_}
-use mathlib.Core.Bool.{Bool, false}
+use mathlib.Core.Bool.{Bool}
 use mathlib.Core.List.{List}
 use lib.ListN.{length}
 use Rattle.sheet.specs.Types.{Shape, Fields, field, labels}
 use Rattle.sheet.specs.Carried.{FieldsRight}
 use Rattle.sheet.specs.Holds.{Leads}
 use Rattle.coercion.specs.Data.{DataType}
-use Rattle.coercion.specs.Same.{sameFields, sameType}
+use Rattle.coercion.specs.Same.{sameType}
 
 -- a link leads to the chain t, whose figures are right; up is the kind of the record that its fields are parts of
 pub record Source (s : List ℕ) (n floor link r o up : ℕ) (t : Fields) : Type 0 where
@@ -27,12 +27,3 @@ SameTypes s n i t m j named e =
     (r′ o′ up′ : ℕ) (name′ : List ℕ) (nullable′ : Bool) (shape′ : Shape) (parts′ rest′ : Fields)
     → Source s n 0 i r o up (field name nullable shape parts rest) → Source t m 0 j r′ o′ up′ (field name′ nullable′ shape′ parts′ rest′)
     → e ≡ sameType named (typeOf shape parts) (typeOf shape′ parts′)
-
--- what the test for sameness of two chains says of whatever chains two links lead to
-abbrev pub SameChains : List ℕ → ℕ → ℕ → ℕ → List ℕ → ℕ → ℕ → Bool → Bool → Type 0
-SameChains s n floor i t m j named e =
-    (r o up : ℕ) (a : Fields) (r′ o′ up′ : ℕ) (b : Fields) → Source s n floor i r o up a → Source t m 0 j r′ o′ up′ b → e ≡ sameFields named a b
-
--- whatever chains two links lead to are not the same, with their names or without
-abbrev pub Apart : List ℕ → ℕ → ℕ → List ℕ → ℕ → Type 0
-Apart s floor i t j = (n m : ℕ) (named : Bool) → SameChains s n floor i t m j named false

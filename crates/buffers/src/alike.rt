@@ -1,7 +1,7 @@
-// Whether two chains of fields, or two types, are the same, with the names of their fields or without. A link of the first is followed only to a record
-// past floor, so that each test ends.
+// Where two chains of fields, or two types, first differ, with the names of their fields or without, and whether they are the same. A link of the first is
+// followed only to a record past floor, so that each comparison ends.
 ghost use mathlib.Core.Path.{_≡_};
-ghost use mathlib.Core.Bool.{Bool, true, false, not, Bool·beq};
+ghost use mathlib.Core.Bool.{not, Bool·beq};
 ghost use mathlib.Core.List.{_∷_, []};
 ghost use Prim.Native.Nat.{_/_, _%_, _<_};
 ghost use Rattle.sheet.specs.Tests.{allOf, implies};
@@ -11,7 +11,8 @@ ghost use Rattle.sheet.specs.Names.{sameBytes};
 ghost use Rattle.sheet.specs.Bounds.{Bounded};
 ghost use Rattle.coercion.specs.Same.{sameShape};
 ghost use Rattle.buffers.specs.Writes.{side};
-ghost use Rattle.buffers.specs.Source.{SameChains, SameTypes, Apart};
+ghost use Rattle.buffers.specs.Source.{SameTypes};
+ghost use Rattle.buffers.specs.Differ.{DifferChains, DifferTypes};
 ghost use Rattle.buffers.specs.Records.{sameFigures, sameContent};
 use sheet::Head;
 use sheet::label::label_at;
@@ -96,8 +97,9 @@ fn same_record(a: &[u8], n: usize, g: Head, b: &[u8], m: usize, h: Head, named: 
     false
 }
 
-// Whether the chain that a link of a leads to is the one that a link of b leads to.
-pub(crate) fn same_fields(
+// The record at which the chain that a link of a leads to and the one that a link of b leads to first differ. The first chain is the parts of record floor, or
+// what is left of them.
+fn differ_fields(
     a: &[u8],
     n: usize,
     floor: usize,
@@ -106,24 +108,24 @@ pub(crate) fn same_fields(
     m: usize,
     j: usize,
     named: bool,
-) -> bool
+) -> usize
     requires { ⌜ (n < 65536) × (m < 65536) ⌝ }
-    ensures { λ e. ⌜ SameChains (now (a .entry)) n floor i (now (b .entry)) m j named e ⌝ }
+    ensures { λ e. ⌜ DifferChains (now (a .entry)) n floor i (now (b .entry)) m j named floor e ⌝ }
 {
     let mut low = floor;
     let mut x = i;
     let mut y = j;
     while low < x {
         if n <= x {
-            return false;
+            return floor;
         }
         if y == 0 {
-            return false;
+            return floor;
         }
         let g = head_at(a, x);
         let h = head_at(b, y);
         if !same_record(a, n, g, b, m, h, named) {
-            return false;
+            return x;
         }
         low = x;
         x = g.next;
@@ -131,64 +133,31 @@ pub(crate) fn same_fields(
         if g.first + h.first == 0 {
             continue;
         }
-        if !same_fields(a, n, low, g.first, b, m, h.first, named) {
-            return false;
+        let d = differ_fields(a, n, low, g.first, b, m, h.first, named);
+        if d != 0 {
+            return d;
         }
     }
-    y == 0
+    if y == 0 { 0 } else { floor }
 }
 
-// Whether two chains are seen to differ, in a kind, a flag, a figure or in length, on one way down: along each chain, then into the parts of its last
-// record. A look ahead, for types that differ far down only: where it says no, they may differ still.
-fn are_apart(a: &[u8], floor: usize, i: usize, b: &[u8], j: usize) -> bool
-    requires { ⌜ i < 65536 ⌝ }
-    ensures { λ e. ⌜ (e ≡ true → Apart (now (a .entry)) floor i (now (b .entry)) j) ⌝ }
+// The record at which the type of record i of a and that of record j of b first differ.
+fn differ_type(a: &[u8], n: usize, i: usize, b: &[u8], m: usize, j: usize, named: bool) -> usize
+    requires { ⌜ (n < 65536) × (m < 65536) ⌝ }
+    ensures { λ e. ⌜ DifferTypes (now (a .entry)) n i (now (b .entry)) m j named e ⌝ }
 {
-    let mut low = floor;
-    let mut x = i;
-    let mut y = j;
-    while low < x {
-        if y == 0 {
-            return true;
-        }
-        let g = head_at(a, x);
-        let h = head_at(b, y);
-        if !same_figures(g, h) {
-            return true;
-        }
-        if g.flags % 2 != h.flags % 2 {
-            return true;
-        }
-        low = x;
-        x = g.next;
-        y = h.next;
-        if x + y == 0 {
-            x = g.first;
-            y = h.first;
-        }
+    if head_at(a, i).kind != head_at(b, j).kind {
+        return i;
     }
-    y != 0
-}
-
-// Whether the chain that a link of a leads to is the one that a link of b leads to, by a look ahead first.
-fn same_parts(
-    a: &[u8],
-    n: usize,
-    floor: usize,
-    i: usize,
-    b: &[u8],
-    m: usize,
-    j: usize,
-    named: bool,
-) -> bool
-    requires { ⌜ ((n < 65536) × (m < 65536)) × (i < 65536) ⌝ }
-    ensures { λ e. ⌜ SameChains (now (a .entry)) n floor i (now (b .entry)) m j named e ⌝ }
-{
-    if are_apart(a, floor, i, b, j) {
-        false
-    } else {
-        same_fields(a, n, floor, i, b, m, j, named)
+    let g = head_at(a, i);
+    let h = head_at(b, j);
+    if same_shape(a, n, g, b, m, h) {
+        if g.first + h.first == 0 {
+            return 0;
+        }
+        return differ_fields(a, n, i, g.first, b, m, h.first, named);
     }
+    i
 }
 
 // Whether the type of record i of a is that of record j of b.
@@ -196,18 +165,27 @@ pub fn same_type(a: &[u8], n: usize, i: usize, b: &[u8], m: usize, j: usize, nam
     requires { ⌜ (n < 65536) × (m < 65536) ⌝ }
     ensures { λ e. ⌜ SameTypes (now (a .entry)) n i (now (b .entry)) m j named e ⌝ }
 {
-    if head_at(a, i).kind != head_at(b, j).kind {
-        return false;
+    differ_type(a, n, i, b, m, j, named) == 0
+}
+
+// The record at which the type of record l of a side and that of record r of the other first differ.
+pub fn differ_sides(
+    sheet: &[u8],
+    work: &[u8],
+    n: usize,
+    swap: bool,
+    l: usize,
+    r: usize,
+    named: bool,
+) -> usize
+    requires { ⌜ n < 65536 ⌝ }
+    ensures { λ e. ⌜ DifferTypes (side swap (now (sheet .entry)) (now (work .entry))) n l (side (not swap) (now (sheet .entry)) (now (work .entry))) n r named e ⌝ }
+{
+    if swap {
+        differ_type(work, n, l, sheet, n, r, named)
+    } else {
+        differ_type(sheet, n, l, work, n, r, named)
     }
-    let g = head_at(a, i);
-    let h = head_at(b, j);
-    if same_shape(a, n, g, b, m, h) {
-        if g.first + h.first == 0 {
-            return true;
-        }
-        return same_parts(a, n, i, g.first, b, m, h.first, named);
-    }
-    false
 }
 
 // Whether the type of record l of a side is that of record r of the other.
@@ -223,9 +201,5 @@ pub fn same_sides(
     requires { ⌜ n < 65536 ⌝ }
     ensures { λ e. ⌜ SameTypes (side swap (now (sheet .entry)) (now (work .entry))) n l (side (not swap) (now (sheet .entry)) (now (work .entry))) n r named e ⌝ }
 {
-    if swap {
-        same_type(work, n, l, sheet, n, r, named)
-    } else {
-        same_type(sheet, n, l, work, n, r, named)
-    }
+    differ_sides(sheet, work, n, swap, l, r, named) == 0
 }
