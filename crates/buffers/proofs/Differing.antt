@@ -30,7 +30,7 @@ from-link named up i (field n c s p q) b e = ap (λ (k : ℕ). fieldsDiffer name
 
 module _ (named : Bool) where
   -- two chains that differ at no record are the same
-  pub fields-same : (up i : ℕ) (a b : Fields) → 0 < up → 0 < i → eqb (fieldsDiffer named up i a b) 0 ≡ sameFields named a b
+  fields-same : (up i : ℕ) (a b : Fields) → 0 < up → 0 < i → eqb (fieldsDiffer named up i a b) 0 ≡ sameFields named a b
   unfolding fieldsDiffer sameFields allOf
   fields-same up i end end hu hi = refl
   fields-same up i end (field n c s p q) hu hi = ne-eqb up 0 (λ e. omega arith)
@@ -82,7 +82,7 @@ module _ (named : Bool) where
       go false u v = inr (inr (omega arith, omega arith))
 
   -- two chains that differ at a record of the first do so whatever record has them for parts
-  pub rows-differ : (up i : ℕ) (a b : Fields) → up < i → i ≤ fieldsDiffer named up i a b → fieldsDiffer named 0 i a b ≡ fieldsDiffer named up i a b
+  rows-differ : (up i : ℕ) (a b : Fields) → up < i → i ≤ fieldsDiffer named up i a b → fieldsDiffer named 0 i a b ≡ fieldsDiffer named up i a b
   unfolding fieldsDiffer
   rows-differ up i end end h le = refl
   rows-differ up i end (field n c s p q) h le = absurd (omega arith)

@@ -39,7 +39,7 @@ pair-same x y z w hx hy = go (eqb x y) (eqb z w) refl refl
     go true false e f = ne-eqb (x + 2 * z) (y + 2 * w) (λ k. eqb-false z w f (omega (arith, eqb-true x y e)))
     go false q e f = ne-eqb (x + 2 * z) (y + 2 * w) (λ k. eqb-false x y e (omega arith))
 
-pub nullable-is : (g h : Head) → Bool·beq (nullableIn g) (nullableIn h) ≡ eqb (g .flags % 2) (h .flags % 2)
+nullable-is : (g h : Head) → Bool·beq (nullableIn g) (nullableIn h) ≡ eqb (g .flags % 2) (h .flags % 2)
 nullable-is g h = bit-same (g .flags % 2) (h .flags % 2) (omega arith) (omega arith)
 
 bits-is : (g h : Head) → (Bool·beq (sortedIn g) (sortedIn h) && Bool·beq (zonedIn g) (zonedIn h)) ≡ eqb (g .flags / 2 % 4) (h .flags / 2 % 4)

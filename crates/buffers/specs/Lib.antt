@@ -1,6 +1,5 @@
 pub mod Source
 pub mod Differ
-pub mod Part
 pub mod Records
 pub mod Writes
 pub mod Region

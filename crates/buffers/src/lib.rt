@@ -3,7 +3,6 @@ pub mod alike;
 pub mod copy;
 pub mod field;
 pub mod lay;
-pub mod part;
 pub mod plain;
 pub mod stamp;
 pub mod write;

@@ -2,7 +2,7 @@
 use mathlib.Core.Path.{_≡_, refl, ap, sym, subst, _∙_}
 use mathlib.Core.Bool.{Bool, true, false, cond, not}
 use mathlib.Core.List.{List}
-use mathlib.Core.Logic.{_⊎_, inl, inr, ⊎-elim}
+use mathlib.Core.Logic.{inl, inr, ⊎-elim}
 use mathlib.Core.Option.{Option, none, some, Option·some-injective}
 use Prim.Native.Nat.{ℕ, _+_, _-_, _<_, _≤_}
 use native.Mathlib.Omega.{arith}
@@ -13,7 +13,6 @@ use Rattle.sheet.specs.Types.{Shape, Fields, end, field, arity, count, zoneByte
 use Rattle.sheet.specs.Head.{headAt}
 use Rattle.sheet.specs.Encode.{linkTo}
 use Rattle.sheet.specs.declared.Head.{Head}
-use Rattle.sheet.proofs.Tests.{never}
 use Rattle.coercion.specs.Data.{DataType, Rules, size, andThen}
 use Rattle.coercion.specs.Answers.{coercion}
 use Rattle.coercion.specs.Nested.{before, joinFields, byName}
@@ -22,8 +21,8 @@ use Rattle.buffers.specs.Region.{Room, Kept, Inside, Grows, Wrote}
 use Rattle.buffers.specs.Goal.{letters, spotOf, fieldFor, Means, Tied}
 use Rattle.buffers.specs.Feeds.{Feeds, Fed, Unfed, RowIs}
 use Rattle.buffers.specs.Typed.{Chain, Typed, ChainIs, goalAt, NamedAt}
-use Rattle.buffers.specs.Part.{sameFirst}
-use Rattle.merge.specs.Merge.{Differ, MergesKnown, Rowed}
+use Rattle.merge.specs.Known.{Known, RowsKnown, rowKnown}
+use Rattle.merge.specs.Merge.{MergesKnown, Rowed}
 use Rattle.buffers.specs.declared.Space.{Space}
 use Rattle.buffers.specs.declared.Spot.{Spot}
 use Rattle.buffers.specs.declared.Goal.{Goal}
@@ -37,6 +36,7 @@ use Rattle.buffers.proofs.Chained.{labels-sum}
 use Rattle.buffers.proofs.Tying.{tied-kept, chain-tied}
 use Rattle.merge.proofs.Merging.{chain-side, typed-side, chain-some, common-fits}
 use Rattle.buffers.proofs.Rows.{chain-link, chain-typed, chain-next}
+use Rattle.merge.proofs.Knowing.{next-at, row-known, rest-known}
 use Rattle.buffers.proofs.Fielding.{name-length}
 
 -- the rows after the last field of the left, by what is left of the right at its place
@@ -74,7 +74,7 @@ labels-none : length (labels end) ≡ 0
 unfolding labels
 labels-none = refl
 
-module _ (known named : Bool) (c : DataType → DataType → Option DataType) (space : Space) (left : ℕ) (swap : Bool) (s w : List ℕ) (feed : Feed) (l r p : ℕ) (to : Spot) where
+module _ (known : ℕ) (named : Bool) (c : DataType → DataType → Option DataType) (space : Space) (left : ℕ) (swap : Bool) (s w : List ℕ) (feed : Feed) (l r p : ℕ) (to : Spot) where
   pub rows-end : (o : Out) → Inside space to → l ≡ 0 → o ≡ cond (eqb p 0) (Done to) No → Rowed known named c space left swap s w w feed l r p to o
   unfolding count labels
   rows-end o inside z e =
@@ -101,11 +101,11 @@ module _ (known named : Bool) (c : DataType → DataType → Option DataType) (s
   pub rows-means : (v : List ℕ) (o : Out) → ¬ (l ≡ 0)
       → ((name : List ℕ) (nullable : Bool) (shape : Shape) (parts rest rf pf tf nf : Fields) → Chain space (side swap s w) l (field name nullable shape parts rest)
       → Chain space (side (not swap) s w) r rf → Chain space (side (not swap) s w) p pf → Feeds feed (field name nullable shape parts rest) rf pf tf nf
-      → count (field name nullable shape parts rest) + count tf ≤ left → (known ≡ true → sameFirst named (field name nullable shape parts rest) tf ≡ false)
+      → count (field name nullable shape parts rest) + count tf ≤ left → RowsKnown known named l (field name nullable shape parts rest) pf
       → ChainIs space v to (count (field name nullable shape parts rest) + count tf) (length (labels (field name nullable shape parts rest)) + length (labels tf)) o
       (joinFields c (field name nullable shape parts rest) tf nf))
       → (lf rf pf tf nf : Fields) → Chain space (side swap s w) l lf → Chain space (side (not swap) s w) r rf → Chain space (side (not swap) s w) p pf → Feeds feed lf rf pf tf nf
-      → count lf + count tf ≤ left → (known ≡ true → sameFirst named lf tf ≡ false) → ChainIs space v to (count lf + count tf) (length (labels lf) + length (labels tf)) o (joinFields c lf tf nf)
+      → count lf + count tf ≤ left → RowsKnown known named l lf pf → ChainIs space v to (count lf + count tf) (length (labels lf) + length (labels tf)) o (joinFields c lf tf nf)
   rows-means v o z f end rf pf tf nf a b q g h d = absurd (z (chain-link refl a))
   rows-means v o z f (field name nullable shape parts rest) rf pf tf nf a b q g h d = f name nullable shape parts rest rf pf tf nf a b q g h d
 
@@ -129,7 +129,7 @@ module _ (known named : Bool) (c : DataType → DataType → Option DataType) (s
       }
 
 -- the first row of a chain was merged under its name, and the rows behind it
-module _ (known named : Bool) (rules : Rules) (space : Space) (left : ℕ) (swap : Bool) (s w : List ℕ) (feed : Feed) (l r p : ℕ) (to : Spot) (room : Room w space) (inside : Inside space to)
+module _ (known : ℕ) (named : Bool) (rules : Rules) (space : Space) (left : ℕ) (swap : Bool) (s w : List ℕ) (feed : Feed) (l r p : ℕ) (to : Spot) (room : Room w space) (inside : Inside space to)
     (h : Head) (eh : h ≡ headAt (side swap s w) l) (z : ¬ (l ≡ 0)) (row : Row) (is : RowIs space swap s w feed l r p row) (lt : ¬ (row .partner ≡ 0))
     (v : List ℕ) (b : Bool) (label : NamedAt space (side swap s w) w v h to b) where
   abbrev goal : Goal
@@ -162,7 +162,7 @@ module _ (known named : Bool) (rules : Rules) (space : Space) (left : ℕ) (swap
             inr (omega (arith, label .full e, long name nullable shape parts rest a, row-labels name nullable shape parts rest)));
       }
 
-  module _ (e : b ≡ true) (u : List ℕ) where
+  module _ (first-known : ℕ) (ek : first-known ≡ rowKnown known l (h .next) (row .partner) p) (e : b ≡ true) (u : List ℕ) where
     -- the field that feeds the first row, and the types of both after the name was written
     fed : {name : List ℕ} {nullable : Bool} {shape : Shape} {parts rest rf pf tf nf : Fields} → Chain space (side swap s w) l (field name nullable shape parts rest)
         → Chain space (side (not swap) s w) r rf → Chain space (side (not swap) s w) p pf → Feeds feed (field name nullable shape parts rest) rf pf tf nf
@@ -176,16 +176,18 @@ module _ (known named : Bool) (rules : Rules) (space : Space) (left : ℕ) (swap
     feeder : {t : DataType} → Typed space (side (not swap) s w) (row .partner) t → Typed space (side (not swap) s v) (row .partner) t
     feeder a = typed-side (not swap) space s w v (to .at) (to .label) room (label .kept) a
 
-    -- the first types may be known to differ
-    differs : (name : List ℕ) {nullable : Bool} (shape : Shape) (parts : Fields) {rest rf tf nf : Fields} (f : Fed space (side (not swap) s w) feed nullable rest rf row tf nf)
-        → (known ≡ true → sameFirst named (field name nullable shape parts rest) tf ≡ false) → Differ known named (record { shape = shape; parts = parts }) (f .type)
-    unfolding sameFirst
-    differs name shape parts f df k = rw (f .types) at (df k)
+    -- what is known of the first types
+    differs : (name : List ℕ) (nullable : Bool) (shape : Shape) (parts rest : Fields) {rf tf nf : Fields} (pf : Fields) → Chain space (side swap s w) l (field name nullable shape parts rest)
+        → Chain space (side (not swap) s w) p pf → (f : Fed space (side (not swap) s w) feed nullable rest rf row tf nf)
+        → RowsKnown known named l (field name nullable shape parts rest) pf → Known first-known named l (record { shape = shape; parts = parts }) (f .type)
+    differs name nullable shape parts rest pf a c f k =
+        subst (λ (i : ℕ). Known i named l (record { shape = shape; parts = parts }) (f .type)) (sym ek)
+        (row-known known named name nullable shape parts rest a (h .next) (next-at a h eh) pf c (f .partner) k)
 
     kept : Kept space v u (to .at) (to .label + h .nlen) → Kept space w u (to .at) (to .label)
     kept k = kept-trans (label .kept) (kept-wider (to .at) (to .label) (omega arith) (omega arith) k)
 
-    pub rows-none : MergesKnown known named both space left swap s v u l (row .partner) goal No → Rowed known named both space left swap s w u feed l r p to No
+    pub rows-none : MergesKnown first-known named both space left swap s v u l (row .partner) goal No → Rowed known named both space left swap s w u feed l r p to No
     unfolding count
     rows-none m =
         record {
@@ -196,7 +198,7 @@ module _ (known named : Bool) (rules : Rules) (space : Space) (left : ℕ) (swap
               let d = fed a q k f in
               let x : DataType = record { shape = shape; parts = parts } in
               rw (join-fed name nullable shape parts rest rf tf nf d)
-              (go _ _ _ _ (both x (d .type)) (joinFields both rest (d .more) (d .nulls)) name (m .means x (d .type) (first a) (feeder (d .partner)) (omega (arith, ap (λ (y : Fields). count y) (d .types))) (differs name shape parts d df))));
+              (go _ _ _ _ (both x (d .type)) (joinFields both rest (d .more) (d .nulls)) name (m .means x (d .type) (first a) (feeder (d .partner)) (omega (arith, ap (λ (y : Fields). count y) (d .types))) (differs name nullable shape parts rest pf a k d df))));
         }
       where
         go : (z₀ y₀ z₁ y₁ : ℕ) (o : Option DataType) (o′ : Option Fields) (name : List ℕ) → Means space v u goal z₀ y₀ No o
@@ -204,7 +206,7 @@ module _ (known named : Bool) (rules : Rules) (space : Space) (left : ℕ) (swap
         go z₀ y₀ z₁ y₁ none o′ name k = tt
         go z₀ y₀ z₁ y₁ (some t) o′ name k = absurd k
 
-    pub rows-full : MergesKnown known named both space left swap s v u l (row .partner) goal Full → Rowed known named both space left swap s w u feed l r p to Full
+    pub rows-full : MergesKnown first-known named both space left swap s v u l (row .partner) goal Full → Rowed known named both space left swap s w u feed l r p to Full
     unfolding count
     rows-full m =
         record {
@@ -219,11 +221,11 @@ module _ (known named : Bool) (rules : Rules) (space : Space) (left : ℕ) (swap
               let lm = row-labels (d .name) (d .own) (d .type .shape) (d .type .parts) (d .more) in
               let ll = row-labels name nullable shape parts rest in
               let ln = long name nullable shape parts rest a in
-              ⊎-elim (λ i. inl (omega arith)) (λ i. inr (omega arith)) (m .means x (d .type) (first a) (feeder (d .partner)) (omega arith) (differs name shape parts d df)));
+              ⊎-elim (λ i. inl (omega arith)) (λ i. inr (omega arith)) (m .means x (d .type) (first a) (feeder (d .partner)) (omega arith) (differs name nullable shape parts rest pf a k d df)));
         }
 
     -- the first row was written up to d, and the rows behind it were merged from there
-    module _ (d : Spot) (m : MergesKnown known named both space left swap s v u l (row .partner) goal (Done d)) where
+    module _ (d : Spot) (m : MergesKnown first-known named both space left swap s v u l (row .partner) goal (Done d)) where
       kept₂ : Kept space w u (to .at) (to .label)
       kept₂ = kept (m .writes .kept)
 
@@ -237,7 +239,7 @@ module _ (known named : Bool) (rules : Rules) (space : Space) (left : ℕ) (swap
 
       first-type : {nullable : Bool} {shape : Shape} {parts rest : Fields} (name : List ℕ) (t : DataType) → Chain space (side swap s w) l (field name nullable shape parts rest)
           → Typed space (side (not swap) s w) (row .partner) t → size (record { shape = shape; parts = parts }) + size t ≤ left
-          → Differ known named (record { shape = shape; parts = parts }) t → First name (record { shape = shape; parts = parts }) t
+          → Known first-known named l (record { shape = shape; parts = parts }) t → First name (record { shape = shape; parts = parts }) t
       unfolding count
       first-type {nullable} {shape} {parts} {rest} name t a q g df = go (both x t) refl (m .means x t (first a) (feeder q) g df)
         where
@@ -260,18 +262,18 @@ module _ (known named : Bool) (rules : Rules) (space : Space) (left : ℕ) (swap
               }
 
       -- the rows behind it
-      module _ (y : List ℕ) (o : Out) (k : Rowed false named both space (left - 1) swap s u y feed (h .next) r (row .next) d o) where
+      module _ (y : List ℕ) (o : Out) (k : Rowed known named both space (left - 1) swap s u y feed (h .next) r (row .next) d o) where
         kept₃ : Kept space w y (to .at) (to .label)
         kept₃ = kept-trans kept₂ (kept-wider (to .at) (to .label) (omega (arith, m .writes .passes .1 .0)) (omega (arith, m .writes .passes .1 .1)) (k .kept))
 
         rest-means : {name : List ℕ} {nullable : Bool} {shape : Shape} {parts rest rf tf nf : Fields} → Chain space (side swap s w) l (field name nullable shape parts rest)
-            → Chain space (side (not swap) s w) r rf → (f : Fed space (side (not swap) s w) feed nullable rest rf row tf nf) → count rest + count (f .more) ≤ left - 1
+            → Chain space (side (not swap) s w) r rf → (f : Fed space (side (not swap) s w) feed nullable rest rf row tf nf) → count rest + count (f .more) ≤ left - 1 → RowsKnown known named (h .next) rest (f .behind)
             → ChainIs space y d (count rest + count (f .more)) (length (labels rest) + length (labels (f .more))) o (joinFields both rest (f .more) (f .nulls))
-        rest-means {rest = rest} {rf = rf} a q f g =
+        rest-means {rest = rest} {rf = rf} a q f g df =
             k .means rest rf (f .behind) (f .more) (f .nulls) (chain-side swap space s w u (to .at) (to .label) room kept₂ (chain-next a h eh))
-            (chain-side (not swap) space s w u (to .at) (to .label) room kept₂ q) (chain-side (not swap) space s w u (to .at) (to .label) room kept₂ (f .next)) (f .feeds) g (λ k. never k)
+            (chain-side (not swap) space s w u (to .at) (to .label) room kept₂ q) (chain-side (not swap) space s w u (to .at) (to .label) room kept₂ (f .next)) (f .feeds) g df
 
-      pub rows-rest-none : (y : List ℕ) → Rowed false named both space (left - 1) swap s u y feed (h .next) r (row .next) d No → Rowed known named both space left swap s w y feed l r p to No
+      pub rows-rest-none : (y : List ℕ) → Rowed known named both space (left - 1) swap s u y feed (h .next) r (row .next) d No → Rowed known named both space left swap s w y feed l r p to No
       unfolding count
       rows-rest-none y k =
           record {
@@ -281,9 +283,9 @@ module _ (known named : Bool) (rules : Rules) (space : Space) (left : ℕ) (swap
                 rows-means known named both space left swap s w feed l r p to y No z (λ name nullable shape parts rest rf pf tf nf a q c f g df.
                 let i = fed a q c f in
                 let ct = ap (λ (x : Fields). count x) (i .types) in
-                let one = first-type name (i .type) a (i .partner) (omega arith) (differs name shape parts i df) in
+                let one = first-type name (i .type) a (i .partner) (omega arith) (differs name nullable shape parts rest pf a c i df) in
                 rw (join-fed name nullable shape parts rest rf tf nf i)
-                (rw (one .common) (go (joinFields both rest (i .more) (i .nulls)) name (one .type) _ _ _ _ (rest-means y No k a q i (omega arith)))));
+                (rw (one .common) (go (joinFields both rest (i .more) (i .nulls)) name (one .type) _ _ _ _ (rest-means y No k a q i (omega arith) (rest-known known named name nullable shape parts rest a (h .next) (next-at a h eh) feed pf f i df)))));
           }
         where
           go : (o : Option Fields) (name : List ℕ) (t : DataType) (z₀ y₀ z₁ y₁ : ℕ) → ChainIs space y d z₀ y₀ No o
@@ -291,7 +293,7 @@ module _ (known named : Bool) (rules : Rules) (space : Space) (left : ℕ) (swap
           go none name t z₀ y₀ z₁ y₁ c = tt
           go (some f) name t z₀ y₀ z₁ y₁ c = absurd c
 
-      pub rows-rest-full : (y : List ℕ) → Rowed false named both space (left - 1) swap s u y feed (h .next) r (row .next) d Full → Rowed known named both space left swap s w y feed l r p to Full
+      pub rows-rest-full : (y : List ℕ) → Rowed known named both space (left - 1) swap s u y feed (h .next) r (row .next) d Full → Rowed known named both space left swap s w y feed l r p to Full
       unfolding count
       rows-rest-full y k =
           record {
@@ -304,13 +306,13 @@ module _ (known named : Bool) (rules : Rules) (space : Space) (left : ℕ) (swap
                 let lt = ap (λ (x : Fields). length (labels x)) (i .types) in
                 let lm = row-labels (i .name) (i .own) (i .type .shape) (i .type .parts) (i .more) in
                 let ll = row-labels name nullable shape parts rest in
-                let one = first-type name (i .type) a (i .partner) (omega arith) (differs name shape parts i df) in
+                let one = first-type name (i .type) a (i .partner) (omega arith) (differs name nullable shape parts rest pf a c i df) in
                 let ra = one .records in
                 let rb = one .letters in
-                ⊎-elim (λ x. inl (omega arith)) (λ x. inr (omega arith)) (rest-means y Full k a q i (omega arith)));
+                ⊎-elim (λ x. inl (omega arith)) (λ x. inr (omega arith)) (rest-means y Full k a q i (omega arith) (rest-known known named name nullable shape parts rest a (h .next) (next-at a h eh) feed pf f i df)));
           }
 
-      pub rows-done : (y y′ : List ℕ) (e′ : Spot) (next : ℕ) → Rowed false named both space (left - 1) swap s u y feed (h .next) r (row .next) d (Done e′)
+      pub rows-done : (y y′ : List ℕ) (e′ : Spot) (next : ℕ) → Rowed known named both space (left - 1) swap s u y feed (h .next) r (row .next) d (Done e′)
           → next ≡ cond (eqb (d .at) (e′ .at)) 0 (d .at) → Tied space y y′ (to .at) next → Rowed known named both space left swap s w y′ feed l r p to (Done e′)
       unfolding count
       rows-done y y′ e′ next k en tied =
@@ -321,9 +323,9 @@ module _ (known named : Bool) (rules : Rules) (space : Space) (left : ℕ) (swap
                 rows-means known named both space left swap s w feed l r p to y′ (Done e′) z (λ name nullable shape parts rest rf pf tf nf a q c f g df.
                 let i = fed a q c f in
                 let ct = ap (λ (x : Fields). count x) (i .types) in
-                let one = first-type name (i .type) a (i .partner) (omega arith) (differs name shape parts i df) in
+                let one = first-type name (i .type) a (i .partner) (omega arith) (differs name nullable shape parts rest pf a c i df) in
                 rw (join-fed name nullable shape parts rest rf tf nf i)
-                (rw (one .common) (go (joinFields both rest (i .more) (i .nulls)) name (one .type) (one .wrote) _ _ _ _ (rest-means y (Done e′) k a q i (omega arith)))));
+                (rw (one .common) (go (joinFields both rest (i .more) (i .nulls)) name (one .type) (one .wrote) _ _ _ _ (rest-means y (Done e′) k a q i (omega arith) (rest-known known named name nullable shape parts rest a (h .next) (next-at a h eh) feed pf f i df)))));
           }
         where
           past : to .at < space .n

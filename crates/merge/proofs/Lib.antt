@@ -1,4 +1,5 @@
 pub mod Merging
+pub mod Knowing
 pub mod Joining
 pub mod Orders
 pub mod Asking

@@ -1,8 +1,8 @@
 -- Two types that were merged, by one rule and by another. Assumes nothing.
 use mathlib.Core.Path.{_≡_, refl, ap, sym, subst, _∙_}
-use mathlib.Core.Bool.{Bool, true, false, not}
+use mathlib.Core.Bool.{Bool, true, not}
 use mathlib.Core.List.{List, [], _++_}
-use mathlib.Core.Logic.{inl}
+use mathlib.Core.Logic.{inl, inr}
 use mathlib.Core.Option.{Option, none, some}
 use Prim.Native.Nat.{ℕ, _+_, _<_, _≤_}
 use native.Mathlib.Omega.{arith}
@@ -14,15 +14,16 @@ use Rattle.sheet.specs.declared.Head.{Head}
 use Rattle.coercion.specs.Data.{DataType, Rules, size, single}
 use Rattle.coercion.specs.Answers.{coercion}
 use Rattle.coercion.proofs.Shorter.{coercion-smaller, coercion-shorter}
-use Rattle.sheet.proofs.Tests.{never, and-fst, and-snd, all-at, all-cons, all-nil}
+use Rattle.sheet.proofs.Tests.{all-at, all-cons, all-nil}
 use Rattle.coercion.specs.Same.{sameType}
 use Rattle.buffers.specs.Source.{SameTypes}
 use Rattle.buffers.specs.Writes.{side}
 use Rattle.buffers.specs.Region.{Room, Kept}
 use Rattle.buffers.specs.Goal.{letters, Means, CopiedType}
 use Rattle.buffers.specs.Typed.{Chain, Typed, Merges}
-use Rattle.buffers.specs.Part.{sameButPart, sameFirst, LoneParts}
-use Rattle.merge.specs.Merge.{Tabled, Differ, DifferInPart, MergesKnown}
+use Rattle.buffers.specs.Differ.{typeDiffers, DifferTypes}
+use Rattle.merge.specs.Known.{Known}
+use Rattle.merge.specs.Merge.{Tabled, MergesKnown}
 use Rattle.buffers.specs.declared.Space.{Space}
 use Rattle.buffers.specs.declared.Goal.{Goal}
 use Rattle.buffers.specs.declared.Out.{Out}
@@ -33,7 +34,6 @@ use Rattle.buffers.proofs.Copying.{held-side}
 use Rattle.buffers.proofs.Laying.{no-record, named-kept}
 use Rattle.buffers.proofs.Fielding.{typed-reads}
 use Rattle.buffers.proofs.Stamping.{means-more}
-use Rattle.buffers.proofs.Parting.{part-differ}
 use Rattle.buffers.proofs.Partnering.{partners-zeros, partners-kept}
 use Rattle.wrappers.proofs.Values.{side-twice}
 
@@ -66,19 +66,11 @@ pub typed-same : {space : Space} {s t : List ℕ} {i j : ℕ} (named : Bool) {e 
 typed-same named f a b =
     f _ _ _ _ _ _ _ _ _ _ _ _ _ _ _ _ (source-lower 0 (omega arith) (a .chain .held .source)) (source-lower 0 (omega arith) (b .chain .held .source))
 
--- two types that were compared but for the type of their part
-pub in-part : {space : Space} {s t : List ℕ} {l r : ℕ} {known flag e : Bool} (named : Bool) → known ≡ true → flag ≡ named → LoneParts s (space .n) l t (space .n) r flag e
-    → DifferInPart known named space s l t r e
-in-part named k ef f x y a b =
-    rw (k, sym ef) (f _ _ _ _ _ _ _ _ _ _ _ _ _ _ _ _ (source-lower 0 (omega arith) (a .chain .held .source)) (source-lower 0 (omega arith) (b .chain .held .source)))
-
--- the types of the first parts of two types differ, where the two differ in the type of their one part
-pub parts-differ : {space : Space} {s t : List ℕ} {l r : ℕ} (known named : Bool) {e : Bool} → DifferInPart known named space s l t r e
-    → {x y : DataType} → Typed space s l x → Typed space t r y → Differ known named x y → e ≡ true → (sameButPart named x y ≡ true) × (sameFirst named (x .parts) (y .parts) ≡ false)
-parts-differ known named f {x} {y} a b d k =
-    let h = sym (f x y a b) ∙ k in
-    let e = and-snd known (sameButPart named x y) h in
-    (e, part-differ named x y e (d (and-fst known (sameButPart named x y) h)))
+-- two types of which the record at which they first differ was sought
+pub typed-differs : {space : Space} {s t : List ℕ} {i j : ℕ} (named : Bool) {e : ℕ} {x y : DataType} → DifferTypes s (space .n) i t (space .n) j named e → Typed space s i x → Typed space t j y
+    → e ≡ typeDiffers named i x y
+typed-differs named f a b =
+    f _ _ _ _ _ _ _ _ _ _ _ _ _ _ _ _ (source-lower 0 (omega arith) (a .chain .held .source)) (source-lower 0 (omega arith) (b .chain .held .source))
 
 -- the same meaning, for more room
 pub means-for : (space : Space) (w v : List ℕ) (g : Goal) {z y : ℕ} (z′ y′ : ℕ) (o : Out) {m m′ : Option DataType} → z ≤ z′ → y ≤ y′ → m ≡ m′ → Means space w v g z y o m
@@ -93,47 +85,48 @@ means-after space w v u g z y No none k a = tt
 means-after space w v u g z y No (some t) k a = absurd a
 means-after space w v u g z y Full m k a = a
 
+-- a link to a field is not 0
+pub chain-some : {space : Space} {s : List ℕ} {link : ℕ} {name : List ℕ} {nullable : Bool} {shape : Shape} {parts rest : Fields} → Chain space s link (field name nullable shape parts rest) → 0 < link
+chain-some a = omega (arith, a .held .source .leads .is, a .held .source .leads .above)
+
+-- record 1 says nothing of two types
+pub nothing-known : (named : Bool) {space : Space} {s : List ℕ} {l : ℕ} (x y : DataType) → Typed space s l x → Known 1 named l x y
+nothing-known named x y a (inl e) = absurd (omega arith)
+nothing-known named x y a (inr h) = absurd (omega (arith, chain-some (a .chain)))
+
 -- two types of which something may be known, and of which nothing is
-pub any-known : (known : Bool) {named : Bool} {A : DataType → DataType → Option DataType} {space : Space} {left : ℕ} (swap : Bool) {s w v : List ℕ} {l r : ℕ} {g : Goal} {o : Out}
+pub any-known : (known : ℕ) {named : Bool} {A : DataType → DataType → Option DataType} {space : Space} {left : ℕ} (swap : Bool) {s w v : List ℕ} {l r : ℕ} {g : Goal} {o : Out}
     → Merges A space left swap s w v l r g o → MergesKnown known named A space left swap s w v l r g o
 any-known known swap m = record { writes = m .writes; means = λ x y a b q d. m .means x y a b q }
 
 pub none-known : {named : Bool} {A : DataType → DataType → Option DataType} {space : Space} {left : ℕ} (swap : Bool) {s w v : List ℕ} {l r : ℕ} {g : Goal} {o : Out}
-    → MergesKnown false named A space left swap s w v l r g o → Merges A space left swap s w v l r g o
-none-known swap m = record { writes = m .writes; means = λ x y a b q. m .means x y a b q (λ k. never k) }
+    → MergesKnown 1 named A space left swap s w v l r g o → Merges A space left swap s w v l r g o
+none-known {named} swap m = record { writes = m .writes; means = λ x y a b q. m .means x y a b q (nothing-known named x y a) }
 
 module _ {A : DataType → DataType → Option DataType} (B : DataType → DataType → Option DataType) (space : Space) (swap : Bool) (s w v : List ℕ) (l r : ℕ) (g : Goal) (o : Out) where
-  -- a rule that says the same of the types at hand, where no more records are left in them
-  pub merges-within : {left : ℕ} (left′ : ℕ) → left′ ≤ left
-      → ((x y : DataType) → Typed space (side swap s w) l x → Typed space (side (not swap) s w) r y → size x + size y ≤ left′ → A x y ≡ B x y)
-      → Merges A space left swap s w v l r g o → Merges B space left′ swap s w v l r g o
-  merges-within left′ h f m =
-      record {
-        writes = m .writes;
-        means = λ x y a b q. means-for space w v g (size x + size y) (letters x + letters y) o (omega arith) (omega arith) (f x y a b q) (m .means x y a b (omega arith));
-      }
-
-  pub merges-as : {left : ℕ} (left′ : ℕ) → left′ ≤ left
-      → ((x y : DataType) → Typed space (side swap s w) l x → Typed space (side (not swap) s w) r y → A x y ≡ B x y)
-      → Merges A space left swap s w v l r g o → Merges B space left′ swap s w v l r g o
-  merges-as left′ h f m = merges-within left′ h (λ x y a b q. f x y a b) m
-
-  -- two types that may be known to differ
-  pub known-as : {known : Bool} (known′ : Bool) {named : Bool} {left : ℕ} (left′ : ℕ) → left′ ≤ left
-      → ((x y : DataType) → Typed space (side swap s w) l x → Typed space (side (not swap) s w) r y → Differ known′ named x y → (A x y ≡ B x y) × Differ known named x y)
+  -- a rule that says the same of the types at hand, of which as much is known, where no more records are left in them
+  pub known-within : {known : ℕ} (known′ : ℕ) {named : Bool} {left : ℕ} (left′ : ℕ) → left′ ≤ left
+      → ((x y : DataType) → Typed space (side swap s w) l x → Typed space (side (not swap) s w) r y → size x + size y ≤ left′ → Known known′ named l x y
+      → (A x y ≡ B x y) × Known known named l x y)
       → MergesKnown known named A space left swap s w v l r g o → MergesKnown known′ named B space left′ swap s w v l r g o
-  known-as known′ left′ h f m =
+  known-within known′ left′ h f m =
       record {
         writes = m .writes;
         means =
             λ x y a b q d.
-            means-for space w v g (size x + size y) (letters x + letters y) o (omega arith) (omega arith) (f x y a b d .0) (m .means x y a b (omega arith) (f x y a b d .1));
+            let i = f x y a b q d in
+            means-for space w v g (size x + size y) (letters x + letters y) o (omega arith) (omega arith) (i .0) (m .means x y a b (omega arith) (i .1));
       }
 
-  pub as-known : (known : Bool) {named : Bool} {left : ℕ} (left′ : ℕ) → left′ ≤ left
-      → ((x y : DataType) → Typed space (side swap s w) l x → Typed space (side (not swap) s w) r y → Differ known named x y → A x y ≡ B x y)
+  pub known-as : {known : ℕ} (known′ : ℕ) {named : Bool} {left : ℕ} (left′ : ℕ) → left′ ≤ left
+      → ((x y : DataType) → Typed space (side swap s w) l x → Typed space (side (not swap) s w) r y → Known known′ named l x y → (A x y ≡ B x y) × Known known named l x y)
+      → MergesKnown known named A space left swap s w v l r g o → MergesKnown known′ named B space left′ swap s w v l r g o
+  known-as known′ left′ h f m = known-within known′ left′ h (λ x y a b q d. f x y a b d) m
+
+  pub as-known : (known : ℕ) {named : Bool} {left : ℕ} (left′ : ℕ) → left′ ≤ left
+      → ((x y : DataType) → Typed space (side swap s w) l x → Typed space (side (not swap) s w) r y → Known known named l x y → A x y ≡ B x y)
       → Merges A space left swap s w v l r g o → MergesKnown known named B space left′ swap s w v l r g o
-  as-known known left′ h f m = known-as {known = false} known left′ h (λ x y a b d. (f x y a b d, λ k. never k)) (any-known false swap m)
+  as-known known {named} left′ h f m = known-as {known = 1} known left′ h (λ x y a b d. (f x y a b d, nothing-known named x y a)) (any-known 1 swap m)
 
   -- the sides exchanged
   pub merges-swapped : (left : ℕ) → ((x y : DataType) → Typed space (side swap s w) l x → Typed space (side (not swap) s w) r y → A y x ≡ B x y)
@@ -184,10 +177,6 @@ module _ (B : DataType → DataType → Option DataType) (space : Space) (left :
   -- no room for a record
   pub merges-full : space .n ≤ g .at → Merges B space left swap s w w l r g Full
   merges-full h = record { writes = no-record space w g h; means = λ x y a b q. inl (omega arith) }
-
--- a link to a field is not 0
-pub chain-some : {space : Space} {s : List ℕ} {link : ℕ} {name : List ℕ} {nullable : Bool} {shape : Shape} {parts rest : Fields} → Chain space s link (field name nullable shape parts rest) → 0 < link
-chain-some a = omega (arith, a .held .source .leads .is, a .held .source .leads .above)
 
 -- names within a type differ
 pub type-differ : {space : Space} {s : List ℕ} {link : ℕ} (t : DataType) → Typed space s link t → namesDiffer (single t) ≡ true

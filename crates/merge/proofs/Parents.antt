@@ -14,7 +14,6 @@ use Rattle.sheet.specs.Head.{headAt, nullableIn, sortedIn}
 use Rattle.sheet.specs.Encode.{linkTo}
 use Rattle.sheet.specs.Holds.{Stands, Holds}
 use Rattle.sheet.specs.declared.Head.{Head}
-use Rattle.sheet.proofs.Tests.{never}
 use Rattle.coercion.specs.Data.{DataType, size, andThen}
 use Rattle.coercion.specs.Nested.{joinFields, listOf, structCoercion, entryType, entryOf, mapShape}
 use Rattle.coercion.proofs.Maybe.{If, if-then}
@@ -23,8 +22,8 @@ use Rattle.buffers.specs.Region.{Room, region, Kept, Grows, Ready, Named, Passe
 use Rattle.buffers.specs.Goal.{letters, spotOf, fieldFor, Means, Writes, Laid, typeOf, shapeFor}
 use Rattle.merge.specs.Turns.{bothWrapped, mapRule}
 use Rattle.buffers.specs.Typed.{Chain, Typed, Merges, ChainIs, goalAt, NamedAt}
-use Rattle.buffers.specs.Part.{sameFirst}
-use Rattle.merge.specs.Merge.{DifferInPart, MergesKnown, MergesField, fieldOf, Rowed, Under}
+use Rattle.merge.specs.Known.{Known, RowsKnown, rowKnown}
+use Rattle.merge.specs.Merge.{MergesKnown, MergesField, fieldOf, Rowed, Under}
 use Rattle.buffers.specs.declared.Space.{Space}
 use Rattle.buffers.specs.declared.Spot.{Spot}
 use Rattle.buffers.specs.declared.Goal.{Goal}
@@ -37,7 +36,8 @@ use Rattle.buffers.proofs.Frames.{stands-frame, kept-trans, kept-wider}
 use Rattle.buffers.proofs.Chained.{labels-sum}
 use Rattle.buffers.proofs.Laying.{no-record}
 use Rattle.wrappers.proofs.Values.{chain-first}
-use Rattle.merge.proofs.Merging.{chain-side, typed-side, chain-some, parts-differ, means-for, any-known, merges-none}
+use Rattle.merge.proofs.Knowing.{next-at, parts-known, row-known}
+use Rattle.merge.proofs.Merging.{chain-side, typed-side, chain-some, nothing-known, means-for, any-known, merges-none}
 use Rattle.buffers.proofs.Rows.{chain-end, chain-link, chain-typed, chain-nullable}
 use Rattle.buffers.proofs.Fielding.{name-length}
 
@@ -133,7 +133,7 @@ link-is {l = l} at end a = rw (eq-eqb l 0 (chain-link refl a)) refl
 link-is {l = l} at (field name nullable shape parts rest) a = rw (ne-eqb l 0 (λ e. omega (arith, chain-some a))) refl
 
 -- the record of a type with parts, and the merged rows
-module _ {known named : Bool} (c : DataType → DataType → Option DataType) (space : Space) (left : ℕ) (swap : Bool) (s w : List ℕ) (feed : Feed) (l r p : ℕ) (g : Goal) where
+module _ {known : ℕ} {named : Bool} (c : DataType → DataType → Option DataType) (space : Space) (left : ℕ) (swap : Bool) (s w : List ℕ) (feed : Feed) (l r p : ℕ) (g : Goal) where
   pub under-full : (shape : Shape) → space .n ≤ g .at → Under known named c space left swap s w w feed shape l r p g Full
   under-full shape h = record { writes = no-record space w g h; means = λ lf rf pf tf nf a b q f k d. inl (omega arith) }
 
@@ -169,19 +169,19 @@ head-crowded B space left swap s w l r g h eh v m =
     }
 
 -- two wrappers: the left's record was copied, and the parts of both were merged
-module _ {named : Bool} (c : DataType → DataType → Option DataType) (space : Space) (left : ℕ) (swap : Bool) (s w : List ℕ) (l r : ℕ) (g : Goal) (room : Room w space) (h k : Head)
+module _ (known : ℕ) {named : Bool} (c : DataType → DataType → Option DataType) (space : Space) (left : ℕ) (swap : Bool) (s w : List ℕ) (l r : ℕ) (g : Goal) (room : Room w space) (h k : Head)
     (eh : h ≡ headAt (side swap s w) l) (ek : k ≡ headAt (side (not swap) s w) r) (v : List ℕ) where
   pub both-on : (d : Spot) (u : List ℕ) (o : Out) → CopiedHead space (side swap s w) w v h l g 0 (Done d)
-      → Rowed false named c space left swap s v u Feed.Own (h .first) (k .first) (k .first) d o → Merges (bothWrapped c) space (left + 1) swap s w u l r g o
+      → Rowed known named c space left swap s v u Feed.Own (h .first) (k .first) (k .first) d o → MergesKnown known named (bothWrapped c) space (left + 1) swap s w u l r g o
   both-on d u o m rows =
       record {
         writes = writes-on g o (m .kept) (m .passes) (rows .kept) (rows .grows);
         means =
-            λ x y a b q.
+            λ x y a b q i.
             means-for space w u g (size x + size y) (letters x + letters y) o (omega arith) (omega arith) refl
             (parent-means u _ _ o (joinFields c (x .parts) (y .parts) (x .parts)) (parent-copied eh m (a .chain)) (join-link c (g .at + 1) (x .parts) (y .parts) (x .parts)) (rows .kept)
             (rows .means (x .parts) (y .parts) (y .parts) (y .parts) (x .parts) (over swap (chain-first h eh (a .chain))) (over (not swap) (chain-first k ek (b .chain)))
-            (over (not swap) (chain-first k ek (b .chain))) (refl, refl) (omega arith) (λ k. never k)));
+            (over (not swap) (chain-first k ek (b .chain))) (refl, refl) (omega arith) (parts-known known named x y a h eh i)));
       }
     where
       over : (way : Bool) {i : ℕ} {t : Fields} → Chain space (side way s w) i t → Chain space (side way s v) i t
@@ -190,7 +190,7 @@ module _ {named : Bool} (c : DataType → DataType → Option DataType) (space :
 -- a field that was merged with a type: its name, and then its type
 module _ (A : DataType → DataType → Option DataType) (space : Space) (left : ℕ) (swap : Bool) (s w : List ℕ) (l r : ℕ) (to : Spot) (h : Head) (eh : h ≡ headAt (side swap s w) l)
     (v : List ℕ) (b : Bool) (named : NamedAt space (side swap s w) w v h to b) where
-  pub field-crowded : {known by-names : Bool} → b ≡ false → MergesField known by-names A space left swap s w v l r to Full
+  pub field-crowded : {known : ℕ} {by-names : Bool} → b ≡ false → MergesField known by-names A space left swap s w v l r to Full
   field-crowded z =
       record {
         kept = named .kept;
@@ -198,16 +198,20 @@ module _ (A : DataType → DataType → Option DataType) (space : Space) (left :
         means = λ name nullable x y rest a t q d. inr (omega (arith, named .full z, name-length a h eh));
       }
 
-  pub field-merged : {known by-names : Bool} (u : List ℕ) (o : Out) (own : Bool) → Room w space → b ≡ true → own ≡ nullableIn h → MergesKnown known by-names A space left swap s v u l r (goalAt to (h .nlen) own) o
+  field-merged : {known own-known : ℕ} {by-names : Bool}
+      → ((name : List ℕ) (nullable : Bool) (x y : DataType) (rest : Fields) → Chain space (side swap s w) l (field name nullable (x .shape) (x .parts) rest) → (t : Typed space (side (not swap) s w) r y)
+      → RowsKnown known by-names l (field name nullable (x .shape) (x .parts) rest) (field (t .name) (t .nullable) (y .shape) (y .parts) (t .rest)) → Known own-known by-names l x y)
+      → (u : List ℕ) (o : Out) (own : Bool) → Room w space → b ≡ true → own ≡ nullableIn h → MergesKnown own-known by-names A space left swap s v u l r (goalAt to (h .nlen) own) o
       → MergesField known by-names A space left swap s w u l r to o
-  field-merged u o own room z eo m =
+  field-merged told-known u o own room z eo m =
       record {
         kept = kept-trans (named .kept) (kept-wider (to .at) (to .label) (omega arith) (omega arith) (m .writes .kept));
         grows = grown o (m .writes .passes);
         means =
             λ name nullable x y rest a t q d.
             told name nullable _ (letters x) (letters y) o (A x y) (sym (name-length a h eh)) (eo ∙ chain-nullable a h eh) (named .named z l name nullable own (x .shape) (x .parts) rest a eh)
-            (m .means x y (chain-typed (chain-side swap space s w v (to .at) (to .label) room (named .kept) a)) (typed-side (not swap) space s w v (to .at) (to .label) room (named .kept) t) q d);
+            (m .means x y (chain-typed (chain-side swap space s w v (to .at) (to .label) room (named .kept) a)) (typed-side (not swap) space s w v (to .at) (to .label) room (named .kept) t) q
+            (told-known name nullable x y rest a t d));
       }
     where
       grown : (o : Out) → Passes space (goalAt to (h .nlen) own) o → Grows space to o
@@ -223,16 +227,29 @@ module _ (A : DataType → DataType → Option DataType) (space : Space) (left :
       told name nullable z y₁ y₂ No (some t) en eb nm a = absurd a
       told name nullable z y₁ y₂ Full t en eb nm a = ⊎-elim (λ i. inl (omega arith)) (λ i. inr (omega arith)) a
 
+  module _ {by-names : Bool} (u : List ℕ) (o : Out) (own : Bool) (room : Room w space) (z : b ≡ true) (eo : own ≡ nullableIn h) where
+    -- nothing was known of its type
+    pub field-alone : Merges A space left swap s v u l r (goalAt to (h .nlen) own) o → MergesField 0 by-names A space left swap s w u l r to o
+    field-alone m = field-merged (λ name nullable x y rest a t k. nothing-known by-names x y (chain-typed a)) u o own room z eo (any-known 1 swap m)
+
+    -- what was known of its chain was handed down
+    pub field-on : {known own-known : ℕ} → own-known ≡ rowKnown known l (h .next) r r → MergesKnown own-known by-names A space left swap s v u l r (goalAt to (h .nlen) own) o
+        → MergesField known by-names A space left swap s w u l r to o
+    field-on {known} ek m =
+        field-merged (λ name nullable x y rest a t k.
+        subst (λ (i : ℕ). Known i by-names l x y) (sym ek) (row-known known by-names name nullable (x .shape) (x .parts) rest a (h .next) (next-at a h eh) _ (t .chain) t k))
+        u o own room z eo m
+
 -- two maps
 module _ (c : DataType → DataType → Option DataType) (space : Space) (left : ℕ) (swap : Bool) (s w : List ℕ) (l r : ℕ) (g : Goal) (h k : Head)
     (eh : h ≡ headAt (side swap s w) l) (ek : k ≡ headAt (side (not swap) s w) r) where
-  pub map-left-end : {known by-names : Bool} → h .first ≡ 0 → MergesKnown known by-names (mapRule c) space left swap s w w l r g No
+  pub map-left-end : {known : ℕ} {by-names : Bool} → h .first ≡ 0 → MergesKnown known by-names (mapRule c) space left swap s w w l r g No
   map-left-end {known} z = any-known known swap (merges-none (mapRule c) space left swap s w l r g (λ x y a b q. go x y (chain-end z (chain-first h eh (a .chain)))))
     where
       go : (x y : DataType) → x .parts ≡ end → none ≡ mapRule c x y
       go x y e = rw e refl
 
-  pub map-right-end : {known by-names : Bool} → k .first ≡ 0 → MergesKnown known by-names (mapRule c) space left swap s w w l r g No
+  pub map-right-end : {known : ℕ} {by-names : Bool} → k .first ≡ 0 → MergesKnown known by-names (mapRule c) space left swap s w w l r g No
   map-right-end {known} z = any-known known swap (merges-none (mapRule c) space left swap s w l r g (λ x y a b q. go (x .parts) x y (chain-end z (chain-first k ek (b .chain)))))
     where
       go : (f : Fields) (x y : DataType) → y .parts ≡ end
@@ -248,8 +265,7 @@ module _ (c : DataType → DataType → Option DataType) (space : Space) (left :
 
   module _ (room : Room w space) (ready : Ready space g) (lt : g .at < space .n) (v u : List ℕ) (o : Out) (sorted : Bool) (es : sorted ≡ (sortedIn h && sortedIn k))
       (some-left : ¬ (h .first ≡ 0)) (some-right : ¬ (k .first ≡ 0)) (laid : Laid space w v g (shapeFor 36 0 0 0 sorted) (g .at + 1))
-      (known named : Bool) {apart : Bool}
-      (fp : DifferInPart known named space (side swap s w) l (side (not swap) s w) r apart) (m : MergesField apart named (structCoercion c) space left swap s v u (h .first) (k .first) (after g) o) where
+      (known : ℕ) (named : Bool) (m : MergesField known named (structCoercion c) space left swap s v u (h .first) (k .first) (after g) o) where
     linked : (n : List ℕ) (b : Bool) (t : Option DataType) → If (λ parts. g .at + 1 ≡ linkTo (g .at + 1) parts) (fieldOf n b t)
     linked n b none = tt
     linked n b (some t) = refl
@@ -264,10 +280,10 @@ module _ (c : DataType → DataType → Option DataType) (space : Space) (left :
     over way a = chain-side way space s w v (g .at) (g .label + g .nlen) room (laid .kept) a
 
     entries : {sx : Bool} (f f′ : Fields) → sorted ≡ sx → Chain space (side swap s w) (h .first) f → Chain space (side (not swap) s w) (k .first) f′
-        → 1 + count f + (1 + count f′) ≤ left → (apart ≡ true → sameFirst named f f′ ≡ false)
+        → 1 + count f + (1 + count f′) ≤ left → RowsKnown known named (h .first) f f′
         → Means space w u g (1 + count f + (1 + count f′)) (length (labels f) + length (labels f′)) o
         (andThen (entryType f) (λ a. andThen (entryType f′) (λ b. andThen (structCoercion c a b) (λ t. some (record { shape = mapShape sx; parts = entryOf f t })))))
-    unfolding count sameFirst
+    unfolding count
     entries end f′ e a b q d = absurd (some-left (chain-link refl a))
     entries (field n nb sh p more) end e a b q d = absurd (some-right (chain-link refl b))
     entries (field n nb sh p more) (field n′ nb′ sh′ p′ more′) e a b q d =
@@ -279,7 +295,7 @@ module _ (c : DataType → DataType → Option DataType) (space : Space) (left :
         let l₃ = length-append n′ (zoneBytes (sh′ .zone)) in
         means-for space w u g _ _ o (omega arith) (omega arith) (shaped n nb sh p more (structCoercion c x y) e)
         (parent-means u _ _ o (fieldOf n nb (structCoercion c x y)) (parent-laid laid) (linked n nb (structCoercion c x y)) (m .kept)
-        (m .means n nb x y more (over swap a) (chain-typed (over (not swap) b)) (omega arith) d))
+        (m .means n nb x y more (over swap a) (record { name = n′; nullable = nb′; rest = more′; chain = over (not swap) b }) (omega arith) d))
 
     pub map-on : MergesKnown known named (mapRule c) space left swap s w u l r g o
     map-on =
@@ -288,5 +304,5 @@ module _ (c : DataType → DataType → Option DataType) (space : Space) (left :
           means =
               λ x y a b q d.
               means-for space w u g (size x + size y) (letters x + letters y) o (omega arith) (omega arith) refl
-              (entries (x .parts) (y .parts) (es ∙ ap₂ _&&_ (sorted-is h eh a) (sorted-is k ek b)) (chain-first h eh (a .chain)) (chain-first k ek (b .chain)) q (λ k. parts-differ known named fp a b d k .1));
+              (entries (x .parts) (y .parts) (es ∙ ap₂ _&&_ (sorted-is h eh a) (sorted-is k ek b)) (chain-first h eh (a .chain)) (chain-first k ek (b .chain)) q (parts-known known named x y a h eh d));
         }

@@ -230,13 +230,13 @@ module _ (rules : Rules) (space : Space) (left : ℕ) (swap : Bool) (s w : List 
       wider c = kept-trans (cf .kept) (kept-wider (a .at) (a .label) (cf .grows .1 .0) (cf .grows .1 .1) c)
 
       -- what is said of the second part
-      value : {named : Bool} {v₃ : List ℕ} {o : Out} → MergesField false named (coercion rules) space left swap s v₂ v₃ (j .next) r b o → (z : Two) → Pair z → (y : DataType)
+      value : {named : Bool} {v₃ : List ℕ} {o : Out} → MergesField 0 named (coercion rules) space left swap s v₂ v₃ (j .next) r b o → (z : Two) → Pair z → (y : DataType)
           → Typed space (side (not swap) s w) r y → size (wrapperOf z) + size y ≤ left + 1
           → ChainIs space v₃ b (size (valueOf z) + size y) (length (z .name₂) + letters (valueOf z) + letters y) o (fieldOf (z .name₂) (z .null₂) (coercion rules (valueOf z) y))
       unfolding count
-      value mf z i y t q = mf .means (z .name₂) (z .null₂) (valueOf z) y (z .rest) (over₂ swap (i .second)) (other t) (omega arith) (λ k. never k)
+      value mf z i y t q = mf .means (z .name₂) (z .null₂) (valueOf z) y (z .rest) (over₂ swap (i .second)) (other t) (omega arith) (λ pos le. absurd (omega arith))
 
-      pub value-none : {named : Bool} (v₃ : List ℕ) → MergesField false named (coercion rules) space left swap s v₂ v₃ (j .next) r b No → Merges answer space (left + 1) swap s w v₃ l r g No
+      pub value-none : {named : Bool} (v₃ : List ℕ) → MergesField 0 named (coercion rules) space left swap s v₂ v₃ (j .next) r b No → Merges answer space (left + 1) swap s w v₃ l r g No
       value-none v₃ mf = merged v₃ No (writes-on g No (cp .kept) (cp .passes) (wider (mf .kept)) tt) (λ z i y t q. go z _ _ _ _ (coercion rules (valueOf z) y) (value mf z i y t q))
         where
           go : (z : Two) (z₀ y₀ z₁ y₁ : ℕ) (m : Option DataType) → ChainIs space v₃ b z₀ y₀ No (fieldOf (z .name₂) (z .null₂) m)
@@ -244,7 +244,7 @@ module _ (rules : Rules) (space : Space) (left : ℕ) (swap : Bool) (s w : List 
           go z z₀ y₀ z₁ y₁ none c = tt
           go z z₀ y₀ z₁ y₁ (some t) c = absurd c
 
-      pub value-full : {named : Bool} (v₃ : List ℕ) → MergesField false named (coercion rules) space left swap s v₂ v₃ (j .next) r b Full → Merges answer space (left + 1) swap s w v₃ l r g Full
+      pub value-full : {named : Bool} (v₃ : List ℕ) → MergesField 0 named (coercion rules) space left swap s v₂ v₃ (j .next) r b Full → Merges answer space (left + 1) swap s w v₃ l r g Full
       unfolding count labels
       value-full v₃ mf =
           merged v₃ Full (writes-on g Full (cp .kept) (cp .passes) (wider (mf .kept)) tt)
@@ -257,7 +257,7 @@ module _ (rules : Rules) (space : Space) (left : ℕ) (swap : Bool) (s w : List 
           ⊎-elim (λ u. inl (omega (arith, p .at, c .records))) (λ u. inr (omega (arith, p .label, c .letters))) (value mf z i y t q))
 
       -- the second part was merged, and tied to the first
-      module _ {named : Bool} (v₃ : List ℕ) (e : Spot) (mf : MergesField false named (coercion rules) space left swap s v₂ v₃ (j .next) r b (Done e)) (v₄ : List ℕ) (tied : Tied space v₃ v₄ (a .at) (b .at))
+      module _ {named : Bool} (v₃ : List ℕ) (e : Spot) (mf : MergesField 0 named (coercion rules) space left swap s v₂ v₃ (j .next) r b (Done e)) (v₄ : List ℕ) (tied : Tied space v₃ v₄ (a .at) (b .at))
           (v₅ : List ℕ) (o : Out) (vw : Viewed space v₄ v₅ k (b .at) g e o) where
         inside : a .at < space .n
         inside = omega (arith, cf .further, cf .grows .0 .records)

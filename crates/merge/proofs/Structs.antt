@@ -2,29 +2,27 @@
 use mathlib.Core.Path.{_≡_, refl, ap, ap₂, sym, subst, _∙_}
 use mathlib.Core.Bool.{Bool, true, false, cond, not, _&&_}
 use mathlib.Core.List.{List}
-use mathlib.Core.Option.{Option, none, some, Option·some-injective}
+use mathlib.Core.Option.{Option, none, some}
 use Prim.Native.Nat.{ℕ, _+_, _≤_}
 use native.Mathlib.Omega.{arith}
 use lib.Dec.{eqb}
 use borrow.Author.Tests.{eq-eqb, eqb-true, not-true}
-use Rattle.sheet.specs.Tests.{allOf}
-use Rattle.sheet.specs.Types.{Fields, end, field, arity}
+use Rattle.sheet.specs.Types.{Fields, arity}
 use Rattle.sheet.specs.Head.{headAt}
-use Rattle.sheet.specs.Names.{sameBytes, repeats, namesDiffer}
+use Rattle.sheet.specs.Names.{repeats, namesDiffer}
 use Rattle.sheet.specs.declared.Head.{Head}
-use Rattle.sheet.proofs.Tests.{never, all-at, and-fst, and-snd}
+use Rattle.sheet.proofs.Tests.{all-at, and-fst, and-snd}
 use Rattle.coercion.specs.Data.{DataType, size}
 use Rattle.coercion.specs.Wrappers.{isOf}
-use Rattle.coercion.specs.Same.{sameShape}
-use Rattle.coercion.specs.Nested.{joinFields, withName, byName, fieldsHaveSameNames, partners, listOf, structOf, structCoercion}
+use Rattle.coercion.specs.Nested.{joinFields, byName, fieldsHaveSameNames, partners, listOf, structOf, structCoercion}
 use Rattle.coercion.specs.Answers.{listStruct}
 use Rattle.buffers.specs.Writes.{side}
 use Rattle.buffers.specs.Goal.{letters, Means, shapeFor}
 use Rattle.buffers.specs.Typed.{Chain, Typed}
 use Rattle.buffers.specs.Feeds.{Feeds}
 use Rattle.buffers.specs.Partners.{sameOrder}
-use Rattle.buffers.specs.Part.{sameLone, sameButPart, sameFirst}
-use Rattle.merge.specs.Merge.{Differ, DifferInPart, StructFed, MergesKnown, Under}
+use Rattle.merge.specs.Known.{Known}
+use Rattle.merge.specs.Merge.{StructFed, MergesKnown, Under}
 use Rattle.buffers.specs.declared.Space.{Space}
 use Rattle.buffers.specs.declared.Goal.{Goal}
 use Rattle.buffers.specs.declared.Out.{Out}
@@ -33,7 +31,8 @@ use Rattle.buffers.specs.declared.Feed.{Feed}
 use Rattle.buffers.specs.declared.Feed.the-variants as Feed
 use Rattle.buffers.proofs.Chained.{held-first}
 use Rattle.wrappers.proofs.Values.{chain-first}
-use Rattle.merge.proofs.Merging.{parts-differ, means-for, any-known, merges-none}
+use Rattle.merge.proofs.Knowing.{parts-known}
+use Rattle.merge.proofs.Merging.{means-for, any-known, merges-none}
 use Rattle.partners.proofs.Naming.{Asks, sameArity, names-found, names-missing, by-name-fits, end-self, order-names, order-by-name}
 use Rattle.buffers.proofs.Fielding.{typed-reads}
 
@@ -46,25 +45,6 @@ struct-differ {t = t} e a =
 struct-list : (o : Option Fields) → listOf (shapeFor 35 0 0 0 false) o ≡ structOf o
 struct-list none = refl
 struct-list (some fields) = refl
-
--- of two chains that have a field each, the one of a name
-lone-found : (named : Bool) (a b tf : Fields) → sameLone named a b ≡ true → byName a b ≡ some tf → sameFirst named a tf ≡ sameFirst named a b
-unfolding sameLone sameFirst byName withName arity allOf
-lone-found named end b tf e f = refl
-lone-found named (field n c s p q) end tf e f = never e
-lone-found named (field n c s p end) (field n′ c′ s′ p′ end) tf e f = go (sameBytes n n′) f
-  where
-    go : (b : Bool) → cond b (some (field n′ c′ s′ p′ end)) none ≡ some tf → sameFirst named (field n c s p end) tf ≡ sameFirst named (field n c s p end) (field n′ c′ s′ p′ end)
-    go true f = rw (sym (Option·some-injective _ _ f))
-    go false f = let z : _≡_ {A = ℕ} 0 1 = cc in absurd (omega arith)
-lone-found named (field n c s p end) (field n′ c′ s′ p′ (field n₂ c₂ s₂ p₂ q₂)) tf e f = absurd (omega (arith, eqb-true (0 + (1 + arity q₂)) 0 (and-fst (eqb (0 + (1 + arity q₂)) 0) _ e)))
-lone-found named (field n c s p (field n₁ c₁ s₁ p₁ q₁)) (field n′ c′ s′ p′ q′) tf e f = absurd (omega (arith, eqb-true (1 + arity q₁ + arity q′) 0 (and-fst (eqb (1 + arity q₁ + arity q′) 0) _ e)))
-
--- two types that differ in the type of their one part differ in it by name too
-found-differ : (named : Bool) (x y : DataType) (tf : Fields) → (sameButPart named x y ≡ true) × (sameFirst named (x .parts) (y .parts) ≡ false) → byName (x .parts) (y .parts) ≡ some tf
-    → sameFirst named (x .parts) tf ≡ false
-unfolding sameButPart
-found-differ named x y tf e f = lone-found named (x .parts) (y .parts) tf (and-snd (sameShape (x .shape) (y .shape)) _ (e .0)) f ∙ e .1
 
 -- two Structs of one arity whose fields have the same names
 struct-by-name : (c : DataType → DataType → Option DataType) (X Y : DataType) (tf : Fields) → (isOf 35 X && (isOf 35 Y && eqb (arity (X .parts)) (arity (Y .parts)))) ≡ true
@@ -97,16 +77,15 @@ module _ (c : DataType → DataType → Option DataType) (space : Space) (left :
     right-kind h = typed-reads b ey .kind ∙ eqb-true (y .kind) 35 (and-snd (eqb (x .kind) 35) _ (and-fst _ alike h))
 
   -- no common type
-  pub struct-none : {known by-names : Bool} → ((eqb (x .kind) 35 && eqb (y .kind) 35) && alike) ≡ false → MergesKnown known by-names (structCoercion c) space (left + 1) swap s w w l r g No
+  pub struct-none : {known : ℕ} {by-names : Bool} → ((eqb (x .kind) 35 && eqb (y .kind) 35) && alike) ≡ false → MergesKnown known by-names (structCoercion c) space (left + 1) swap s w w l r g No
   unfolding structCoercion
   struct-none {known} h = any-known known swap (merges-none (structCoercion c) space (left + 1) swap s w l r g (λ X Y a b q. rw (kinds a b ∙ h) refl))
 
   -- two Structs, by the fields that feed theirs
-  module _ (h : ((eqb (x .kind) 35 && eqb (y .kind) 35) && alike) ≡ true) (known by-names : Bool) {apart : Bool}
-      (fp : DifferInPart known by-names space (side swap s w) l (side (not swap) s w) r apart) {feed : Feed}
+  module _ (h : ((eqb (x .kind) 35 && eqb (y .kind) 35) && alike) ≡ true) (known : ℕ) (by-names : Bool) {feed : Feed}
       (ff : StructFed space (side swap s w) (side (not swap) s w) l (x .first) (y .first) feed) (v : List ℕ) (o : Out)
-      (u : Under apart by-names c space left swap s w v feed (shapeFor 35 0 0 0 false) (x .first) (y .first) (y .first) g o) where
-    module _ {X Y : DataType} (a : Typed space (side swap s w) l X) (b : Typed space (side (not swap) s w) r Y) (q : size X + size Y ≤ left + 1) (d : Differ known by-names X Y) where
+      (u : Under known by-names c space left swap s w v feed (shapeFor 35 0 0 0 false) (x .first) (y .first) (y .first) g o) where
+    module _ {X Y : DataType} (a : Typed space (side swap s w) l X) (b : Typed space (side (not swap) s w) r Y) (q : size X + size Y ≤ left + 1) (d : Known known by-names l X Y) where
       abbrev Merged : Type 0
       Merged = Means space w v g (size X + size Y) (letters X + letters Y) o (structCoercion c X Y)
 
@@ -120,7 +99,7 @@ module _ (c : DataType → DataType → Option DataType) (space : Space) (left :
       by-place e is =
           means-for space w v g (size X + size Y) (letters X + letters Y) o (omega arith) (omega arith) is
           (u .means (X .parts) (Y .parts) (Y .parts) (Y .parts) (Y .parts) (chain-first x ex (a .chain)) right right
-          (subst (λ (f : Feed). Feeds f (X .parts) (Y .parts) (Y .parts) (Y .parts) (Y .parts)) (sym e) (refl, refl)) (omega arith) (λ k. parts-differ known by-names fp a b d k .1))
+          (subst (λ (f : Feed). Feeds f (X .parts) (Y .parts) (Y .parts) (Y .parts) (Y .parts)) (sym e) (refl, refl)) (omega arith) (parts-known known by-names X Y a x ex d))
 
       by-name : feed ≡ Feed.Name → fieldsHaveSameNames (X .parts) (Y .parts) ≡ true → Merged
       by-name e n =
@@ -131,7 +110,7 @@ module _ (c : DataType → DataType → Option DataType) (space : Space) (left :
           (u .means (X .parts) (Y .parts) (Y .parts) (f .fields) (f .fields) (chain-first x ex (a .chain)) right right
           (subst (λ (i : Feed). Feeds i (X .parts) (Y .parts) (Y .parts) (f .fields) (f .fields)) (sym e)
           (f .is, (refl, ((end-self (Y .parts), struct-differ (right-kind a b h) b), sym same))))
-          (omega (arith, fits .0)) (λ k. found-differ by-names X Y (f .fields) (parts-differ known by-names fp a b d k) (f .is)))
+          (omega (arith, fits .0)) (parts-known known by-names X Y a x ex d))
 
       by-feed : (i j : Bool) → sameOrder (X .parts) (Y .parts) ≡ i → fieldsHaveSameNames (X .parts) (Y .parts) ≡ j → feed ≡ cond i Feed.Place (cond j Feed.Name Feed.Place) → Merged
       unfolding structCoercion partners
@@ -152,7 +131,7 @@ module _ (c : DataType → DataType → Option DataType) (space : Space) (left :
         }
 
   -- two Structs of a list
-  pub listed-unlike : {known by-names : Bool} → alike ≡ false → MergesKnown known by-names (listStruct c) space (left + 1) swap s w w l r g No
+  pub listed-unlike : {known : ℕ} {by-names : Bool} → alike ≡ false → MergesKnown known by-names (listStruct c) space (left + 1) swap s w w l r g No
   listed-unlike {known} h = any-known known swap (merges-none (listStruct c) space (left + 1) swap s w l r g (λ X Y a b q. rw (sym (arities a b) ∙ h) refl))
 
   module _ (h : alike ≡ true) where
@@ -160,16 +139,15 @@ module _ (c : DataType → DataType → Option DataType) (space : Space) (left :
       names : {X Y : DataType} → Typed space (side swap s w) l X → Typed space (side (not swap) s w) r Y → named ≡ fieldsHaveSameNames (X .parts) (Y .parts)
       names {X} {Y} a b = fn _ _ _ (X .parts) (Y .parts) (held-first (a .chain .held) x ex) (chain-first y ey (b .chain))
 
-      pub listed-none : {known by-names : Bool} → named ≡ false → MergesKnown known by-names (listStruct c) space (left + 1) swap s w w l r g No
+      pub listed-none : {known : ℕ} {by-names : Bool} → named ≡ false → MergesKnown known by-names (listStruct c) space (left + 1) swap s w w l r g No
       listed-none {known} e =
           any-known known swap (merges-none (listStruct c) space (left + 1) swap s w l r g
           (λ X Y a b q. rw (sym (arities a b) ∙ h) (rw (names-missing (X .parts) (Y .parts) (sym (names a b) ∙ e)) refl)))
 
-      pub listed-named : (known by-names : Bool) {apart : Bool} → DifferInPart known by-names space (side swap s w) l (side (not swap) s w) r apart
-          → named ≡ true → headAt (side swap s w) l .kind ≡ 35 → headAt (side (not swap) s w) r .kind ≡ 35 → (v : List ℕ) (o : Out)
-          → Under apart by-names c space left swap s w v Feed.NameThenPlace (shapeFor 35 0 0 0 false) (x .first) (y .first) (y .first) g o
+      pub listed-named : (known : ℕ) (by-names : Bool) → named ≡ true → headAt (side swap s w) l .kind ≡ 35 → headAt (side (not swap) s w) r .kind ≡ 35 → (v : List ℕ) (o : Out)
+          → Under known by-names c space left swap s w v Feed.NameThenPlace (shapeFor 35 0 0 0 false) (x .first) (y .first) (y .first) g o
           → MergesKnown known by-names (listStruct c) space (left + 1) swap s w v l r g o
-      listed-named known by-names fp e k k′ v o u =
+      listed-named known by-names e k k′ v o u =
           record {
             writes = u .writes;
             means =
@@ -180,14 +158,14 @@ module _ (c : DataType → DataType → Option DataType) (space : Space) (left :
                 means-for space w v g (size X + size Y) (letters X + letters Y) o (omega (arith, fits .0)) (omega (arith, fits .1))
                 (struct-list (joinFields c (X .parts) (f .fields) (Y .parts)) ∙ rw (sym (arities a b) ∙ h) (rw (f .is) refl))
                 (u .means (X .parts) (Y .parts) (Y .parts) (f .fields) (Y .parts) (chain-first x ex (a .chain)) right right
-                (f .is, (refl, (end-self (Y .parts), struct-differ (typed-reads b refl .kind ∙ k′) b))) (omega (arith, fits .0)) (λ k. found-differ by-names X Y (f .fields) (parts-differ known by-names fp a b d k) (f .is)));
+                (f .is, (refl, (end-self (Y .parts), struct-differ (typed-reads b refl .kind ∙ k′) b))) (omega (arith, fits .0)) (parts-known known by-names X Y a x ex d));
           }
 
-    pub listed-ordered : {ordered : Bool} → Asks sameOrder space (side swap s w) (side (not swap) s w) l (x .first) (y .first) ordered → (known by-names : Bool) {apart : Bool}
-        → DifferInPart known by-names space (side swap s w) l (side (not swap) s w) r apart → ordered ≡ true → headAt (side (not swap) s w) r .kind ≡ 35 → (v : List ℕ) (o : Out)
-        → Under apart by-names c space left swap s w v Feed.Place (shapeFor 35 0 0 0 false) (x .first) (y .first) (y .first) g o
+    pub listed-ordered : {ordered : Bool} → Asks sameOrder space (side swap s w) (side (not swap) s w) l (x .first) (y .first) ordered → (known : ℕ) (by-names : Bool)
+        → ordered ≡ true → headAt (side (not swap) s w) r .kind ≡ 35 → (v : List ℕ) (o : Out)
+        → Under known by-names c space left swap s w v Feed.Place (shapeFor 35 0 0 0 false) (x .first) (y .first) (y .first) g o
         → MergesKnown known by-names (listStruct c) space (left + 1) swap s w v l r g o
-    listed-ordered fo known by-names fp e k v o u =
+    listed-ordered fo known by-names e k v o u =
         record {
           writes = u .writes;
           means =
@@ -198,7 +176,7 @@ module _ (c : DataType → DataType → Option DataType) (space : Space) (left :
               let by = order-by-name (X .parts) (Y .parts) order (eqb-true _ _ same) (struct-differ (typed-reads b refl .kind ∙ k) b) in
               means-for space w v g (size X + size Y) (letters X + letters Y) o (omega arith) (omega arith)
               (struct-list (joinFields c (X .parts) (Y .parts) (Y .parts)) ∙ rw same (rw by refl))
-              (u .means (X .parts) (Y .parts) (Y .parts) (Y .parts) (Y .parts) (chain-first x ex (a .chain)) right right (refl, refl) (omega arith) (λ k. parts-differ known by-names fp a b d k .1));
+              (u .means (X .parts) (Y .parts) (Y .parts) (Y .parts) (Y .parts) (chain-first x ex (a .chain)) right right (refl, refl) (omega arith) (parts-known known by-names X Y a x ex d));
         }
 
 -- what the tests of names say of the fields that feed a Struct's

@@ -27,7 +27,8 @@ use Rattle.buffers.specs.Steps.{Reads, listKind, listSize}
 use Rattle.buffers.specs.Plain.{isListQuestion, plainRules}
 use Rattle.merge.specs.Turns.{structRule, nestedOf, listRule, mapRule, bothWrapped, rewrapped, eitherWrapped, resolved, unwrapped}
 use Rattle.buffers.specs.Typed.{Typed, Merges}
-use Rattle.merge.specs.Merge.{DifferInPart, MergesKnown, Under}
+use Rattle.merge.specs.Known.{Known, rowKnown}
+use Rattle.merge.specs.Merge.{MergesKnown, Under}
 use Rattle.buffers.specs.declared.Space.{Space}
 use Rattle.buffers.specs.declared.Spot.{Spot}
 use Rattle.buffers.specs.declared.Goal.{Goal}
@@ -35,7 +36,8 @@ use Rattle.buffers.specs.declared.Out.{Out}
 use Rattle.buffers.specs.declared.Out.the-variants.{Done, No, Full}
 use Rattle.buffers.specs.declared.Feed.the-variants as Feed
 use Rattle.buffers.proofs.Frames.{kept-trans}
-use Rattle.merge.proofs.Merging.{typed-side, typed-same, parts-differ, means-for, means-after, merges-within, merges-as, known-as, as-known, merges-swapped, merges-left, merges-right, merges-none}
+use Rattle.merge.proofs.Knowing.{parts-known, value-known}
+use Rattle.merge.proofs.Merging.{typed-side, typed-same, any-known, means-for, means-after, known-within, known-as, as-known, merges-swapped, merges-left, merges-right, merges-none}
 use Rattle.wrappers.specs.Ways.{isWrapper}
 use Rattle.wrappers.specs.Walks.{Way}
 use Rattle.wrappers.proofs.Choosing.{typed-whole, way-rule}
@@ -47,15 +49,15 @@ pub and-are : {a b p q r : Bool} → p ≡ a → q ≡ b → r ≡ (p && q) → 
 and-are e f h = sym (h ∙ ap₂ _&&_ e f)
 
 -- what was merged after something else was written at the same goal
-pub merges-after : {A : DataType → DataType → Option DataType} {space : Space} {left : ℕ} (swap : Bool) {s w v u : List ℕ} {l r : ℕ} {g : Goal} {o : Out} → Room w space
-    → Kept space w v (g .at) (g .label + g .nlen) → Merges A space left swap s v u l r g o → Merges A space left swap s w u l r g o
-merges-after {A} {space} {left} swap {s} {w} {v} {u} {l} {r} {g} {o} room k m =
+pub merges-after : {known : ℕ} {named : Bool} {A : DataType → DataType → Option DataType} {space : Space} {left : ℕ} (swap : Bool) {s w v u : List ℕ} {l r : ℕ} {g : Goal} {o : Out} → Room w space
+    → Kept space w v (g .at) (g .label + g .nlen) → MergesKnown known named A space left swap s v u l r g o → MergesKnown known named A space left swap s w u l r g o
+merges-after {A = A} {space} {left} swap {s} {w} {v} {u} {l} {r} {g} {o} room k m =
     record {
       writes = record { kept = kept-trans k (m .writes .kept); passes = m .writes .passes };
       means =
-          λ x y a b q.
+          λ x y a b q d.
           means-after space w v u g (size x + size y) (letters x + letters y) o (A x y) k
-          (m .means x y (typed-side swap space s w v (g .at) (g .label + g .nlen) room k a) (typed-side (not swap) space s w v (g .at) (g .label + g .nlen) room k b) q);
+          (m .means x y (typed-side swap space s w v (g .at) (g .label + g .nlen) room k a) (typed-side (not swap) space s w v (g .at) (g .label + g .nlen) room k b) q d);
     }
 
 -- the first of two rules that says something
@@ -67,21 +69,21 @@ or-none : (space : Space) (w v u : List ℕ) (g : Goal) (z y : ℕ) (o : Out) (a
 or-none space w v u g z y o none b k m = m
 or-none space w v u g z y o (some t) b k m = absurd k
 
-module _ {A : DataType → DataType → Option DataType} (B : DataType → DataType → Option DataType) {space : Space} {left : ℕ} (swap : Bool) {s w v : List ℕ} {l r : ℕ} {g : Goal} where
-  pub either-done : {d : Spot} → Merges A space left swap s w v l r g (Done d) → Merges (λ x y. orElse (A x y) (B x y)) space left swap s w v l r g (Done d)
+module _ {known : ℕ} {named : Bool} {A : DataType → DataType → Option DataType} (B : DataType → DataType → Option DataType) {space : Space} {left : ℕ} (swap : Bool) {s w v : List ℕ} {l r : ℕ} {g : Goal} where
+  pub either-done : {d : Spot} → MergesKnown known named A space left swap s w v l r g (Done d) → MergesKnown known named (λ x y. orElse (A x y) (B x y)) space left swap s w v l r g (Done d)
   either-done {d} m =
-      record { writes = m .writes; means = λ x y a b q. or-done space w v g (size x + size y) (letters x + letters y) d (A x y) (B x y) (m .means x y a b q) }
+      record { writes = m .writes; means = λ x y a b q i. or-done space w v g (size x + size y) (letters x + letters y) d (A x y) (B x y) (m .means x y a b q i) }
 
-  pub either-full : Merges A space left swap s w v l r g Full → Merges (λ x y. orElse (A x y) (B x y)) space left swap s w v l r g Full
-  either-full m = record { writes = m .writes; means = λ x y a b q. m .means x y a b q }
+  pub either-full : MergesKnown known named A space left swap s w v l r g Full → MergesKnown known named (λ x y. orElse (A x y) (B x y)) space left swap s w v l r g Full
+  either-full m = record { writes = m .writes; means = λ x y a b q i. m .means x y a b q i }
 
-  pub either-next : {u : List ℕ} {o : Out} → Room w space → Merges A space left swap s w v l r g No → Merges B space left swap s v u l r g o
-      → Merges (λ x y. orElse (A x y) (B x y)) space left swap s w u l r g o
+  pub either-next : {u : List ℕ} {o : Out} → Room w space → MergesKnown known named A space left swap s w v l r g No → MergesKnown known named B space left swap s v u l r g o
+      → MergesKnown known named (λ x y. orElse (A x y) (B x y)) space left swap s w u l r g o
   either-next {u} {o} room m n =
       let k = merges-after swap room (m .writes .kept) n in
       record {
         writes = k .writes;
-        means = λ x y a b q. or-none space w v u g (size x + size y) (letters x + letters y) o (A x y) (B x y) (m .means x y a b q) (k .means x y a b q);
+        means = λ x y a b q i. or-none space w v u g (size x + size y) (letters x + letters y) o (A x y) (B x y) (m .means x y a b q i) (k .means x y a b q i);
       }
 
 or-self : (b : Bool) → b ≡ (b || b)
@@ -102,7 +104,7 @@ both-two c l lf rf x y =
     go (some t) none = refl
     go (some t) (some t₂) = rw (sym (or-self (x .b))) (rw (sym (or-self (x .b₂))) refl)
 
-module _ (rules : Rules) (c : DataType → DataType → Option DataType) (space : Space) (left : ℕ) (swap : Bool) (s w : List ℕ) (l r : ℕ) (g : Goal) where
+module _ (known : ℕ) (named : Bool) (rules : Rules) (c : DataType → DataType → Option DataType) (space : Space) (left : ℕ) (swap : Bool) (s w : List ℕ) (l r : ℕ) (g : Goal) where
   abbrev S : List ℕ
   S = side swap s w
 
@@ -114,26 +116,26 @@ module _ (rules : Rules) (c : DataType → DataType → Option DataType) (space 
     one-of : {x y : DataType} (i : ℕ) → Typed space S l x → Typed space T r y → (isOf i x || isOf i y) ≡ (eqb k i || eqb j i)
     one-of i a b = ap₂ _||_ (kind-is ek i a) (kind-is ej i b)
 
-    pub resolve-dictionary : (v : List ℕ) (o : Out) → (eqb k 37 || eqb j 37) ≡ true → Merges (eitherWrapped 37 c) space (left + 1) swap s w v l r g o → Merges (resolved rules c) space (left + 1) swap s w v l r g o
+    pub resolve-dictionary : (v : List ℕ) (o : Out) → (eqb k 37 || eqb j 37) ≡ true → MergesKnown known named (eitherWrapped 37 c) space (left + 1) swap s w v l r g o → MergesKnown known named (resolved rules c) space (left + 1) swap s w v l r g o
     unfolding resolved
-    resolve-dictionary v o h = merges-as (resolved rules c) space swap s w v l r g o (left + 1) (omega arith) (λ x y a b. rw (one-of 37 a b ∙ h) refl)
+    resolve-dictionary v o h = known-as (resolved rules c) space swap s w v l r g o known (left + 1) (omega arith) (λ x y a b d. (rw (one-of 37 a b ∙ h) refl, d))
 
-    pub resolve-runs : (v : List ℕ) (o : Out) → (eqb k 37 || eqb j 37) ≡ false → (eqb k 38 || eqb j 38) ≡ true → Merges (eitherWrapped 38 c) space (left + 1) swap s w v l r g o
-        → Merges (resolved rules c) space (left + 1) swap s w v l r g o
+    pub resolve-runs : (v : List ℕ) (o : Out) → (eqb k 37 || eqb j 37) ≡ false → (eqb k 38 || eqb j 38) ≡ true → MergesKnown known named (eitherWrapped 38 c) space (left + 1) swap s w v l r g o
+        → MergesKnown known named (resolved rules c) space (left + 1) swap s w v l r g o
     unfolding resolved
-    resolve-runs v o n h = merges-as (resolved rules c) space swap s w v l r g o (left + 1) (omega arith) (λ x y a b. rw (one-of 37 a b ∙ n) (rw (one-of 38 a b ∙ h) refl))
+    resolve-runs v o n h = known-as (resolved rules c) space swap s w v l r g o known (left + 1) (omega arith) (λ x y a b d. (rw (one-of 37 a b ∙ n) (rw (one-of 38 a b ∙ h) refl), d))
 
-    pub resolve-nested : (v : List ℕ) (o : Out) → (eqb k 37 || eqb j 37) ≡ false → (eqb k 38 || eqb j 38) ≡ false → Merges (nestedOf rules c) space (left + 1) swap s w v l r g o
-        → Merges (resolved rules c) space (left + 1) swap s w v l r g o
+    pub resolve-nested : (v : List ℕ) (o : Out) → (eqb k 37 || eqb j 37) ≡ false → (eqb k 38 || eqb j 38) ≡ false → MergesKnown known named (nestedOf rules c) space (left + 1) swap s w v l r g o
+        → MergesKnown known named (resolved rules c) space (left + 1) swap s w v l r g o
     unfolding resolved
-    resolve-nested v o n h = merges-as (resolved rules c) space swap s w v l r g o (left + 1) (omega arith) (λ x y a b. rw (one-of 37 a b ∙ n) (rw (one-of 38 a b ∙ h) refl))
+    resolve-nested v o n h = known-as (resolved rules c) space swap s w v l r g o known (left + 1) (omega arith) (λ x y a b d. (rw (one-of 37 a b ∙ n) (rw (one-of 38 a b ∙ h) refl), d))
 
 or-assoc : (a b c : Option DataType) → orElse (orElse a b) c ≡ orElse a (orElse b c)
 or-assoc none b c = refl
 or-assoc (some t) b c = refl
 
 -- the rules of union and compare: the one rule for wrappers that can give an answer, and then the others
-module _ (rules : Rules) (pairs : isListQuestion (rules .question) ≡ false) (space : Space) (left : ℕ) (swap : Bool) (s w : List ℕ) (l r : ℕ) (g : Goal)
+module _ (known : ℕ) (named : Bool) (rules : Rules) (pairs : isListQuestion (rules .question) ≡ false) (space : Space) (left : ℕ) (swap : Bool) (s w : List ℕ) (l r : ℕ) (g : Goal)
     {k : ℕ} (way : Way (rules .mask) (left + 1) swap s w l r k) (v : List ℕ) where
   asked : (x y : DataType) → Typed space (side swap s w) l x → Typed space (side (not swap) s w) r y → size x + size y ≤ left + 1
       → orElse (wrapperCoercion k (coercion rules) x y) (nestedOf rules (coercion rules) x y) ≡ unwrapped rules (coercion rules) x y
@@ -143,50 +145,54 @@ module _ (rules : Rules) (pairs : isListQuestion (rules .question) ≡ false) (s
       ∙ ap (λ (o : Option DataType). orElse o (nestedOf rules (coercion rules) x y)) (sym (way-rule rules pairs x y (typed-whole a) (typed-whole b)))
       ∙ or-assoc (wrapperCoercion 37 (coercion rules) x y) (wrapperCoercion 38 (coercion rules) x y) (nestedOf rules (coercion rules) x y)
 
-  as-unwrapped : {u : List ℕ} {o : Out} → Merges (λ x y. orElse (wrapperCoercion k (coercion rules) x y) (nestedOf rules (coercion rules) x y)) space (left + 1) swap s w u l r g o
-      → Merges (unwrapped rules (coercion rules)) space (left + 1) swap s w u l r g o
-  as-unwrapped {u} {o} = merges-within (unwrapped rules (coercion rules)) space swap s w u l r g o (left + 1) (omega arith) asked
+  as-unwrapped : {u : List ℕ} {o : Out} → MergesKnown known named (λ x y. orElse (wrapperCoercion k (coercion rules) x y) (nestedOf rules (coercion rules) x y)) space (left + 1) swap s w u l r g o
+      → MergesKnown known named (unwrapped rules (coercion rules)) space (left + 1) swap s w u l r g o
+  as-unwrapped {u} {o} = known-within (unwrapped rules (coercion rules)) space swap s w u l r g o known (left + 1) (omega arith) (λ x y a b q d. (asked x y a b q, d))
 
-  pub unwrap-done : (d : Spot) → Merges (wrapperCoercion k (coercion rules)) space (left + 1) swap s w v l r g (Done d)
-      → Merges (unwrapped rules (coercion rules)) space (left + 1) swap s w v l r g (Done d)
+  pub unwrap-done : (d : Spot) → MergesKnown known named (wrapperCoercion k (coercion rules)) space (left + 1) swap s w v l r g (Done d)
+      → MergesKnown known named (unwrapped rules (coercion rules)) space (left + 1) swap s w v l r g (Done d)
   unwrap-done d m = as-unwrapped (either-done (nestedOf rules (coercion rules)) swap m)
 
-  pub unwrap-full : Merges (wrapperCoercion k (coercion rules)) space (left + 1) swap s w v l r g Full
-      → Merges (unwrapped rules (coercion rules)) space (left + 1) swap s w v l r g Full
+  pub unwrap-full : MergesKnown known named (wrapperCoercion k (coercion rules)) space (left + 1) swap s w v l r g Full
+      → MergesKnown known named (unwrapped rules (coercion rules)) space (left + 1) swap s w v l r g Full
   unwrap-full m = as-unwrapped (either-full (nestedOf rules (coercion rules)) swap m)
 
-  pub unwrap-nested : Room w space → (u : List ℕ) (o : Out) → Merges (wrapperCoercion k (coercion rules)) space (left + 1) swap s w v l r g No
-      → Merges (nestedOf rules (coercion rules)) space (left + 1) swap s v u l r g o → Merges (unwrapped rules (coercion rules)) space (left + 1) swap s w u l r g o
+  pub unwrap-nested : Room w space → (u : List ℕ) (o : Out) → MergesKnown known named (wrapperCoercion k (coercion rules)) space (left + 1) swap s w v l r g No
+      → MergesKnown known named (nestedOf rules (coercion rules)) space (left + 1) swap s v u l r g o → MergesKnown known named (unwrapped rules (coercion rules)) space (left + 1) swap s w u l r g o
   unwrap-nested room u o m n = as-unwrapped (either-next (nestedOf rules (coercion rules)) swap room m n)
 
 -- wrappers of a kind, in a list
-module _ (c : DataType → DataType → Option DataType) (space : Space) (left : ℕ) (swap : Bool) (s w : List ℕ) (l r : ℕ) (g : Goal)
+module _ (known : ℕ) {named : Bool} (c : DataType → DataType → Option DataType) (space : Space) (left : ℕ) (swap : Bool) (s w : List ℕ) (l r : ℕ) (g : Goal)
     {k j i : ℕ} (ek : k ≡ headAt (side swap s w) l .kind) (ej : j ≡ headAt (side (not swap) s w) r .kind) (is : isWrapper i ≡ true) where
-  pub wrap-both : (v : List ℕ) (o : Out) → k ≡ i → j ≡ i → Merges (bothWrapped c) space (left + 1) swap s w v l r g o → Merges (eitherWrapped i c) space (left + 1) swap s w v l r g o
+  pub wrap-both : (v : List ℕ) (o : Out) → k ≡ i → j ≡ i → MergesKnown known named (bothWrapped c) space (left + 1) swap s w v l r g o → MergesKnown known named (eitherWrapped i c) space (left + 1) swap s w v l r g o
   unfolding eitherWrapped
   wrap-both v o p q =
-      merges-as (eitherWrapped i c) space swap s w v l r g o (left + 1) (omega arith)
-      (λ x y a b.
-      rw (kind-is ek i a ∙ eq-eqb k i p)
-      (rw (kind-is ej i b ∙ eq-eqb j i q) (both-two c x (x .parts) (y .parts) (typed-two is (kind-of ek a ∙ p) a) (typed-two is (kind-of ej b ∙ q) b))))
+      known-as (eitherWrapped i c) space swap s w v l r g o known (left + 1) (omega arith)
+      (λ x y a b d. (
+        rw (kind-is ek i a ∙ eq-eqb k i p)
+            (rw (kind-is ej i b ∙ eq-eqb j i q) (both-two c x (x .parts) (y .parts) (typed-two is (kind-of ek a ∙ p) a) (typed-two is (kind-of ej b ∙ q) b))),
+        d,
+      ))
 
-  pub wrap-left : (v : List ℕ) (o : Out) → k ≡ i → ¬ (j ≡ i) → Merges (rewrapped i c) space (left + 1) swap s w v l r g o → Merges (eitherWrapped i c) space (left + 1) swap s w v l r g o
+  pub wrap-left : (v : List ℕ) (o : Out) → k ≡ i → ¬ (j ≡ i) → MergesKnown known named (rewrapped i c) space (left + 1) swap s w v l r g o → MergesKnown known named (eitherWrapped i c) space (left + 1) swap s w v l r g o
   unfolding eitherWrapped
   wrap-left v o p q =
-      merges-as (eitherWrapped i c) space swap s w v l r g o (left + 1) (omega arith)
-      (λ x y a b. rw (kind-is ek i a ∙ eq-eqb k i p) (rw (kind-is ej i b ∙ ne-eqb j i q) refl))
+      known-as (eitherWrapped i c) space swap s w v l r g o known (left + 1) (omega arith)
+      (λ x y a b d. (rw (kind-is ek i a ∙ eq-eqb k i p) (rw (kind-is ej i b ∙ ne-eqb j i q) refl), d))
 
-  pub wrap-right : (v : List ℕ) (o : Out) → ¬ (k ≡ i) → j ≡ i → Merges (rewrapped i c) space (left + 1) (not swap) s w v r l g o → Merges (eitherWrapped i c) space (left + 1) swap s w v l r g o
+  pub wrap-right : (v : List ℕ) (o : Out) → ¬ (k ≡ i) → j ≡ i → Merges (rewrapped i c) space (left + 1) (not swap) s w v r l g o → MergesKnown known named (eitherWrapped i c) space (left + 1) swap s w v l r g o
   unfolding eitherWrapped
-  wrap-right v o p q =
-      merges-swapped (eitherWrapped i c) space swap s w v l r g o (left + 1)
-      (λ x y a b. rw (kind-is ek i a ∙ ne-eqb k i p) (rw (kind-is ej i b ∙ eq-eqb j i q) refl))
+  wrap-right v o p q m =
+      any-known known swap
+      (merges-swapped (eitherWrapped i c) space swap s w v l r g o (left + 1)
+      (λ x y a b. rw (kind-is ek i a ∙ ne-eqb k i p) (rw (kind-is ej i b ∙ eq-eqb j i q) refl)) m)
 
-  pub wrap-none : ¬ (k ≡ i) → ¬ (j ≡ i) → Merges (eitherWrapped i c) space (left + 1) swap s w w l r g No
+  pub wrap-none : ¬ (k ≡ i) → ¬ (j ≡ i) → MergesKnown known named (eitherWrapped i c) space (left + 1) swap s w w l r g No
   unfolding eitherWrapped
   wrap-none p q =
-      merges-none (eitherWrapped i c) space (left + 1) swap s w l r g
-      (λ x y a b m. rw (kind-is ek i a ∙ ne-eqb k i p) (rw (kind-is ej i b ∙ ne-eqb j i q) refl))
+      any-known known swap
+      (merges-none (eitherWrapped i c) space (left + 1) swap s w l r g
+      (λ x y a b m. rw (kind-is ek i a ∙ ne-eqb k i p) (rw (kind-is ej i b ∙ ne-eqb j i q) refl)))
 
 -- a wrapper of a kind on either side, in union and compare
 module _ (c : DataType → DataType → Option DataType) (space : Space) (left : ℕ) (swap : Bool) (s w : List ℕ) (l r : ℕ) (g : Goal)
@@ -198,19 +204,22 @@ module _ (c : DataType → DataType → Option DataType) (space : Space) (left :
       (λ x y a b m. rw (kind-is ek i a ∙ ne-eqb k i p) (rw (kind-is ej i b ∙ ne-eqb j i q) refl))
 
   module _ (v : List ℕ) (o : Out) where
-    pub wrapper-both : {a b : ℕ} → a ≡ headAt (side swap s w) (headAt (side swap s w) l .first) .next → b ≡ headAt (side (not swap) s w) (headAt (side (not swap) s w) r .first) .next → k ≡ i → j ≡ i
-        → Merges c space left swap s w v a b g o → Merges (wrapperCoercion i c) space (left + 1) swap s w v l r g o
+    pub wrapper-both : (known own-known : ℕ) {named : Bool} {m₁ m₂ : ℕ} → m₁ ≡ headAt (side swap s w) (headAt (side swap s w) l .first) .next
+        → m₂ ≡ headAt (side (not swap) s w) (headAt (side (not swap) s w) r .first) .next → k ≡ i → j ≡ i → own-known ≡ rowKnown known m₁ 0 m₂ m₂
+        → MergesKnown own-known named c space left swap s w v m₁ m₂ g o → MergesKnown known named (wrapperCoercion i c) space (left + 1) swap s w v l r g o
     unfolding wrapperCoercion
-    wrapper-both ea eb p q m =
+    wrapper-both known own-known {named} {m₁} ea eb p q eo m =
         record {
           writes = m .writes;
           means =
-              λ x y a b h.
+              λ x y a b h d.
               let vx = value-of is (kind-of ek a ∙ p) ea a in
               let vy = value-of is (kind-of ej b ∙ q) eb b in
               means-for space w v g (size x + size y) (letters x + letters y) o (omega (arith, vx .smaller, vy .smaller)) (omega (arith, vx .shorter, vy .shorter))
               (rw (kind-is ek i a ∙ eq-eqb k i p) (rw (kind-is ej i b ∙ eq-eqb j i q) (rw (vx .is) (rw (vy .is) refl))))
-              (m .means (vx .type) (vy .type) (vx .typed) (vy .typed) (omega (arith, vx .smaller, vy .smaller)));
+              (m .means (vx .type) (vy .type) (vx .typed) (vy .typed) (omega (arith, vx .smaller, vy .smaller))
+              (subst (λ (i : ℕ). Known i named m₁ (vx .type) (vy .type)) (sym eo)
+              (value-known known named x y (typed-two is (kind-of ek a ∙ p) a) (typed-two is (kind-of ej b ∙ q) b) a b ea eb (vx .typed) (vy .typed) d)));
         }
 
     module _ (p : k ≡ i) (q : ¬ (j ≡ i)) {a : ℕ} (ea : a ≡ headAt (side swap s w) (headAt (side swap s w) l .first) .next) {e : Bool}
@@ -263,7 +272,7 @@ module _ (c : DataType → DataType → Option DataType) (space : Space) (left :
           }
 
 -- two types that are no wrappers, by the kinds of both
-module _ (known named : Bool) (rules : Rules) (c : DataType → DataType → Option DataType) (space : Space) (left : ℕ) (swap : Bool) (s w : List ℕ) (l r : ℕ) (g : Goal)
+module _ (known : ℕ) (named : Bool) (rules : Rules) (c : DataType → DataType → Option DataType) (space : Space) (left : ℕ) (swap : Bool) (s w : List ℕ) (l r : ℕ) (g : Goal)
     {k j : ℕ} (ek : k ≡ headAt (side swap s w) l .kind) (ej : j ≡ headAt (side (not swap) s w) r .kind) (v : List ℕ) (o : Out) where
   module _ {X Y : DataType} (a : Typed space (side swap s w) l X) (b : Typed space (side (not swap) s w) r Y) where
     lists : (isList (X .shape .kind) && isList (Y .shape .kind)) ≡ (isList k && isList j)
@@ -345,11 +354,11 @@ shape-listed {x} {y} {X} {Y} a b = rw (sym (a .kind)) (rw (sym (b .kind)) (go (e
     go true e false f = large (eqb (X .shape .kind) 33 || eqb (Y .shape .kind) 33)
     go false e q f = large (eqb (X .shape .kind) 33 || eqb (Y .shape .kind) 33)
 
--- two lists, and whether they are known to differ in the type of their part alone
-module _ {known named : Bool} (c : DataType → DataType → Option DataType) (space : Space) (left : ℕ) (swap : Bool) (s w : List ℕ) (l r : ℕ) (g : Goal) (x y : Head)
-    (ex : x ≡ headAt (side swap s w) l) (ey : y ≡ headAt (side (not swap) s w) r) {apart : Bool} (fp : DifferInPart known named space (side swap s w) l (side (not swap) s w) r apart) where
+-- two lists
+module _ {known : ℕ} {named : Bool} (c : DataType → DataType → Option DataType) (space : Space) (left : ℕ) (swap : Bool) (s w : List ℕ) (l r : ℕ) (g : Goal) (x y : Head)
+    (ex : x ≡ headAt (side swap s w) l) (ey : y ≡ headAt (side (not swap) s w) r) where
   pub list-merged : {kind sz : ℕ} → kind ≡ listKind x y → sz ≡ listSize x y → (v : List ℕ) (o : Out)
-      → Under apart named c space left swap s w v Feed.Place (shapeFor kind 0 0 sz false) (x .first) (y .first) (y .first) g o
+      → Under known named c space left swap s w v Feed.Place (shapeFor kind 0 0 sz false) (x .first) (y .first) (y .first) g o
       → MergesKnown known named (listRule c) space (left + 1) swap s w v l r g o
   list-merged ek es v o u =
       record {
@@ -359,5 +368,5 @@ module _ {known named : Bool} (c : DataType → DataType → Option DataType) (s
             let right = chain-first y ey (b .chain) in
             let shape = ap₂ (λ (i j : ℕ). shapeFor i 0 0 j false) ek es ∙ shape-listed (typed-reads a ex) (typed-reads b ey) in
             means-for space w v g (size X + size Y) (letters X + letters Y) o (omega arith) (omega arith) (ap (λ (i : Shape). listOf i (joinFields c (X .parts) (Y .parts) (Y .parts))) shape)
-            (u .means (X .parts) (Y .parts) (Y .parts) (Y .parts) (Y .parts) (chain-first x ex (a .chain)) right right (refl, refl) (omega arith) (λ k. parts-differ known named fp a b d k .1));
+            (u .means (X .parts) (Y .parts) (Y .parts) (Y .parts) (Y .parts) (chain-first x ex (a .chain)) right right (refl, refl) (omega arith) (parts-known known named X Y a x ex d));
       }

@@ -1,21 +1,20 @@
 -- What the merge of two fields and of two chains says, whatever types stand at its links.
 use mathlib.Core.Path.{_≡_}
 use Prim.Native.Nat.{ℕ, _+_, _≤_}
-use mathlib.Core.Bool.{Bool, true, false, cond, not, _&&_}
+use mathlib.Core.Bool.{Bool, cond, not}
 use mathlib.Core.List.{List}
 use mathlib.Core.Option.{Option, none, some}
 use lib.ListN.{length}
 use Rattle.sheet.specs.Types.{Shape, Fields, end, field, count, labels}
 use Rattle.coercion.specs.Data.{DataType, size}
-use Rattle.coercion.specs.Same.{sameType}
 use Rattle.coercion.specs.Nested.{before, fieldsHaveSameNames, joinFields, listOf}
 use Rattle.buffers.specs.Writes.{side}
 use Rattle.buffers.specs.Region.{Kept, Held, Grows}
 use Rattle.buffers.specs.Goal.{letters, Means, Writes}
 use Rattle.buffers.specs.Typed.{Chain, Typed, ChainIs}
 use Rattle.buffers.specs.Feeds.{Feeds}
-use Rattle.buffers.specs.Part.{sameButPart, sameFirst}
 use Rattle.buffers.specs.Partners.{Partners, sameOrder}
+use Rattle.merge.specs.Known.{Known, RowsKnown}
 use Rattle.buffers.specs.declared.Space.{Space}
 use Rattle.buffers.specs.declared.Spot.{Spot}
 use Rattle.buffers.specs.declared.Goal.{Goal}
@@ -27,18 +26,6 @@ use Rattle.buffers.specs.declared.Feed.the-variants as Feed
 pub record Tabled (space : Space) (s w table : List ℕ) : Type 0 where
   pub partners : Partners space s w table
 
--- two types are not the same, where that is known
-abbrev pub Differ : Bool → Bool → DataType → DataType → Type 0
-Differ known named x y = known ≡ true → sameType named x y ≡ false
-
--- what the test for sameness says of two types that may be known to differ
-abbrev pub SameKnown : Bool → Bool → Space → List ℕ → ℕ → List ℕ → ℕ → Bool → Type 0
-SameKnown known named space s l t r e = (x y : DataType) → Typed space s l x → Typed space t r y → Differ known named x y → e ≡ sameType named x y
-
--- two types are known to differ, and are the same but for the type of the one part that each has
-abbrev pub DifferInPart : Bool → Bool → Space → List ℕ → ℕ → List ℕ → ℕ → Bool → Type 0
-DifferInPart known named space s l t r e = (x y : DataType) → Typed space s l x → Typed space t r y → e ≡ (known && sameButPart named x y)
-
 -- which fields feed those of a Struct in a union: the ones at their places where the names stand in one order, and where they are not the same
 abbrev pub structFeed : Fields → Fields → Feed
 structFeed l r = cond (sameOrder l r) Feed.Place (cond (fieldsHaveSameNames l r) Feed.Name Feed.Place)
@@ -47,10 +34,10 @@ structFeed l r = cond (sameOrder l r) Feed.Place (cond (fieldsHaveSameNames l r)
 abbrev pub StructFed : Space → List ℕ → List ℕ → ℕ → ℕ → ℕ → Feed → Type 0
 StructFed space s t floor l r feed = (a o up : ℕ) (lf rf : Fields) → Held space s floor l a o up lf → Chain space t r rf → feed ≡ structFeed lf rf
 
--- two types that may be known to differ were merged as a rule says, where no more than `left` records are left in both
-pub record MergesKnown (known named : Bool) (answer : DataType → DataType → Option DataType) (space : Space) (left : ℕ) (swap : Bool) (s w v : List ℕ) (l r : ℕ) (g : Goal) (o : Out) : Type 0 where
+-- two types, of which something may be known, were merged as a rule says, where no more than `left` records are left in both
+pub record MergesKnown (known : ℕ) (named : Bool) (answer : DataType → DataType → Option DataType) (space : Space) (left : ℕ) (swap : Bool) (s w v : List ℕ) (l r : ℕ) (g : Goal) (o : Out) : Type 0 where
   pub writes : Writes space w v g o
-  pub means : (x y : DataType) → Typed space (side swap s w) l x → Typed space (side (not swap) s w) r y → size x + size y ≤ left → Differ known named x y
+  pub means : (x y : DataType) → Typed space (side swap s w) l x → Typed space (side (not swap) s w) r y → size x + size y ≤ left → Known known named l x y
       → Means space w v g (size x + size y) (letters x + letters y) o (answer x y)
 
 -- a type as a field
@@ -58,25 +45,26 @@ abbrev pub fieldOf : List ℕ → Bool → Option DataType → Option Fields
 fieldOf name nullable none = none
 fieldOf name nullable (some t) = some (before name nullable t end)
 
--- a field was merged with a type that its own may be known to differ from, as a rule says, under its own name and nullability
-pub record MergesField (known named : Bool) (answer : DataType → DataType → Option DataType) (space : Space) (left : ℕ) (swap : Bool) (s w v : List ℕ) (l r : ℕ) (to : Spot) (o : Out) : Type 0 where
+-- a field was merged with the type of another, where something may be known of the chains of both, as a rule says, under its own name and nullability
+pub record MergesField (known : ℕ) (named : Bool) (answer : DataType → DataType → Option DataType) (space : Space) (left : ℕ) (swap : Bool) (s w v : List ℕ) (l r : ℕ) (to : Spot) (o : Out) : Type 0 where
   pub kept : Kept space w v (to .at) (to .label)
   pub grows : Grows space to o
   pub means : (name : List ℕ) (nullable : Bool) (x y : DataType) (rest : Fields) → Chain space (side swap s w) l (field name nullable (x .shape) (x .parts) rest)
-      → Typed space (side (not swap) s w) r y → size x + size y ≤ left → Differ known named x y
+      → (t : Typed space (side (not swap) s w) r y) → size x + size y ≤ left
+      → RowsKnown known named l (field name nullable (x .shape) (x .parts) rest) (field (t .name) (t .nullable) (y .shape) (y .parts) (t .rest))
       → ChainIs space v to (size x + size y) (length name + letters x + letters y) o (fieldOf name nullable (answer x y))
 
--- the rows of two chains were merged, where the types of the first row may be known to differ
-pub record Rowed (known named : Bool) (coerce : DataType → DataType → Option DataType) (space : Space) (left : ℕ) (swap : Bool) (s w v : List ℕ) (feed : Feed) (l r p : ℕ) (to : Spot) (o : Out) : Type 0 where
+-- the rows of two chains, of which something may be known, were merged
+pub record Rowed (known : ℕ) (named : Bool) (coerce : DataType → DataType → Option DataType) (space : Space) (left : ℕ) (swap : Bool) (s w v : List ℕ) (feed : Feed) (l r p : ℕ) (to : Spot) (o : Out) : Type 0 where
   pub kept : Kept space w v (to .at) (to .label)
   pub grows : Grows space to o
   pub means : (lf rf pf tf nf : Fields) → Chain space (side swap s w) l lf → Chain space (side (not swap) s w) r rf → Chain space (side (not swap) s w) p pf
-      → Feeds feed lf rf pf tf nf → count lf + count tf ≤ left → (known ≡ true → sameFirst named lf tf ≡ false)
+      → Feeds feed lf rf pf tf nf → count lf + count tf ≤ left → RowsKnown known named l lf pf
       → ChainIs space v to (count lf + count tf) (length (labels lf) + length (labels tf)) o (joinFields coerce lf tf nf)
 
 -- the record of a type with parts, and the merged rows under it
-pub record Under (known named : Bool) (coerce : DataType → DataType → Option DataType) (space : Space) (left : ℕ) (swap : Bool) (s w v : List ℕ) (feed : Feed) (shape : Shape) (l r p : ℕ) (g : Goal) (o : Out) : Type 0 where
+pub record Under (known : ℕ) (named : Bool) (coerce : DataType → DataType → Option DataType) (space : Space) (left : ℕ) (swap : Bool) (s w v : List ℕ) (feed : Feed) (shape : Shape) (l r p : ℕ) (g : Goal) (o : Out) : Type 0 where
   pub writes : Writes space w v g o
   pub means : (lf rf pf tf nf : Fields) → Chain space (side swap s w) l lf → Chain space (side (not swap) s w) r rf → Chain space (side (not swap) s w) p pf
-      → Feeds feed lf rf pf tf nf → count lf + count tf ≤ left → (known ≡ true → sameFirst named lf tf ≡ false)
+      → Feeds feed lf rf pf tf nf → count lf + count tf ≤ left → RowsKnown known named l lf pf
       → Means space w v g (1 + count lf + count tf) (length (labels lf) + length (labels tf)) o (listOf shape (joinFields coerce lf tf nf))

@@ -1,6 +1,6 @@
 // The merge of two types. Each call hands down how many records may be left in both types, and that number falls.
 ghost use mathlib.Core.Path.{_≡_};
-ghost use mathlib.Core.Bool.{Bool, true, false, not, cond};
+ghost use mathlib.Core.Bool.{true, false, not, cond};
 ghost use Prim.Native.Nat.{_+_, _-_, _≤_, _<_};
 ghost use lib.Dec.{eqb, ltb};
 ghost use Rattle.coercion.specs.Answers.{coercion, listStruct};
@@ -14,7 +14,9 @@ ghost use Rattle.buffers.specs.Plain.{asked, rulesOf, isListQuestion};
 ghost use Rattle.wrappers.specs.Ways.{isWrapper};
 ghost use Rattle.merge.specs.Turns.{resolved, unwrapped, eitherWrapped, nestedOf, bothWrapped, rewrapped, listRule, mapRule};
 ghost use Rattle.buffers.specs.Typed.{Merges};
-ghost use Rattle.merge.specs.Merge.{Tabled, MergesKnown, SameKnown, DifferInPart, StructFed, MergesField, Rowed, Under};
+ghost use Rattle.merge.specs.Merge.{Tabled, MergesKnown, StructFed, MergesField, Rowed, Under};
+use crate::known::first_difference;
+use crate::known::row_known;
 use buffers::Feed;
 use buffers::Goal;
 use buffers::Out;
@@ -34,7 +36,6 @@ use buffers::field::row_end;
 use buffers::lay::copy_type;
 use buffers::lay::lay;
 use buffers::lay::tie;
-use buffers::part::sides_but_part;
 use buffers::plain::is_list_question;
 use buffers::plain::list_kind;
 use buffers::plain::list_size;
@@ -98,7 +99,7 @@ pub fn coerce(
             mask,
             left,
             swap,
-            false,
+            1,
             l,
             r,
             g,
@@ -114,14 +115,14 @@ pub fn coerce(
         mask,
         left,
         swap,
-        false,
+        1,
         l,
         r,
         g,
     )
 }
 
-// The common type of two types that may be known to differ, or none.
+// The common type of two types, of which something may be known, or none.
 fn common(
     sheet: &[u8],
     work: &mut [u8],
@@ -131,7 +132,7 @@ fn common(
     mask: u64,
     left: usize,
     swap: bool,
-    known: bool,
+    known: usize,
     l: usize,
     r: usize,
     g: Goal,
@@ -145,7 +146,8 @@ fn common(
         return Out::No;
     }
     let list = is_list_question(question);
-    if are_same(sheet, &*work, space, swap, known, l, r, list) {
+    let d = first_difference(sheet, &*work, space, swap, known, l, r, list);
+    if d == 0 {
         return copy_type(sheet, work, space, swap, l, g);
     }
     let k = kind_at(sheet, &*work, swap, l);
@@ -163,7 +165,7 @@ fn common(
             mask,
             left - 1,
             swap,
-            true,
+            d,
             l,
             r,
             g,
@@ -179,6 +181,7 @@ fn common(
             mask,
             left - 1,
             swap,
+            d,
             l,
             r,
             g,
@@ -193,50 +196,11 @@ fn common(
         mask,
         left - 1,
         swap,
+        d,
         l,
         r,
         g,
     )
-}
-
-// Whether two types are the same; they are not compared where they are known to differ.
-fn are_same(
-    sheet: &[u8],
-    work: &[u8],
-    space: Space,
-    swap: bool,
-    known: bool,
-    l: usize,
-    r: usize,
-    named: bool,
-) -> bool
-    requires { ⌜ space .n < 65536 ⌝ }
-    ensures { λ e. ⌜ SameKnown known named space (side swap (now (sheet .entry)) (now (work .entry))) l (side (not swap) (now (sheet .entry)) (now (work .entry))) r e ⌝ }
-{
-    if known {
-        return false;
-    }
-    same_sides(sheet, work, space.n, swap, l, r, named)
-}
-
-// Whether two types that are known to differ do so in the type of the one part that each has, and in nothing else.
-fn differ_in_part(
-    sheet: &[u8],
-    work: &[u8],
-    space: Space,
-    question: Question,
-    swap: bool,
-    known: bool,
-    l: usize,
-    r: usize,
-) -> bool
-    requires { ⌜ space .n < 65536 ⌝ }
-    ensures { λ e. ⌜ DifferInPart known (isListQuestion (asked question)) space (side swap (now (sheet .entry)) (now (work .entry))) l (side (not swap) (now (sheet .entry)) (now (work .entry))) r e ⌝ }
-{
-    if known {
-        return sides_but_part(sheet, work, space.n, swap, l, r, is_list_question(question));
-    }
-    false
 }
 
 // The rules of a list, after the test for sameness.
@@ -249,6 +213,7 @@ fn resolve(
     mask: u64,
     left: usize,
     swap: bool,
+    known: usize,
     l: usize,
     r: usize,
     g: Goal,
@@ -256,7 +221,7 @@ fn resolve(
     requires { ⌜ Room (now work) space × Ready space g ⌝ }
     requires { ⌜ isListQuestion (asked question) ≡ true ⌝ }
     requires { ⌜ Tabled space (now sheet) (now work) (now table) ⌝ }
-    ensures { λ o. ⌜ Merges (resolved (rulesOf question mask) (coercion (rulesOf question mask))) space (left + 1) swap (now (sheet .entry)) (now (work .entry)) (now (work .exit)) l r g o ⌝ }
+    ensures { λ o. ⌜ MergesKnown known (isListQuestion (asked question)) (resolved (rulesOf question mask) (coercion (rulesOf question mask))) space (left + 1) swap (now (sheet .entry)) (now (work .entry)) (now (work .exit)) l r g o ⌝ }
     ensures { λ o. ⌜ Tabled space (now (sheet .entry)) (now (work .exit)) (now (table .exit)) ⌝ }
 {
     let k = kind_at(sheet, &*work, swap, l);
@@ -271,6 +236,7 @@ fn resolve(
             mask,
             left,
             swap,
+            known,
             37,
             l,
             r,
@@ -287,6 +253,7 @@ fn resolve(
             mask,
             left,
             swap,
+            known,
             38,
             l,
             r,
@@ -302,7 +269,7 @@ fn resolve(
         mask,
         left,
         swap,
-        false,
+        known,
         l,
         r,
         g,
@@ -319,6 +286,7 @@ fn resolve_wrapper(
     mask: u64,
     left: usize,
     swap: bool,
+    known: usize,
     kind: u8,
     l: usize,
     r: usize,
@@ -327,7 +295,7 @@ fn resolve_wrapper(
     requires { ⌜ Room (now work) space × Ready space g ⌝ }
     requires { ⌜ (isWrapper kind ≡ true) × (isListQuestion (asked question) ≡ true) ⌝ }
     requires { ⌜ Tabled space (now sheet) (now work) (now table) ⌝ }
-    ensures { λ o. ⌜ Merges (eitherWrapped kind (coercion (rulesOf question mask))) space (left + 1) swap (now (sheet .entry)) (now (work .entry)) (now (work .exit)) l r g o ⌝ }
+    ensures { λ o. ⌜ MergesKnown known (isListQuestion (asked question)) (eitherWrapped kind (coercion (rulesOf question mask))) space (left + 1) swap (now (sheet .entry)) (now (work .entry)) (now (work .exit)) l r g o ⌝ }
     ensures { λ o. ⌜ Tabled space (now (sheet .entry)) (now (work .exit)) (now (table .exit)) ⌝ }
 {
     let k = kind_at(sheet, &*work, swap, l);
@@ -343,6 +311,7 @@ fn resolve_wrapper(
                 mask,
                 left,
                 swap,
+                known,
                 l,
                 r,
                 g,
@@ -392,13 +361,14 @@ fn both_parts(
     mask: u64,
     left: usize,
     swap: bool,
+    known: usize,
     l: usize,
     r: usize,
     g: Goal,
 ) -> Out
     requires { ⌜ Room (now work) space × Ready space g ⌝ }
     requires { ⌜ Tabled space (now sheet) (now work) (now table) ⌝ }
-    ensures { λ o. ⌜ Merges (bothWrapped (coercion (rulesOf question mask))) space (left + 1) swap (now (sheet .entry)) (now (work .entry)) (now (work .exit)) l r g o ⌝ }
+    ensures { λ o. ⌜ MergesKnown known (isListQuestion (asked question)) (bothWrapped (coercion (rulesOf question mask))) space (left + 1) swap (now (sheet .entry)) (now (work .entry)) (now (work .exit)) l r g o ⌝ }
     ensures { λ o. ⌜ Tabled space (now (sheet .entry)) (now (work .exit)) (now (table .exit)) ⌝ }
 {
     if space.n <= g.at {
@@ -418,7 +388,7 @@ fn both_parts(
             mask,
             left,
             swap,
-            false,
+            known,
             Feed::Own,
             a,
             b,
@@ -505,7 +475,7 @@ fn coerce_field(
     requires { ⌜ Room (now work) space × Inside space to ⌝ }
     requires { ⌜ isListQuestion (asked question) ≡ true ⌝ }
     requires { ⌜ Tabled space (now sheet) (now work) (now table) ⌝ }
-    ensures { λ o. ⌜ MergesField false (isListQuestion (asked question)) (coercion (rulesOf question mask)) space left swap (now (sheet .entry)) (now (work .entry)) (now (work .exit)) l r to o ⌝ }
+    ensures { λ o. ⌜ MergesField 0 (isListQuestion (asked question)) (coercion (rulesOf question mask)) space left swap (now (sheet .entry)) (now (work .entry)) (now (work .exit)) l r to o ⌝ }
     ensures { λ o. ⌜ Tabled space (now (sheet .entry)) (now (work .exit)) (now (table .exit)) ⌝ }
 {
     let x = look(sheet, &*work, swap, l);
@@ -587,7 +557,7 @@ fn coerce_value(
             mask,
             left,
             swap,
-            false,
+            1,
             l,
             r,
             g,
@@ -605,7 +575,7 @@ fn coerce_value(
         mask,
         left,
         swap,
-        false,
+        1,
         l,
         r,
         g,
@@ -622,6 +592,7 @@ fn unwrap(
     mask: u64,
     left: usize,
     swap: bool,
+    known: usize,
     l: usize,
     r: usize,
     g: Goal,
@@ -629,7 +600,7 @@ fn unwrap(
     requires { ⌜ Room (now work) space × Ready space g ⌝ }
     requires { ⌜ isListQuestion (asked question) ≡ false ⌝ }
     requires { ⌜ Tabled space (now sheet) (now work) (now table) ⌝ }
-    ensures { λ o. ⌜ Merges (unwrapped (rulesOf question mask) (coercion (rulesOf question mask))) space (left + 1) swap (now (sheet .entry)) (now (work .entry)) (now (work .exit)) l r g o ⌝ }
+    ensures { λ o. ⌜ MergesKnown known (isListQuestion (asked question)) (unwrapped (rulesOf question mask) (coercion (rulesOf question mask))) space (left + 1) swap (now (sheet .entry)) (now (work .entry)) (now (work .exit)) l r g o ⌝ }
     ensures { λ o. ⌜ Tabled space (now (sheet .entry)) (now (work .exit)) (now (table .exit)) ⌝ }
 {
     let kind = way(sheet, &*work, swap, mask, left, l, r);
@@ -642,6 +613,7 @@ fn unwrap(
         mask,
         left,
         swap,
+        known,
         kind,
         l,
         r,
@@ -657,7 +629,7 @@ fn unwrap(
             mask,
             left,
             swap,
-            false,
+            known,
             l,
             r,
             g,
@@ -676,6 +648,7 @@ fn wrapper(
     mask: u64,
     left: usize,
     swap: bool,
+    known: usize,
     kind: u8,
     l: usize,
     r: usize,
@@ -684,7 +657,7 @@ fn wrapper(
     requires { ⌜ Room (now work) space × Ready space g ⌝ }
     requires { ⌜ isWrapper kind ≡ true ⌝ }
     requires { ⌜ Tabled space (now sheet) (now work) (now table) ⌝ }
-    ensures { λ o. ⌜ Merges (wrapperCoercion kind (coercion (rulesOf question mask))) space (left + 1) swap (now (sheet .entry)) (now (work .entry)) (now (work .exit)) l r g o ⌝ }
+    ensures { λ o. ⌜ MergesKnown known (isListQuestion (asked question)) (wrapperCoercion kind (coercion (rulesOf question mask))) space (left + 1) swap (now (sheet .entry)) (now (work .entry)) (now (work .exit)) l r g o ⌝ }
     ensures { λ o. ⌜ Tabled space (now (sheet .entry)) (now (work .exit)) (now (table .exit)) ⌝ }
 {
     let k = kind_at(sheet, &*work, swap, l);
@@ -702,7 +675,7 @@ fn wrapper(
                 mask,
                 left,
                 swap,
-                false,
+                row_known(known, a, 0, b, b),
                 a,
                 b,
                 g,
@@ -720,7 +693,7 @@ fn wrapper(
             mask,
             left,
             swap,
-            false,
+            1,
             a,
             r,
             g,
@@ -739,7 +712,7 @@ fn wrapper(
             mask,
             left,
             swap,
-            false,
+            1,
             l,
             b,
             g,
@@ -748,7 +721,7 @@ fn wrapper(
     Out::No
 }
 
-// Two types that are no wrappers, and may be known to differ: lists, structs, maps, and types without parts.
+// Two types that are no wrappers: lists, structs, maps, and types without parts.
 fn nested(
     sheet: &[u8],
     work: &mut [u8],
@@ -758,7 +731,7 @@ fn nested(
     mask: u64,
     left: usize,
     swap: bool,
-    known: bool,
+    known: usize,
     l: usize,
     r: usize,
     g: Goal,
@@ -847,7 +820,7 @@ fn under(
     mask: u64,
     left: usize,
     swap: bool,
-    known: bool,
+    known: usize,
     feed: Feed,
     kind: u8,
     size: usize,
@@ -895,7 +868,7 @@ fn list_rule(
     mask: u64,
     left: usize,
     swap: bool,
-    known: bool,
+    known: usize,
     l: usize,
     r: usize,
     g: Goal,
@@ -911,7 +884,6 @@ fn list_rule(
     let size = list_size(x, y);
     let a = x.first;
     let b = y.first;
-    let apart = differ_in_part(sheet, &*work, space, question, swap, known, l, r);
     under(
         sheet,
         work,
@@ -921,7 +893,7 @@ fn list_rule(
         mask,
         left,
         swap,
-        apart,
+        known,
         Feed::Place,
         kind,
         size,
@@ -967,7 +939,7 @@ fn struct_rule(
     mask: u64,
     left: usize,
     swap: bool,
-    known: bool,
+    known: usize,
     l: usize,
     r: usize,
     g: Goal,
@@ -985,7 +957,6 @@ fn struct_rule(
         both(x.kind == 35, y.kind == 35),
         same_arity(sheet, &*work, space, swap, l, a, b),
     ) {
-        let apart = differ_in_part(sheet, &*work, space, question, swap, known, l, r);
         let feed = struct_feed(sheet, &*work, table, space, swap, l, a, b);
         return under(
             sheet,
@@ -996,7 +967,7 @@ fn struct_rule(
             mask,
             left,
             swap,
-            apart,
+            known,
             feed,
             35,
             0,
@@ -1019,7 +990,7 @@ fn list_struct(
     mask: u64,
     left: usize,
     swap: bool,
-    known: bool,
+    known: usize,
     l: usize,
     r: usize,
     g: Goal,
@@ -1035,7 +1006,6 @@ fn list_struct(
     if !same_arity(sheet, &*work, space, swap, l, a, b) {
         return Out::No;
     }
-    let apart = differ_in_part(sheet, &*work, space, question, swap, known, l, r);
     if in_order(sheet, &*work, space, swap, l, a, b) {
         return under(
             sheet,
@@ -1046,7 +1016,7 @@ fn list_struct(
             mask,
             left,
             swap,
-            apart,
+            known,
             Feed::Place,
             35,
             0,
@@ -1066,7 +1036,7 @@ fn list_struct(
             mask,
             left,
             swap,
-            apart,
+            known,
             Feed::NameThenPlace,
             35,
             0,
@@ -1089,7 +1059,7 @@ fn map_rule(
     mask: u64,
     left: usize,
     swap: bool,
-    known: bool,
+    known: usize,
     l: usize,
     r: usize,
     g: Goal,
@@ -1115,7 +1085,6 @@ fn map_rule(
     if b == 0 {
         return Out::No;
     }
-    let apart = differ_in_part(sheet, &*work, space, question, swap, known, l, r);
     lay(work, space, g, 36, 0, 0, 0, sorted, at + 1);
     entry(
         sheet,
@@ -1126,14 +1095,14 @@ fn map_rule(
         mask,
         left,
         swap,
-        apart,
+        known,
         a,
         b,
         Spot { at: at + 1, label },
     )
 }
 
-// The entries of two maps, which may be known to differ, under the left's name and nullability.
+// The entries of two maps under the left's name and nullability.
 fn entry(
     sheet: &[u8],
     work: &mut [u8],
@@ -1143,7 +1112,7 @@ fn entry(
     mask: u64,
     left: usize,
     swap: bool,
-    known: bool,
+    known: usize,
     l: usize,
     r: usize,
     to: Spot,
@@ -1155,6 +1124,7 @@ fn entry(
 {
     let x = look(sheet, &*work, swap, l);
     let nlen = x.nlen;
+    let own = row_known(known, l, x.next, r, r);
     let nullable = is_nullable(x);
     if name_field(sheet, work, space, swap, x, to) {
         let g = Goal {
@@ -1172,7 +1142,7 @@ fn entry(
             mask,
             left,
             swap,
-            known,
+            own,
             l,
             r,
             g,
@@ -1191,7 +1161,7 @@ fn rows(
     mask: u64,
     left: usize,
     swap: bool,
-    known: bool,
+    known: usize,
     feed: Feed,
     l: usize,
     r: usize,
@@ -1215,7 +1185,8 @@ fn rows(
     let nlen = x.nlen;
     let next = x.next;
     let partner = row.partner;
-    let p = row.next;
+    let behind = row.next;
+    let own = row_known(known, l, next, partner, p);
     if partner == 0 {
         return Out::No;
     }
@@ -1237,7 +1208,7 @@ fn rows(
         mask,
         left,
         swap,
-        known,
+        own,
         l,
         partner,
         g,
@@ -1251,11 +1222,11 @@ fn rows(
             mask,
             left - 1,
             swap,
-            false,
+            known,
             feed,
             next,
             r,
-            p,
+            behind,
             d,
         ) {
             Out::Done(e) => {

@@ -1,2 +1,3 @@
 // The merge of two types in lent buffers.
 pub mod coerce;
+mod known;
