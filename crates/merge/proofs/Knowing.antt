@@ -30,7 +30,7 @@ use Rattle.wrappers.proofs.Values.{chain-first, Two}
 use Rattle.merge.specs.Known.{Known, RowsKnown, rowKnown}
 
 -- one chain stands at a link
-pub chain-one : {space : Space} {s : List ℕ} {link : ℕ} (a b : Fields) → Chain space s link a → Chain space s link b → a ≡ b
+chain-one : {space : Space} {s : List ℕ} {link : ℕ} (a b : Fields) → Chain space s link a → Chain space s link b → a ≡ b
 chain-one end end x y = refl
 chain-one end (field n c s p q) x y = absurd (omega (arith, x .held .source .leads .is, y .held .source .leads .is, y .held .source .leads .above))
 chain-one (field n c s p q) end x y = absurd (omega (arith, y .held .source .leads .is, x .held .source .leads .is, x .held .source .leads .above))
@@ -59,7 +59,7 @@ typed-one {y = y} n c sh p q a b =
 -- where the parts of a record, and the next record, begin
 module _ {space : Space} {s : List ℕ} {link : ℕ} {name : List ℕ} {nullable : Bool} {shape : Shape} {parts rest : Fields}
     (c : Chain space s link (field name nullable shape parts rest)) (h : Head) (e : h ≡ headAt s link) where
-  pub first-at : h .first ≡ linkTo (link + 1) parts
+  first-at : h .first ≡ linkTo (link + 1) parts
   first-at = source-first (c .held .source) h e .leads .is ∙ ap (λ (r : ℕ). linkTo (r + 1) parts) (sym (link-is (c .held .source)))
 
   pub next-at : h .next ≡ linkTo (link + 1 + count parts) rest
@@ -114,7 +114,7 @@ module _ (known : ℕ) (named : Bool) {space : Space} {s : List ℕ} {l : ℕ} (
   there (field n c sh p q) e z = e
 
   -- of the rows behind it
-  pub behind-known : (n : List ℕ) (c : Bool) (sh : Shape) (p q : Fields) → RowsKnown known named l (field name nullable shape parts rest) (field n c sh p q)
+  behind-known : (n : List ℕ) (c : Bool) (sh : Shape) (p q : Fields) → RowsKnown known named l (field name nullable shape parts rest) (field n c sh p q)
       → RowsKnown known named next rest q
   behind-known n c sh p q k pos le =
       let i = there rest en (λ z. omega arith) in
