@@ -1,6 +1,6 @@
 -- Types whose wrappers have their values, and the cores below. Assumes nothing.
 use mathlib.Core.Path.{_≡_, refl, ap, sym, subst, _∙_}
-use mathlib.Core.Bool.{Bool, true, false, Bool·beq}
+use mathlib.Core.Bool.{Bool, true, false, cond, Bool·beq}
 use mathlib.Core.List.{List, [], _∷_}
 use mathlib.Core.Logic.{_⊎_, inl, inr}
 use mathlib.Core.Option.{none, some, Option·some-inj, Option·some-ne-none}
@@ -50,6 +50,10 @@ wrapper-is k h = go (eqb k 37) refl
     go : (b : Bool) → eqb k 37 ≡ b → (k ≡ 37) ⊎ (k ≡ 38)
     go true e = inl (eqb-true k 37 e)
     go false e = inr (eqb-true k 38 (rw e at h))
+
+pub one-of-two : (b : Bool) → isWrapper (cond b Kind.dictionary Kind.runEndEncoded) ≡ true
+one-of-two true = refl
+one-of-two false = refl
 
 -- a bare type has no wrapper, and is its own core
 pub bare-wrappers : (s : Shape) (p : Fields) → isWrapper (s .kind) ≡ false → wrappersOf s p ≡ []

@@ -3,6 +3,7 @@ pub mod Foreign
 pub mod Cores
 pub mod Unwrapping
 pub mod Ways
+pub mod Hints
 pub mod Values
 pub mod Walking
 pub mod Choosing

@@ -24,7 +24,7 @@ module _ (mask : ℕ) where
     meets-both e = rw e
 
     -- of two that differ, Null's comes off
-    meets-off : eqb k n ≡ false → meets mask (k ∷ ks) (n ∷ ns) ≡ meets mask (k ∷ ks) ns
+    pub meets-off : eqb k n ≡ false → meets mask (k ∷ ks) (n ∷ ns) ≡ meets mask (k ∷ ks) ns
     unfolding meets
     meets-off e = rw e
 

@@ -136,7 +136,7 @@ module _ (rules : Rules) (pairs : isListQuestion (rules .question) ≡ false) wh
         go false e = refl
 
   -- the rules that are left, the two for wrappers in either order
-  asks : {k j : ℕ} → Kinds k j → (l r : DataType) → Foreign (l .shape .kind) ⊎ Foreign (r .shape .kind)
+  pub asks : {k j : ℕ} → Kinds k j → (l r : DataType) → Foreign (l .shape .kind) ⊎ Foreign (r .shape .kind)
       → has l r ≡ alike l r || ((given (way k l r) || given (way j l r)) || given (nullCoercion (rules .mask) l r))
   asks dictionaryFirst l r one = ap given (foreign-asks rules pairs l r one) ∙ given-sums (alike l r) l (way 37 l r) (way 38 l r) _
   asks runEndsFirst l r one =

@@ -41,7 +41,7 @@ kinds-cross k n w w′ h = go (wrapper-is k w) (wrapper-is n w′)
     go (inr e) (inr e′) = absurd (eqb-false k n h (e ∙ sym e′))
 
 -- where the cores have a common type, wrappers and Nulls alone tell
-may-judged : (mask : ℕ) (l r : DataType)
+pub may-judged : (mask : ℕ) (l r : DataType)
     → mayMerge mask l r
     ≡ judged mask true (coreKind (l .shape) (l .parts)) (wrappersOf (l .shape) (l .parts)) (coreKind (r .shape) (r .parts)) (wrappersOf (r .shape) (r .parts))
 unfolding mayMerge judged
@@ -138,7 +138,7 @@ module _ (rules : Rules) (pairs : isListQuestion (rules .question) ≡ false) wh
 
   module _ (l r : DataType) (x : Whole (l .shape) (l .parts)) (y : Whole (r .shape) (r .parts)) where
     -- a pair that wrappers and Nulls rule out has no common type
-    refused : mayMerge (rules .mask) l r ≡ false → has rules pairs l r ≡ false
+    pub refused : mayMerge (rules .mask) l r ≡ false → has rules pairs l r ≡ false
     refused h =
         has-told x y
         ∙ judged-refused (rules .mask) (has rules pairs (coreIn x) (coreIn y)) (coreKind (l .shape) (l .parts)) (wrappersOf (l .shape) (l .parts)) (coreKind (r .shape) (r .parts)) (wrappersOf (r .shape) (r .parts))
@@ -180,10 +180,10 @@ crossed l r = go (isOf 37 l) (isOf 38 r) (isOf 38 l) (isOf 37 r)
     go false b d e h = inr (and-fst d e h, and-snd d e h)
 
 -- kinds that are not two at once
-dictionary-only : (t : DataType) → isOf Kind.dictionary t ≡ true → isOf Kind.runEndEncoded t ≡ false
+pub dictionary-only : (t : DataType) → isOf Kind.dictionary t ≡ true → isOf Kind.runEndEncoded t ≡ false
 dictionary-only t h = ap (λ (k : ℕ). eqb k 38) (eqb-true (t .shape .kind) 37 h)
 
-runs-only : (t : DataType) → isOf Kind.runEndEncoded t ≡ true → isOf Kind.dictionary t ≡ false
+pub runs-only : (t : DataType) → isOf Kind.runEndEncoded t ≡ true → isOf Kind.dictionary t ≡ false
 runs-only t h = ap (λ (k : ℕ). eqb k 37) (eqb-true (t .shape .kind) 38 h)
 
 module _ (rules : Rules) (pairs : isListQuestion (rules .question) ≡ false) (l r : DataType) (x : Whole (l .shape) (l .parts)) (y : Whole (r .shape) (r .parts)) where

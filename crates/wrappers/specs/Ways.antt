@@ -1,4 +1,5 @@
 -- Wrappers, the core below them, and which of two rules can give an answer where a Dictionary meets run ends.
+use mathlib.Core.Path.{_≡_}
 use Prim.Native.Nat.{ℕ}
 use mathlib.Core.Bool.{Bool, true, false, cond, _||_}
 use mathlib.Core.List.{List, [], _∷_}
@@ -57,3 +58,26 @@ valueMay (some v) f = f v
 unfoldable pub dictionaryMay : ℕ → DataType → DataType → Bool
 dictionaryMay mask l r =
     cond (isOf Kind.dictionary l) (valueMay (valueIn (l .parts)) (λ v. mayMerge mask v r)) (valueMay (valueIn (r .parts)) (λ w. mayMerge mask l w))
+
+-- What the kinds of two cores leave to be asked of the wrappers about them. 1: nothing, as neither is Null, or both are, or Null may become the other. 2: Null is
+-- on the right, and whether the left's wrappers meet those about it. 3: the same with the sides exchanged.
+abbrev pub hintOf : ℕ → ℕ → ℕ → ℕ
+hintOf mask a b = cond (eqb a Kind.null) (cond (eqb b Kind.null || mayBecome mask b) 1 3) (cond (eqb b Kind.null) (cond (mayBecome mask a) 1 2) 1)
+
+-- what the wrappers answer
+abbrev pub wrappersMay : ℕ → ℕ → DataType → DataType → Bool
+wrappersMay hint mask l r =
+    cond (eqb hint 2) (meets mask (wrappersOf (l .shape) (l .parts)) (wrappersOf (r .shape) (r .parts)))
+    (cond (eqb hint 3) (meets mask (wrappersOf (r .shape) (r .parts)) (wrappersOf (l .shape) (l .parts))) true)
+
+-- what may be known of two types: nothing where the number is 0, else what their cores leave to be asked, and that they can have a common type
+abbrev pub Hint : ℕ → ℕ → DataType → DataType → Type 0
+Hint hint mask l r = ¬ (hint ≡ 0) → (hint ≡ hintOf mask (coreKind (l .shape) (l .parts)) (coreKind (r .shape) (r .parts))) × (mayMerge mask l r ≡ true)
+
+abbrev pub valueElse : DataType → Option DataType → DataType
+valueElse t none = t
+valueElse t (some v) = v
+
+-- a type less its wrapper of a kind, or the type where it is none
+abbrev pub without : ℕ → DataType → DataType
+without k t = cond (isOf k t) (valueElse t (valueIn (t .parts))) t
