@@ -3,7 +3,7 @@ use mathlib.Core.Path.{_≡_, refl, sym, subst, _∙_}
 use mathlib.Core.Bool.{Bool, true, false, cond, not, _&&_}
 use mathlib.Core.List.{List}
 use mathlib.Core.Logic.{_⊎_, inl, inr, ⊎-elim}
-use mathlib.Core.Option.{Option, none, some}
+use mathlib.Core.Option.{Option, some}
 use Prim.Native.Nat.{ℕ, _+_, _-_, _<_, _≤_}
 use native.Mathlib.Omega.{arith}
 use lib.Dec.{ltb}
@@ -22,7 +22,7 @@ use Rattle.buffers.specs.Typed.{Typed, Merges}
 use Rattle.buffers.specs.Plain.{asked, rulesOf, isListQuestion, plainRules}
 use Rattle.merge.specs.Turns.{nestedOf, resolved, unwrapped, eitherWrapped, rewrapped, turnsFor, turnsOf}
 use Rattle.merge.specs.Known.{Known, FirstDifference}
-use Rattle.merge.specs.Merge.{MergesKnown}
+use Rattle.merge.specs.Merge.{MergesKnown, MergesHinted}
 use Rattle.buffers.specs.declared.Space.{Space}
 use Rattle.buffers.specs.declared.Goal.{Goal}
 use Rattle.buffers.specs.declared.Question.{Question}
@@ -30,7 +30,7 @@ use Rattle.buffers.specs.declared.Question.the-variants as Question
 use Rattle.buffers.specs.declared.Out.{Out}
 use Rattle.buffers.specs.declared.Out.the-variants.{No}
 use Rattle.merge.proofs.Orders.{ask-turns, bare-turns, plain-turns}
-use Rattle.merge.proofs.Merging.{chain-some, nothing-known, typed-differs, any-known, none-known, known-as, as-known, merges-left, merges-none}
+use Rattle.merge.proofs.Merging.{chain-some, nothing-known, typed-differs, any-known, none-known, hinted-within, known-as, as-known, merges-left, merges-none}
 use Rattle.merge.proofs.Turning.{resolve-dictionary, resolve-runs, wrap-left}
 use Rattle.buffers.proofs.Sameness.{shapes-unlike}
 use Rattle.buffers.proofs.Differing.{type-same}
@@ -100,11 +100,11 @@ module _ (question : Question) (mask : ℕ) (space : Space) (left : ℕ) (swap :
         known-as both space swap s w v l r g o known left (omega arith)
         (λ x y a b k. (list-turns (asked question) (rulesOf question mask) both x y f ∙ differ x y a b k, apart x y a b k .1)) m
 
-    pub coerce-pair : (v : List ℕ) (o : Out) → names ≡ false → ¬ (left ≡ 0)
-        → MergesKnown d names (unwrapped (rulesOf question mask) both) space (left - 1 + 1) swap s w v l r g o → MergesKnown known names both space left swap s w v l r g o
+    pub coerce-pair : {hint : ℕ} (v : List ℕ) (o : Out) → names ≡ false → ¬ (left ≡ 0)
+        → MergesHinted hint mask d names (unwrapped (rulesOf question mask) both) space (left - 1 + 1) swap s w v l r g o → MergesHinted hint mask known names both space left swap s w v l r g o
     coerce-pair v o f more m =
-        known-as both space swap s w v l r g o known left (omega arith)
-        (λ x y a b k. (pair-turns (asked question) (rulesOf question mask) both x y f ∙ differ x y a b k, apart x y a b k .1)) m
+        hinted-within both space swap s w v l r g o known left (omega arith)
+        (λ x y a b q k n. (pair-turns (asked question) (rulesOf question mask) both x y f ∙ differ x y a b k, apart x y a b k .1)) m
 
     -- the kinds of both, where both are below a number
     module _ {k j : ℕ} (ek : k ≡ headAt (side swap s w) l .kind) (ej : j ≡ headAt (side (not swap) s w) r .kind) (top : ℕ) (h : (ltb k top && ltb j top) ≡ true) where

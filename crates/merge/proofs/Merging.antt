@@ -23,7 +23,7 @@ use Rattle.buffers.specs.Goal.{letters, Means, CopiedType}
 use Rattle.buffers.specs.Typed.{Chain, Typed, Merges}
 use Rattle.buffers.specs.Differ.{typeDiffers, DifferTypes}
 use Rattle.merge.specs.Known.{Known}
-use Rattle.merge.specs.Merge.{Tabled, MergesKnown}
+use Rattle.merge.specs.Merge.{Tabled, MergesKnown, MergesHinted}
 use Rattle.buffers.specs.declared.Space.{Space}
 use Rattle.buffers.specs.declared.Goal.{Goal}
 use Rattle.buffers.specs.declared.Out.{Out}
@@ -35,6 +35,7 @@ use Rattle.buffers.proofs.Laying.{no-record, named-kept}
 use Rattle.buffers.proofs.Fielding.{typed-reads}
 use Rattle.buffers.proofs.Stamping.{means-more}
 use Rattle.buffers.proofs.Partnering.{partners-zeros, partners-kept}
+use Rattle.wrappers.specs.Ways.{Hint}
 use Rattle.wrappers.proofs.Values.{side-twice}
 
 -- what a source holds stays while the second half is written
@@ -103,25 +104,34 @@ pub none-known : {named : Bool} {A : DataType → DataType → Option DataType} 
     → MergesKnown 1 named A space left swap s w v l r g o → Merges A space left swap s w v l r g o
 none-known {named} swap m = record { writes = m .writes; means = λ x y a b q. m .means x y a b q (nothing-known named x y a) }
 
+-- two types of whose wrappers something may be known, and of whose nothing is
+pub any-hint : (hint mask : ℕ) {known : ℕ} {named : Bool} {A : DataType → DataType → Option DataType} {space : Space} {left : ℕ} (swap : Bool) {s w v : List ℕ} {l r : ℕ} {g : Goal} {o : Out}
+    → MergesKnown known named A space left swap s w v l r g o → MergesHinted hint mask known named A space left swap s w v l r g o
+any-hint hint mask swap m = record { writes = m .writes; means = λ x y a b q d n. m .means x y a b q d }
+
+pub none-hint : {mask known : ℕ} {named : Bool} {A : DataType → DataType → Option DataType} {space : Space} {left : ℕ} (swap : Bool) {s w v : List ℕ} {l r : ℕ} {g : Goal} {o : Out}
+    → MergesHinted 0 mask known named A space left swap s w v l r g o → MergesKnown known named A space left swap s w v l r g o
+none-hint swap m = record { writes = m .writes; means = λ x y a b q d. m .means x y a b q d (λ n. absurd (n refl)) }
+
 module _ {A : DataType → DataType → Option DataType} (B : DataType → DataType → Option DataType) (space : Space) (swap : Bool) (s w v : List ℕ) (l r : ℕ) (g : Goal) (o : Out) where
   -- a rule that says the same of the types at hand, of which as much is known, where no more records are left in them
-  pub known-within : {known : ℕ} (known′ : ℕ) {named : Bool} {left : ℕ} (left′ : ℕ) → left′ ≤ left
-      → ((x y : DataType) → Typed space (side swap s w) l x → Typed space (side (not swap) s w) r y → size x + size y ≤ left′ → Known known′ named l x y
+  pub hinted-within : {hint mask known : ℕ} (known′ : ℕ) {named : Bool} {left : ℕ} (left′ : ℕ) → left′ ≤ left
+      → ((x y : DataType) → Typed space (side swap s w) l x → Typed space (side (not swap) s w) r y → size x + size y ≤ left′ → Known known′ named l x y → Hint hint mask x y
       → (A x y ≡ B x y) × Known known named l x y)
-      → MergesKnown known named A space left swap s w v l r g o → MergesKnown known′ named B space left′ swap s w v l r g o
-  known-within known′ left′ h f m =
+      → MergesHinted hint mask known named A space left swap s w v l r g o → MergesHinted hint mask known′ named B space left′ swap s w v l r g o
+  hinted-within known′ left′ h f m =
       record {
         writes = m .writes;
         means =
-            λ x y a b q d.
-            let i = f x y a b q d in
-            means-for space w v g (size x + size y) (letters x + letters y) o (omega arith) (omega arith) (i .0) (m .means x y a b (omega arith) (i .1));
+            λ x y a b q d n.
+            let i = f x y a b q d n in
+            means-for space w v g (size x + size y) (letters x + letters y) o (omega arith) (omega arith) (i .0) (m .means x y a b (omega arith) (i .1) n);
       }
 
   pub known-as : {known : ℕ} (known′ : ℕ) {named : Bool} {left : ℕ} (left′ : ℕ) → left′ ≤ left
       → ((x y : DataType) → Typed space (side swap s w) l x → Typed space (side (not swap) s w) r y → Known known′ named l x y → (A x y ≡ B x y) × Known known named l x y)
       → MergesKnown known named A space left swap s w v l r g o → MergesKnown known′ named B space left′ swap s w v l r g o
-  known-as known′ left′ h f m = known-within known′ left′ h (λ x y a b q d. f x y a b d) m
+  known-as known′ left′ h f m = none-hint {mask = 0} swap (hinted-within known′ left′ h (λ x y a b q d n. f x y a b d) (any-hint 0 0 swap m))
 
   pub as-known : (known : ℕ) {named : Bool} {left : ℕ} (left′ : ℕ) → left′ ≤ left
       → ((x y : DataType) → Typed space (side swap s w) l x → Typed space (side (not swap) s w) r y → Known known named l x y → A x y ≡ B x y)

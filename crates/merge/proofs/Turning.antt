@@ -25,10 +25,10 @@ use Rattle.buffers.specs.Region.{Room, Kept}
 use Rattle.buffers.specs.Goal.{letters, Means, CopiedType, shapeFor}
 use Rattle.buffers.specs.Steps.{Reads, listKind, listSize}
 use Rattle.buffers.specs.Plain.{isListQuestion, plainRules}
-use Rattle.merge.specs.Turns.{structRule, nestedOf, listRule, mapRule, bothWrapped, rewrapped, eitherWrapped, resolved, unwrapped}
+use Rattle.merge.specs.Turns.{structRule, nestedOf, listRule, mapRule, bothWrapped, rewrapped, eitherWrapped, resolved, wrapperRule, unwrapped}
 use Rattle.buffers.specs.Typed.{Typed, Merges}
 use Rattle.merge.specs.Known.{Known, rowKnown}
-use Rattle.merge.specs.Merge.{MergesKnown, Under}
+use Rattle.merge.specs.Merge.{MergesKnown, MergesHinted, Under}
 use Rattle.buffers.specs.declared.Space.{Space}
 use Rattle.buffers.specs.declared.Spot.{Spot}
 use Rattle.buffers.specs.declared.Goal.{Goal}
@@ -37,10 +37,12 @@ use Rattle.buffers.specs.declared.Out.the-variants.{Done, No, Full}
 use Rattle.buffers.specs.declared.Feed.the-variants as Feed
 use Rattle.buffers.proofs.Frames.{kept-trans}
 use Rattle.merge.proofs.Knowing.{parts-known, value-known}
-use Rattle.merge.proofs.Merging.{typed-side, typed-same, any-known, means-for, means-after, known-within, known-as, as-known, merges-swapped, merges-left, merges-right, merges-none}
-use Rattle.wrappers.specs.Ways.{isWrapper}
+use Rattle.merge.proofs.Merging.{typed-side, typed-same, nothing-known, any-known, any-hint, means-for, means-after, hinted-within, known-as, as-known, merges-swapped, merges-left, merges-right, merges-none}
+use Rattle.wrappers.specs.Ways.{isWrapper, Hint, without}
 use Rattle.wrappers.specs.Walks.{Way}
-use Rattle.wrappers.proofs.Choosing.{typed-whole, way-rule}
+use Rattle.wrappers.specs.declared.walk.Turn.{Turn}
+use Rattle.wrappers.proofs.Choosing.{typed-whole, way-rule, way-none}
+use Rattle.wrappers.proofs.Hints.{hint-for, without-value, without-self}
 use Rattle.wrappers.proofs.Values.{side-twice, kind-of, kind-is, chain-first, Two, typed-two, value-of}
 use Rattle.buffers.proofs.Fielding.{typed-reads}
 
@@ -69,21 +71,24 @@ or-none : (space : Space) (w v u : List ℕ) (g : Goal) (z y : ℕ) (o : Out) (a
 or-none space w v u g z y o none b k m = m
 or-none space w v u g z y o (some t) b k m = absurd k
 
-module _ {known : ℕ} {named : Bool} {A : DataType → DataType → Option DataType} (B : DataType → DataType → Option DataType) {space : Space} {left : ℕ} (swap : Bool) {s w v : List ℕ} {l r : ℕ} {g : Goal} where
-  pub either-done : {d : Spot} → MergesKnown known named A space left swap s w v l r g (Done d) → MergesKnown known named (λ x y. orElse (A x y) (B x y)) space left swap s w v l r g (Done d)
+module _ {hint mask known : ℕ} {named : Bool} {A : DataType → DataType → Option DataType} (B : DataType → DataType → Option DataType) {space : Space} {left : ℕ} (swap : Bool)
+    {s w v : List ℕ} {l r : ℕ} {g : Goal} where
+  pub either-done : {d : Spot} → MergesHinted hint mask known named A space left swap s w v l r g (Done d)
+      → MergesHinted hint mask known named (λ x y. orElse (A x y) (B x y)) space left swap s w v l r g (Done d)
   either-done {d} m =
-      record { writes = m .writes; means = λ x y a b q i. or-done space w v g (size x + size y) (letters x + letters y) d (A x y) (B x y) (m .means x y a b q i) }
+      record { writes = m .writes; means = λ x y a b q i n. or-done space w v g (size x + size y) (letters x + letters y) d (A x y) (B x y) (m .means x y a b q i n) }
 
-  pub either-full : MergesKnown known named A space left swap s w v l r g Full → MergesKnown known named (λ x y. orElse (A x y) (B x y)) space left swap s w v l r g Full
-  either-full m = record { writes = m .writes; means = λ x y a b q i. m .means x y a b q i }
+  pub either-full : MergesHinted hint mask known named A space left swap s w v l r g Full
+      → MergesHinted hint mask known named (λ x y. orElse (A x y) (B x y)) space left swap s w v l r g Full
+  either-full m = record { writes = m .writes; means = λ x y a b q i n. m .means x y a b q i n }
 
-  pub either-next : {u : List ℕ} {o : Out} → Room w space → MergesKnown known named A space left swap s w v l r g No → MergesKnown known named B space left swap s v u l r g o
-      → MergesKnown known named (λ x y. orElse (A x y) (B x y)) space left swap s w u l r g o
+  pub either-next : {u : List ℕ} {o : Out} → Room w space → MergesHinted hint mask known named A space left swap s w v l r g No → MergesKnown known named B space left swap s v u l r g o
+      → MergesHinted hint mask known named (λ x y. orElse (A x y) (B x y)) space left swap s w u l r g o
   either-next {u} {o} room m n =
       let k = merges-after swap room (m .writes .kept) n in
       record {
         writes = k .writes;
-        means = λ x y a b q i. or-none space w v u g (size x + size y) (letters x + letters y) o (A x y) (B x y) (m .means x y a b q i) (k .means x y a b q i);
+        means = λ x y a b q i f. or-none space w v u g (size x + size y) (letters x + letters y) o (A x y) (B x y) (m .means x y a b q i f) (k .means x y a b q i);
       }
 
 or-self : (b : Bool) → b ≡ (b || b)
@@ -135,31 +140,47 @@ or-assoc none b c = refl
 or-assoc (some t) b c = refl
 
 -- the rules of union and compare: the one rule for wrappers that can give an answer, and then the others
-module _ (known : ℕ) (named : Bool) (rules : Rules) (pairs : isListQuestion (rules .question) ≡ false) (space : Space) (left : ℕ) (swap : Bool) (s w : List ℕ) (l r : ℕ) (g : Goal)
-    {k : ℕ} (way : Way (rules .mask) (left + 1) swap s w l r k) (v : List ℕ) where
-  asked : (x y : DataType) → Typed space (side swap s w) l x → Typed space (side (not swap) s w) r y → size x + size y ≤ left + 1
-      → orElse (wrapperCoercion k (coercion rules) x y) (nestedOf rules (coercion rules) x y) ≡ unwrapped rules (coercion rules) x y
-  unfolding unwrapped
-  asked x y a b q =
-      ap (λ (i : ℕ). orElse (wrapperCoercion i (coercion rules) x y) (nestedOf rules (coercion rules) x y)) (way .is space x y a b q)
-      ∙ ap (λ (o : Option DataType). orElse o (nestedOf rules (coercion rules) x y)) (sym (way-rule rules pairs x y (typed-whole a) (typed-whole b)))
-      ∙ or-assoc (wrapperCoercion 37 (coercion rules) x y) (wrapperCoercion 38 (coercion rules) x y) (nestedOf rules (coercion rules) x y)
+asked : (rules : Rules) → isListQuestion (rules .question) ≡ false → {space : Space} {s t : List ℕ} {l r : ℕ} (x y : DataType) → Typed space s l x → Typed space t r y
+    → orElse (wrapperRule rules (coercion rules) x y) (nestedOf rules (coercion rules) x y) ≡ unwrapped rules (coercion rules) x y
+unfolding unwrapped
+asked rules pairs x y a b =
+    ap (λ (o : Option DataType). orElse o (nestedOf rules (coercion rules) x y)) (sym (way-rule rules pairs x y (typed-whole a) (typed-whole b)))
+    ∙ or-assoc (wrapperCoercion 37 (coercion rules) x y) (wrapperCoercion 38 (coercion rules) x y) (nestedOf rules (coercion rules) x y)
 
-  as-unwrapped : {u : List ℕ} {o : Out} → MergesKnown known named (λ x y. orElse (wrapperCoercion k (coercion rules) x y) (nestedOf rules (coercion rules) x y)) space (left + 1) swap s w u l r g o
-      → MergesKnown known named (unwrapped rules (coercion rules)) space (left + 1) swap s w u l r g o
-  as-unwrapped {u} {o} = known-within (unwrapped rules (coercion rules)) space swap s w u l r g o known (left + 1) (omega arith) (λ x y a b q d. (asked x y a b q, d))
+module _ {hint mask : ℕ} (known : ℕ) (named : Bool) (rules : Rules) (pairs : isListQuestion (rules .question) ≡ false) (space : Space) (left : ℕ) (swap : Bool) (s w : List ℕ) (l r : ℕ) (g : Goal)
+    (v : List ℕ) where
+  as-unwrapped : {u : List ℕ} {o : Out} → MergesHinted hint mask known named (λ x y. orElse (wrapperRule rules (coercion rules) x y) (nestedOf rules (coercion rules) x y)) space (left + 1) swap s w u l r g o
+      → MergesHinted hint mask known named (unwrapped rules (coercion rules)) space (left + 1) swap s w u l r g o
+  as-unwrapped {u} {o} = hinted-within (unwrapped rules (coercion rules)) space swap s w u l r g o known (left + 1) (omega arith) (λ x y a b q d n. (asked rules pairs x y a b, d))
 
-  pub unwrap-done : (d : Spot) → MergesKnown known named (wrapperCoercion k (coercion rules)) space (left + 1) swap s w v l r g (Done d)
-      → MergesKnown known named (unwrapped rules (coercion rules)) space (left + 1) swap s w v l r g (Done d)
+  pub unwrap-done : (d : Spot) → MergesHinted hint mask known named (wrapperRule rules (coercion rules)) space (left + 1) swap s w v l r g (Done d)
+      → MergesHinted hint mask known named (unwrapped rules (coercion rules)) space (left + 1) swap s w v l r g (Done d)
   unwrap-done d m = as-unwrapped (either-done (nestedOf rules (coercion rules)) swap m)
 
-  pub unwrap-full : MergesKnown known named (wrapperCoercion k (coercion rules)) space (left + 1) swap s w v l r g Full
-      → MergesKnown known named (unwrapped rules (coercion rules)) space (left + 1) swap s w v l r g Full
+  pub unwrap-full : MergesHinted hint mask known named (wrapperRule rules (coercion rules)) space (left + 1) swap s w v l r g Full
+      → MergesHinted hint mask known named (unwrapped rules (coercion rules)) space (left + 1) swap s w v l r g Full
   unwrap-full m = as-unwrapped (either-full (nestedOf rules (coercion rules)) swap m)
 
-  pub unwrap-nested : Room w space → (u : List ℕ) (o : Out) → MergesKnown known named (wrapperCoercion k (coercion rules)) space (left + 1) swap s w v l r g No
-      → MergesKnown known named (nestedOf rules (coercion rules)) space (left + 1) swap s v u l r g o → MergesKnown known named (unwrapped rules (coercion rules)) space (left + 1) swap s w u l r g o
+  pub unwrap-nested : Room w space → (u : List ℕ) (o : Out) → MergesHinted hint mask known named (wrapperRule rules (coercion rules)) space (left + 1) swap s w v l r g No
+      → MergesKnown known named (nestedOf rules (coercion rules)) space (left + 1) swap s v u l r g o
+      → MergesHinted hint mask known named (unwrapped rules (coercion rules)) space (left + 1) swap s w u l r g o
   unwrap-nested room u o m n = as-unwrapped (either-next (nestedOf rules (coercion rules)) swap room m n)
+
+-- the rule for wrappers that is asked
+module _ {hint known : ℕ} {named : Bool} (rules : Rules) (c : DataType → DataType → Option DataType) (space : Space) (left : ℕ) (swap : Bool) (s w : List ℕ) (l r : ℕ) (g : Goal)
+    {t : Turn} (way : Way hint (rules .mask) (left + 1) swap s w l r t) where
+  pub way-merged : (v : List ℕ) (o : Out) → MergesHinted hint (rules .mask) known named (wrapperCoercion (t .kind) c) space (left + 1) swap s w v l r g o
+      → MergesHinted hint (rules .mask) known named (wrapperRule rules c) space (left + 1) swap s w v l r g o
+  way-merged v o =
+      hinted-within (wrapperRule rules c) space swap s w v l r g o known (left + 1) (omega arith)
+      (λ x y a b q d n. (ap (λ (i : ℕ). wrapperCoercion i c x y) (way .is space x y a b q n), d))
+
+  -- none can give an answer
+  pub way-spent : t .kind ≡ 0 → MergesHinted hint (rules .mask) known named (wrapperRule rules c) space (left + 1) swap s w w l r g No
+  way-spent e =
+      hinted-within (wrapperRule rules c) space swap s w w l r g No known (left + 1) (omega arith)
+      (λ x y a b q d n. (sym (way-none (rules .mask) c x y (sym (way .is space x y a b q n) ∙ e)), d))
+      (any-hint hint (rules .mask) swap (any-known known swap (merges-none (λ x y. none) space (left + 1) swap s w l r g (λ x y a b q. refl))))
 
 -- wrappers of a kind, in a list
 module _ (known : ℕ) {named : Bool} (c : DataType → DataType → Option DataType) (space : Space) (left : ℕ) (swap : Bool) (s w : List ℕ) (l r : ℕ) (g : Goal)
@@ -194,6 +215,11 @@ module _ (known : ℕ) {named : Bool} (c : DataType → DataType → Option Data
       (merges-none (eitherWrapped i c) space (left + 1) swap s w l r g
       (λ x y a b m. rw (kind-is ek i a ∙ ne-eqb k i p) (rw (kind-is ej i b ∙ ne-eqb j i q) refl)))
 
+-- what is known of two types is known of those that the rule of a kind goes on with
+abbrev On : Space → ℕ → Bool → List ℕ → List ℕ → ℕ → ℕ → ℕ → ℕ → ℕ → ℕ → Type 0
+On space left swap s w l r i mask hint own =
+    (x y : DataType) → Typed space (side swap s w) l x → Typed space (side (not swap) s w) r y → size x + size y ≤ left + 1 → Hint hint mask x y → Hint own mask (without i x) (without i y)
+
 -- a wrapper of a kind on either side, in union and compare
 module _ (c : DataType → DataType → Option DataType) (space : Space) (left : ℕ) (swap : Bool) (s w : List ℕ) (l r : ℕ) (g : Goal)
     {k j i : ℕ} (ek : k ≡ headAt (side swap s w) l .kind) (ej : j ≡ headAt (side (not swap) s w) r .kind) (is : isWrapper i ≡ true) where
@@ -204,22 +230,23 @@ module _ (c : DataType → DataType → Option DataType) (space : Space) (left :
       (λ x y a b m. rw (kind-is ek i a ∙ ne-eqb k i p) (rw (kind-is ej i b ∙ ne-eqb j i q) refl))
 
   module _ (v : List ℕ) (o : Out) where
-    pub wrapper-both : (known own-known : ℕ) {named : Bool} {m₁ m₂ : ℕ} → m₁ ≡ headAt (side swap s w) (headAt (side swap s w) l .first) .next
+    pub wrapper-both : (mask hint own : ℕ) → On space left swap s w l r i mask hint own → (known own-known : ℕ) {named : Bool} {m₁ m₂ : ℕ} → m₁ ≡ headAt (side swap s w) (headAt (side swap s w) l .first) .next
         → m₂ ≡ headAt (side (not swap) s w) (headAt (side (not swap) s w) r .first) .next → k ≡ i → j ≡ i → own-known ≡ rowKnown known m₁ 0 m₂ m₂
-        → MergesKnown own-known named c space left swap s w v m₁ m₂ g o → MergesKnown known named (wrapperCoercion i c) space (left + 1) swap s w v l r g o
+        → MergesHinted own mask own-known named c space left swap s w v m₁ m₂ g o → MergesHinted hint mask known named (wrapperCoercion i c) space (left + 1) swap s w v l r g o
     unfolding wrapperCoercion
-    wrapper-both known own-known {named} {m₁} ea eb p q eo m =
+    wrapper-both mask hint own on known own-known {named} {m₁} ea eb p q eo m =
         record {
           writes = m .writes;
           means =
-              λ x y a b h d.
+              λ x y a b h d n.
               let vx = value-of is (kind-of ek a ∙ p) ea a in
               let vy = value-of is (kind-of ej b ∙ q) eb b in
               means-for space w v g (size x + size y) (letters x + letters y) o (omega (arith, vx .smaller, vy .smaller)) (omega (arith, vx .shorter, vy .shorter))
               (rw (kind-is ek i a ∙ eq-eqb k i p) (rw (kind-is ej i b ∙ eq-eqb j i q) (rw (vx .is) (rw (vy .is) refl))))
               (m .means (vx .type) (vy .type) (vx .typed) (vy .typed) (omega (arith, vx .smaller, vy .smaller))
               (subst (λ (i : ℕ). Known i named m₁ (vx .type) (vy .type)) (sym eo)
-              (value-known known named x y (typed-two is (kind-of ek a ∙ p) a) (typed-two is (kind-of ej b ∙ q) b) a b ea eb (vx .typed) (vy .typed) d)));
+              (value-known known named x y (typed-two is (kind-of ek a ∙ p) a) (typed-two is (kind-of ej b ∙ q) b) a b ea eb (vx .typed) (vy .typed) d))
+              (hint-for own mask (without-value i x (vx .type) (kind-is ek i a ∙ eq-eqb k i p) (vx .is)) (without-value i y (vy .type) (kind-is ej i b ∙ eq-eqb j i q) (vy .is)) (on x y a b h n)));
         }
 
     module _ (p : k ≡ i) (q : ¬ (j ≡ i)) {a : ℕ} (ea : a ≡ headAt (side swap s w) (headAt (side swap s w) l .first) .next) {e : Bool}
@@ -232,17 +259,18 @@ module _ (c : DataType → DataType → Option DataType) (space : Space) (left :
           let vx = value-of is (kind-of ek a ∙ p) ea a in
           rw (kind-is ek i a ∙ eq-eqb k i p) (rw (kind-is ej i b ∙ ne-eqb j i q) (rw (vx .is) (rw (sym (typed-same true f (vx .typed) b) ∙ h) refl))))
 
-      pub wrapper-left : e ≡ false → Merges c space left swap s w v a r g o → Merges (wrapperCoercion i c) space (left + 1) swap s w v l r g o
+      pub wrapper-left : (mask hint own : ℕ) → On space left swap s w l r i mask hint own → (known : ℕ) {named : Bool} → e ≡ false → MergesHinted own mask 1 named c space left swap s w v a r g o → MergesHinted hint mask known named (wrapperCoercion i c) space (left + 1) swap s w v l r g o
       unfolding wrapperCoercion
-      wrapper-left z m =
+      wrapper-left mask hint own on known {named} z m =
           record {
             writes = m .writes;
             means =
-                λ x y a b h.
+                λ x y a b h d n.
                 let vx = value-of is (kind-of ek a ∙ p) ea a in
                 means-for space w v g (size x + size y) (letters x + letters y) o (omega (arith, vx .smaller)) (omega (arith, vx .shorter))
                 (rw (kind-is ek i a ∙ eq-eqb k i p) (rw (kind-is ej i b ∙ ne-eqb j i q) (rw (vx .is) (rw (sym (typed-same true f (vx .typed) b) ∙ z) refl))))
-                (m .means (vx .type) y (vx .typed) b (omega (arith, vx .smaller)));
+                (m .means (vx .type) y (vx .typed) b (omega (arith, vx .smaller)) (nothing-known named (vx .type) y (vx .typed))
+                (hint-for own mask (without-value i x (vx .type) (kind-is ek i a ∙ eq-eqb k i p) (vx .is)) (without-self i y (kind-is ej i b ∙ ne-eqb j i q)) (on x y a b h n)));
           }
 
     module _ (p : ¬ (k ≡ i)) (q : j ≡ i) {a : ℕ} (ea : a ≡ headAt (side (not swap) s w) (headAt (side (not swap) s w) r .first) .next) {e : Bool}
@@ -258,17 +286,18 @@ module _ (c : DataType → DataType → Option DataType) (space : Space) (left :
           let vy = value-of is (kind-of ej b ∙ q) ea b in
           rw (kind-is ek i a ∙ ne-eqb k i p) (rw (kind-is ej i b ∙ eq-eqb j i q) (rw (vy .is) (rw (sym (same (vy .typed) a) ∙ h) refl))))
 
-      pub wrapper-right : e ≡ false → Merges c space left swap s w v l a g o → Merges (wrapperCoercion i c) space (left + 1) swap s w v l r g o
+      pub wrapper-right : (mask hint own : ℕ) → On space left swap s w l r i mask hint own → (known : ℕ) {named : Bool} → e ≡ false → MergesHinted own mask 1 named c space left swap s w v l a g o → MergesHinted hint mask known named (wrapperCoercion i c) space (left + 1) swap s w v l r g o
       unfolding wrapperCoercion
-      wrapper-right z m =
+      wrapper-right mask hint own on known {named} z m =
           record {
             writes = m .writes;
             means =
-                λ x y a b h.
+                λ x y a b h d n.
                 let vy = value-of is (kind-of ej b ∙ q) ea b in
                 means-for space w v g (size x + size y) (letters x + letters y) o (omega (arith, vy .smaller)) (omega (arith, vy .shorter))
                 (rw (kind-is ek i a ∙ ne-eqb k i p) (rw (kind-is ej i b ∙ eq-eqb j i q) (rw (vy .is) (rw (sym (same (vy .typed) a) ∙ z) refl))))
-                (m .means x (vy .type) a (vy .typed) (omega (arith, vy .smaller)));
+                (m .means x (vy .type) a (vy .typed) (omega (arith, vy .smaller)) (nothing-known named x (vy .type) a)
+                (hint-for own mask (without-self i x (kind-is ek i a ∙ ne-eqb k i p)) (without-value i y (vy .type) (kind-is ej i b ∙ eq-eqb j i q) (vy .is)) (on x y a b h n)));
           }
 
 -- two types that are no wrappers, by the kinds of both

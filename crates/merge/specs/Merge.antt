@@ -14,6 +14,7 @@ use Rattle.buffers.specs.Goal.{letters, Means, Writes}
 use Rattle.buffers.specs.Typed.{Chain, Typed, ChainIs}
 use Rattle.buffers.specs.Feeds.{Feeds}
 use Rattle.buffers.specs.Partners.{Partners, sameOrder}
+use Rattle.wrappers.specs.Ways.{Hint}
 use Rattle.merge.specs.Known.{Known, RowsKnown}
 use Rattle.buffers.specs.declared.Space.{Space}
 use Rattle.buffers.specs.declared.Spot.{Spot}
@@ -38,6 +39,12 @@ StructFed space s t floor l r feed = (a o up : ℕ) (lf rf : Fields) → Held sp
 pub record MergesKnown (known : ℕ) (named : Bool) (answer : DataType → DataType → Option DataType) (space : Space) (left : ℕ) (swap : Bool) (s w v : List ℕ) (l r : ℕ) (g : Goal) (o : Out) : Type 0 where
   pub writes : Writes space w v g o
   pub means : (x y : DataType) → Typed space (side swap s w) l x → Typed space (side (not swap) s w) r y → size x + size y ≤ left → Known known named l x y
+      → Means space w v g (size x + size y) (letters x + letters y) o (answer x y)
+
+-- the same, where something may be known of their wrappers too
+pub record MergesHinted (hint mask known : ℕ) (named : Bool) (answer : DataType → DataType → Option DataType) (space : Space) (left : ℕ) (swap : Bool) (s w v : List ℕ) (l r : ℕ) (g : Goal) (o : Out) : Type 0 where
+  pub writes : Writes space w v g o
+  pub means : (x y : DataType) → Typed space (side swap s w) l x → Typed space (side (not swap) s w) r y → size x + size y ≤ left → Known known named l x y → Hint hint mask x y
       → Means space w v g (size x + size y) (letters x + letters y) o (answer x y)
 
 -- a type as a field

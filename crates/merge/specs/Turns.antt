@@ -11,6 +11,7 @@ use Rattle.coercion.specs.Wrappers.{isOf, wrapperCoercion}
 use Rattle.coercion.specs.Nested.{joinFields, listShape, listOf, listCoercion, structCoercion, mapCoercion, entryType, entryOf, mapShape}
 use Rattle.coercion.specs.Answers.{keepDictionary, bothParts, runEndsOf, wrapped, listStruct}
 use Rattle.buffers.specs.Plain.{plainRules}
+use Rattle.wrappers.specs.Walks.{wayOf}
 
 -- the rule for two Structs
 abbrev pub structRule : Data.Question → (DataType → DataType → Option DataType) → DataType → DataType → Option DataType
@@ -59,6 +60,10 @@ unfoldable pub resolved : Rules → (DataType → DataType → Option DataType) 
 resolved rules coerce l r =
     cond (isOf Kind.dictionary l || isOf Kind.dictionary r) (eitherWrapped Kind.dictionary coerce l r)
     (cond (isOf Kind.runEndEncoded l || isOf Kind.runEndEncoded r) (eitherWrapped Kind.runEndEncoded coerce l r) (nestedOf rules coerce l r))
+
+-- the one of the two rules for wrappers that is asked
+abbrev pub wrapperRule : Rules → (DataType → DataType → Option DataType) → DataType → DataType → Option DataType
+wrapperRule rules coerce l r = wrapperCoercion (wayOf (rules .mask) l r) coerce l r
 
 -- two types of a union or a comparison that are not alike
 unfoldable pub unwrapped : Rules → (DataType → DataType → Option DataType) → DataType → DataType → Option DataType

@@ -4,7 +4,6 @@ ghost use mathlib.Core.Bool.{true, false, not, cond};
 ghost use Prim.Native.Nat.{_+_, _-_, _≤_, _<_};
 ghost use lib.Dec.{eqb, ltb};
 ghost use Rattle.coercion.specs.Answers.{coercion, listStruct};
-ghost use Rattle.coercion.specs.Wrappers.{wrapperCoercion};
 ghost use Rattle.coercion.specs.Nested.{structCoercion};
 ghost use Rattle.sheet.specs.Head.{headAt};
 ghost use Rattle.buffers.specs.Writes.{side};
@@ -12,9 +11,9 @@ ghost use Rattle.buffers.specs.Region.{Room, Inside, Ready};
 ghost use Rattle.buffers.specs.Goal.{shapeFor};
 ghost use Rattle.buffers.specs.Plain.{asked, rulesOf, isListQuestion};
 ghost use Rattle.wrappers.specs.Ways.{isWrapper};
-ghost use Rattle.merge.specs.Turns.{resolved, unwrapped, eitherWrapped, nestedOf, bothWrapped, rewrapped, listRule, mapRule};
+ghost use Rattle.merge.specs.Turns.{resolved, unwrapped, wrapperRule, eitherWrapped, nestedOf, bothWrapped, rewrapped, listRule, mapRule};
 ghost use Rattle.buffers.specs.Typed.{Merges};
-ghost use Rattle.merge.specs.Merge.{Tabled, MergesKnown, StructFed, MergesField, Rowed, Under};
+ghost use Rattle.merge.specs.Merge.{Tabled, MergesKnown, MergesHinted, StructFed, MergesField, Rowed, Under};
 use crate::known::first_difference;
 use crate::known::row_known;
 use buffers::Feed;
@@ -100,6 +99,7 @@ pub fn coerce(
             left,
             swap,
             1,
+            0,
             l,
             r,
             g,
@@ -116,6 +116,7 @@ pub fn coerce(
         left,
         swap,
         1,
+        0,
         l,
         r,
         g,
@@ -133,13 +134,14 @@ fn common(
     left: usize,
     swap: bool,
     known: usize,
+    hint: u8,
     l: usize,
     r: usize,
     g: Goal,
 ) -> Out
     requires { ⌜ Room (now work) space × Ready space g ⌝ }
     requires { ⌜ Tabled space (now sheet) (now work) (now table) ⌝ }
-    ensures { λ o. ⌜ MergesKnown known (isListQuestion (asked question)) (coercion (rulesOf question mask)) space left swap (now (sheet .entry)) (now (work .entry)) (now (work .exit)) l r g o ⌝ }
+    ensures { λ o. ⌜ MergesHinted hint mask known (isListQuestion (asked question)) (coercion (rulesOf question mask)) space left swap (now (sheet .entry)) (now (work .entry)) (now (work .exit)) l r g o ⌝ }
     ensures { λ o. ⌜ Tabled space (now (sheet .entry)) (now (work .exit)) (now (table .exit)) ⌝ }
 {
     if left == 0 {
@@ -197,6 +199,7 @@ fn common(
         left - 1,
         swap,
         d,
+        hint,
         l,
         r,
         g,
@@ -558,6 +561,7 @@ fn coerce_value(
             left,
             swap,
             1,
+            0,
             l,
             r,
             g,
@@ -576,6 +580,7 @@ fn coerce_value(
         left,
         swap,
         1,
+        0,
         l,
         r,
         g,
@@ -593,6 +598,7 @@ fn unwrap(
     left: usize,
     swap: bool,
     known: usize,
+    hint: u8,
     l: usize,
     r: usize,
     g: Goal,
@@ -600,10 +606,9 @@ fn unwrap(
     requires { ⌜ Room (now work) space × Ready space g ⌝ }
     requires { ⌜ isListQuestion (asked question) ≡ false ⌝ }
     requires { ⌜ Tabled space (now sheet) (now work) (now table) ⌝ }
-    ensures { λ o. ⌜ MergesKnown known (isListQuestion (asked question)) (unwrapped (rulesOf question mask) (coercion (rulesOf question mask))) space (left + 1) swap (now (sheet .entry)) (now (work .entry)) (now (work .exit)) l r g o ⌝ }
+    ensures { λ o. ⌜ MergesHinted hint mask known (isListQuestion (asked question)) (unwrapped (rulesOf question mask) (coercion (rulesOf question mask))) space (left + 1) swap (now (sheet .entry)) (now (work .entry)) (now (work .exit)) l r g o ⌝ }
     ensures { λ o. ⌜ Tabled space (now (sheet .entry)) (now (work .exit)) (now (table .exit)) ⌝ }
 {
-    let kind = way(sheet, &*work, swap, mask, left, l, r);
     match wrapper(
         sheet,
         work,
@@ -614,7 +619,7 @@ fn unwrap(
         left,
         swap,
         known,
-        kind,
+        hint,
         l,
         r,
         g,
@@ -638,7 +643,7 @@ fn unwrap(
     }
 }
 
-// A wrapper of a kind on either side, or on both.
+// The rule for wrappers that is asked of two types, where a wrapper of its kind is on either side, or on both.
 fn wrapper(
     sheet: &[u8],
     work: &mut [u8],
@@ -649,17 +654,21 @@ fn wrapper(
     left: usize,
     swap: bool,
     known: usize,
-    kind: u8,
+    hint: u8,
     l: usize,
     r: usize,
     g: Goal,
 ) -> Out
     requires { ⌜ Room (now work) space × Ready space g ⌝ }
-    requires { ⌜ isWrapper kind ≡ true ⌝ }
     requires { ⌜ Tabled space (now sheet) (now work) (now table) ⌝ }
-    ensures { λ o. ⌜ MergesKnown known (isListQuestion (asked question)) (wrapperCoercion kind (coercion (rulesOf question mask))) space (left + 1) swap (now (sheet .entry)) (now (work .entry)) (now (work .exit)) l r g o ⌝ }
+    ensures { λ o. ⌜ MergesHinted hint mask known (isListQuestion (asked question)) (wrapperRule (rulesOf question mask) (coercion (rulesOf question mask))) space (left + 1) swap (now (sheet .entry)) (now (work .entry)) (now (work .exit)) l r g o ⌝ }
     ensures { λ o. ⌜ Tabled space (now (sheet .entry)) (now (work .exit)) (now (table .exit)) ⌝ }
 {
+    let t = way(sheet, &*work, swap, mask, left, hint, l, r);
+    let kind = t.kind;
+    if kind == 0 {
+        return Out::No;
+    }
     let k = kind_at(sheet, &*work, swap, l);
     let j = kind_at(sheet, &*work, !swap, r);
     let a = value_at(sheet, &*work, swap, l);
@@ -676,6 +685,7 @@ fn wrapper(
                 left,
                 swap,
                 row_known(known, a, 0, b, b),
+                t.hint,
                 a,
                 b,
                 g,
@@ -694,6 +704,7 @@ fn wrapper(
             left,
             swap,
             1,
+            t.hint,
             a,
             r,
             g,
@@ -713,6 +724,7 @@ fn wrapper(
             left,
             swap,
             1,
+            t.hint,
             l,
             b,
             g,
@@ -1209,6 +1221,7 @@ fn rows(
         left,
         swap,
         own,
+        0,
         l,
         partner,
         g,
