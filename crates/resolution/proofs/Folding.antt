@@ -16,8 +16,11 @@ use Rattle.sheet.specs.declared.Head.{Head}
 use Rattle.sheet.proofs.Spans.{span-nil}
 use Rattle.sheet.proofs.Tests.{never}
 use Rattle.coercion.specs.Data.{DataType, Rules, size, single, typesOf, andThen}
+use Rattle.coercion.specs.Rules.{isNull}
+use Rattle.coercion.specs.Same.{equal}
 use Rattle.coercion.specs.Answers.{coercion, foldFrom, foldTypes, typeUnionResolution, pairAnswer, answerOf, allEqual, hasCategory, categoriesIn, categoriesFit, notSupported}
 use Rattle.coercion.proofs.AnswersRight.{TypeRight, coercion-right}
+use Rattle.coercion.proofs.Sameness.{equal-same, equal-self}
 use Rattle.coercion.proofs.Shorter.{coercion-smaller, coercion-shorter}
 use Rattle.buffers.specs.Region.{Room, Kept, Inside, Passes, Wrote}
 use Rattle.buffers.specs.Goal.{letters, typeOf, Means}
@@ -33,11 +36,11 @@ use Rattle.buffers.specs.declared.Out.the-variants.{Done, No, Full}
 use Rattle.buffers.proofs.Sources.{source-none, link-inside}
 use Rattle.buffers.proofs.Chained.{labels-sum}
 use Rattle.merge.proofs.Merging.{typed-kind, type-differ, single-letters}
-use Rattle.resolution.specs.Reached.{front, Listed, Fits, AnswerIs, Enclosed, Within, Reached, Candidate, Shifted, Mirrored, Entry, Steps, Folds}
+use Rattle.resolution.specs.Reached.{front, Listed, Fits, AnswerIs, Enclosed, Within, Reached, Candidate, Shifted, Mirrored, Entry, Steps, Folds, foldBehind}
 use Rattle.values.proofs.Valuing.{typed-right}
-use Rattle.values.proofs.Keeping.{plain-field}
+use Rattle.values.proofs.Keeping.{by-test, plain-field, equal-kept}
 use Rattle.resolution.proofs.Shifting.{candidate-typed, mirrored-typed}
-use Rattle.resolution.proofs.Listing.{listed-typed, listed-next}
+use Rattle.resolution.proofs.Listing.{Tells, Onward, listed-typed, listed-next}
 
 -- the goal at the front
 abbrev pub foremost : Goal
@@ -188,12 +191,13 @@ module _ (rules : Rules) (space : Space) (Is : DataType → Type 0) {s w : List 
 
   module _ (past : floor < link) (h : Head) (e : h ≡ headAt s link) where
     -- a type that leaves the candidate as it is
-    folds-past : {v : List ℕ} (o : Out) → ((x c : DataType) → Typed space s link x → Is c → (ts : List DataType) → foldFrom rules c (x ∷ ts) ≡ foldFrom rules c ts)
-        → Folds (foldFrom rules) space Is s w v link (h .next) o → Folds (foldFrom rules) space Is s w v floor link o
+    folds-past : {fold : DataType → List DataType → Option DataType} {v : List ℕ} (o : Out)
+        → ((x c : DataType) → Typed space s link x → Is c → (ts : List DataType) → fold c (x ∷ ts) ≡ fold c ts) → Folds fold space Is s w v link (h .next) o
+        → Folds fold space Is s w v floor link o
     unfolding typesOf
-    folds-past {v} o same m = record { within = m .within; means = go }
+    folds-past {fold} {v} o same m = record { within = m .within; means = go }
       where
-        go : (c : DataType) (types : Fields) → Is c → Listed space s floor link types → Fits space (size c) (letters c) types → AnswerIs space v o (foldFrom rules c (typesOf types))
+        go : (c : DataType) (types : Fields) → Is c → Listed space s floor link types → Fits space (size c) (letters c) types → AnswerIs space v o (fold c (typesOf types))
         go c end k a f = absurd (some-listed past a)
         go c (field name nullable shape parts rest) k a f =
             subst (AnswerIs space v o) (sym (same (typeOf shape parts) c (listed-typed a) k (typesOf rest))) (m .means c rest k (listed-next a h e) (fits-rest name nullable shape parts rest f))
@@ -275,6 +279,10 @@ nothing-reached : {A : List DataType → Option DataType} (space : Space) {s w :
     → ((types : Fields) → Listed space s floor link types → Fits space 0 0 types → none ≡ A (typesOf types)) → Reached A space s w w floor link No
 nothing-reached {A} space {w = w} f = record { within = within-self w; means = λ types a b. subst (AnswerIs space w No) (f types a b) tt }
 
+pub reached-as : {A : List DataType → Option DataType} {space : Space} {s w w₀ v : List ℕ} {floor link : ℕ} {o : Out} → w ≡ w₀ → Reached A space s w v floor link o
+    → Reached A space s w₀ v floor link o
+reached-as {A} {space} {s} {v = v} {floor} {link} {o} e = subst (λ (w : List ℕ). Reached A space s w v floor link o) e
+
 pub reached-empty : {A : List DataType → Option DataType} (space : Space) {s w : List ℕ} {floor link : ℕ} → none ≡ A [] → link ≤ floor → Reached A space s w w floor link No
 unfolding typesOf
 reached-empty {A} space e h = nothing-reached space (λ types a f. e ∙ ap (λ (t : Fields). A (typesOf t)) (sym (source-none h (a .held .source))))
@@ -293,18 +301,59 @@ module _ (rules : Rules) (space : Space) {s w : List ℕ} {floor link : ℕ} whe
         go (field name nullable shape parts rest) a f =
             rw (eq-eqb (shape .kind) 1 (sym (typed-kind h e (listed-typed a)) ∙ n)) (m .means rest (listed-next a h e) (fits-rest name nullable shape parts rest f))
 
-    -- the first type that is not Null is the candidate
-    pub types-on : {v : List ℕ} (o : Out) → (h .kind ≡ 1 → ⊥) → Folds (foldFrom rules) space (Entry space s link) s w v link (h .next) o
-        → Reached (foldTypes rules) space s w v floor link o
-    unfolding foldTypes typesOf
-    types-on {v} o n g = record { within = g .within; means = go }
+    -- the first type is folded with those behind it
+    pub types-behind : {v : List ℕ} (o : Out) → Folds (foldBehind rules) space (Entry space s link) s w v link (h .next) o → Reached (foldTypes rules) space s w v floor link o
+    unfolding foldBehind typesOf
+    types-behind {v} o g = record { within = g .within; means = go }
       where
         go : (types : Fields) → Listed space s floor link types → Fits space 0 0 types → AnswerIs space v o (foldTypes rules (typesOf types))
         go end a f = absurd (some-listed past a)
         go (field name nullable shape parts rest) a f =
-            rw (ne-eqb (shape .kind) 1 (λ q. n (typed-kind h e (listed-typed a) ∙ q)))
-            (g .means (typeOf shape parts) rest (record { floor = floor; name = name; nullable = nullable; rest = rest; listed = a }) (listed-next a h e)
-            (record { few = omega (arith, fits-few name nullable shape parts rest f); short = omega (arith, fits-short name nullable shape parts rest f) }))
+            g .means (typeOf shape parts) rest (record { floor = floor; name = name; nullable = nullable; rest = rest; listed = a }) (listed-next a h e)
+            (record { few = omega (arith, fits-few name nullable shape parts rest f); short = omega (arith, fits-short name nullable shape parts rest f) })
+
+-- a first type and those behind it: a Null gives way to them, and another is the candidate
+module _ (rules : Rules) {space : Space} {s w v : List ℕ} {first floor link : ℕ} (h : Head) (e : h ≡ headAt s first) (o : Out) where
+  pub behind-null : h .kind ≡ 1 → Reached (foldTypes rules) space s w v floor link o → Folds (foldBehind rules) space (Entry space s first) s w v floor link o
+  unfolding foldBehind foldTypes
+  behind-null n m =
+      record {
+        within = m .within;
+        means =
+            λ c types k a f.
+            rw (eq-eqb (c .shape .kind) 1 (sym (typed-kind h e (entry-typed c k)) ∙ n))
+            (m .means types a (record { few = omega (arith, f .few); short = omega (arith, f .short) }));
+      }
+
+  pub behind-on : (h .kind ≡ 1 → ⊥) → Folds (foldFrom rules) space (Entry space s first) s w v floor link o → Folds (foldBehind rules) space (Entry space s first) s w v floor link o
+  unfolding foldBehind foldTypes
+  behind-on n m =
+      record {
+        within = m .within;
+        means = λ c types k a f. rw (ne-eqb (c .shape .kind) 1 (λ q. n (typed-kind h e (entry-typed c k) ∙ q))) (m .means c types k a f);
+      }
+
+-- a type that is the same as the first changes nothing
+behind-again : (mask : ℕ) (t : DataType) (ts : List DataType) → foldBehind (rulesOf Question.List mask) t (t ∷ ts) ≡ foldBehind (rulesOf Question.List mask) t ts
+unfolding foldBehind foldTypes foldFrom
+behind-again mask t ts = by-test (isNull t) (λ n. rw n refl) (λ n. rw (n, equal-kept mask t t (equal-self t)) refl)
+
+pub folds-same : (mask : ℕ) {space : Space} {s w v : List ℕ} {first floor link : ℕ} → floor < link → (h : Head) → h ≡ headAt s link → {b : Bool}
+    → ((u t : DataType) → Typed space s link u → Typed space s first t → b ≡ equal u t) → b ≡ true → (o : Out)
+    → Folds (foldBehind (rulesOf Question.List mask)) space (Entry space s first) s w v link (h .next) o
+    → Folds (foldBehind (rulesOf Question.List mask)) space (Entry space s first) s w v floor link o
+folds-same mask {space} {s} {first = first} past h e same z o m =
+    folds-past (rulesOf Question.List mask) space (Entry space s first) past h e o
+    (λ x c a k ts.
+    ap (λ (u : DataType). foldBehind (rulesOf Question.List mask) c (u ∷ ts)) (equal-same x c (sym (same x c a (entry-typed c k)) ∙ z)) ∙ behind-again mask c ts)
+    m
+
+-- the types up to one are the same as the first: those that are left tell whether all are, and what the fold is
+abbrev pub SameUpTo : ℕ → Space → List ℕ → List ℕ → ℕ → ℕ → ℕ → ℕ → Type 0
+SameUpTo mask space s w first next last at =
+    ((t : DataType) → Typed space s first t → Onward (allEqual t) (allEqual t) space s first next last at)
+    × ((v : List ℕ) (o : Out) → Folds (foldBehind (rulesOf Question.List mask)) space (Entry space s first) s w v last at o
+    → Folds (foldBehind (rulesOf Question.List mask)) space (Entry space s first) s w v first next o)
 
 -- a listed type with no type behind it is the answer
 pub folds-alone : (rules : Rules) (space : Space) {s w v : List ℕ} {first floor link : ℕ} (o : Out) → Room w space → link ≤ floor → CopiedField space s w v first front o
@@ -383,29 +432,41 @@ by-tests rules t ts same fit p q =
     tests true b = refl
     tests false b = refl
 
-module _ (rules : Rules) (space : Space) {s : List ℕ} {link : ℕ} (past : 0 < link) (h : Head) (e : h ≡ headAt s link) (same : Bool)
-    (compared : (t : DataType) (ts : Fields) → Typed space s link t → Listed space s link (h .next) ts → same ≡ allEqual t (typesOf ts)) where
+module _ (rules : Rules) (space : Space) {s : List ℕ} {link : ℕ} (past : 0 < link) (h : Head) (e : h ≡ headAt s link) where
+  -- no types are listed
+  pub union-lost : {w : List ℕ} → ((b : Bool) (t : DataType) → Typed space s link t → Tells (allEqual t) space s link (h .next) b) → Reached (typeUnionResolution rules) space s w w 0 link No
+  union-lost told = nothing-reached space go
+    where
+      go : (types : Fields) → Listed space s 0 link types → Fits space 0 0 types → none ≡ typeUnionResolution rules (typesOf types)
+      go end a f = absurd (some-listed past a)
+      go (field name nullable shape parts rest) a f =
+          let t = typeOf shape parts in
+          let x = listed-typed a in
+          never (told false t x rest (listed-next a h e) ∙ sym (told true t x rest (listed-next a h e)))
+
   -- all types are the same
-  pub union-same : {w v : List ℕ} (o : Out) → same ≡ true → Room w space → CopiedField space s w v link front o → Reached (typeUnionResolution rules) space s w v 0 link o
+  pub union-same : ((t : DataType) → Typed space s link t → Tells (allEqual t) space s link (h .next) true) → {w v : List ℕ} (o : Out) → Room w space → CopiedField space s w v link front o
+      → Reached (typeUnionResolution rules) space s w v 0 link o
   unfolding typesOf
-  union-same {v = v} o q room m = record { within = within-kept room (m .kept); means = go }
+  union-same same {v = v} o room m = record { within = within-kept room (m .kept); means = go }
     where
       go : (types : Fields) → Listed space s 0 link types → Fits space 0 0 types → AnswerIs space v o (typeUnionResolution rules (typesOf types))
       go end a f = absurd (some-listed past a)
       go (field name nullable shape parts rest) a f =
           let t = typeOf shape parts in
-          subst (AnswerIs space v o) (sym (by-tests rules t (typesOf rest) true (categoriesFit (t ∷ typesOf rest)) (sym q ∙ compared t rest (listed-typed a) (listed-next a h e)) refl))
+          subst (AnswerIs space v o) (sym (by-tests rules t (typesOf rest) true (categoriesFit (t ∷ typesOf rest)) (same t (listed-typed a) rest (listed-next a h e)) refl))
           (copied o name nullable shape parts rest m a (omega (arith, fits-few name nullable shape parts rest f)) (omega (arith, fits-short name nullable shape parts rest f)))
 
-  module _ (differ : same ≡ false) (fit : Bool) (fits : (ts : Fields) → Listed space s 0 link ts → fit ≡ categoriesFit (typesOf ts)) where
+  module _ (differ : (t : DataType) → Typed space s link t → Tells (allEqual t) space s link (h .next) false) (fit : Bool) (fits : Tells categoriesFit space s 0 link fit) where
     told : (types : Fields) → Listed space s 0 link types → typeUnionResolution rules (typesOf types) ≡ cond fit (foldTypes rules (typesOf types)) none
     unfolding typesOf
     told end a = absurd (some-listed past a)
     told (field name nullable shape parts rest) a =
-        let t = typeOf shape parts in by-tests rules t (typesOf rest) false fit (sym differ ∙ compared t rest (listed-typed a) (listed-next a h e)) (fits _ a)
+        let t = typeOf shape parts in by-tests rules t (typesOf rest) false fit (differ t (listed-typed a) rest (listed-next a h e)) (fits _ a)
 
-    pub union-fold : {w v : List ℕ} (o : Out) → fit ≡ true → Reached (foldTypes rules) space s w v 0 link o → Reached (typeUnionResolution rules) space s w v 0 link o
-    union-fold {v = v} o q m =
+    pub union-fold : {w v : List ℕ} (o : Out) → fit ≡ true → Folds (foldBehind rules) space (Entry space s link) s w v link (h .next) o → Reached (typeUnionResolution rules) space s w v 0 link o
+    union-fold {v = v} o q g =
+        let m = types-behind rules space past h e o g in
         record {
           within = m .within;
           means =

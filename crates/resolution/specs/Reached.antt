@@ -10,7 +10,7 @@ use Rattle.sheet.specs.Types.{Fields, field, count, labels}
 use Rattle.sheet.specs.Names.{namesDiffer}
 use Rattle.sheet.specs.Carried.{FieldsRight}
 use Rattle.coercion.specs.Data.{DataType, Rules, size, single, typesOf}
-use Rattle.coercion.specs.Answers.{categoryOf, hasCategory, notSupported}
+use Rattle.coercion.specs.Answers.{foldTypes, categoryOf, hasCategory, notSupported}
 use Rattle.coercion.specs.Meaning.{categoryBit}
 use Rattle.buffers.specs.Region.{Held, Inside, Wrote}
 use Rattle.buffers.specs.Typed.{Typed}
@@ -120,6 +120,10 @@ pub record Steps (coerce : DataType → DataType → Option DataType) (space : S
 pub record Folds (fold : DataType → List DataType → Option DataType) (space : Space) (Is : DataType → Type 0) (s w v : List ℕ) (floor link : ℕ) (o : Out) : Type 0 where
   pub within : Within space w v
   pub means : (c : DataType) (types : Fields) → Is c → Listed space s floor link types → Fits space (size c) (letters c) types → AnswerIs space v o (fold c (typesOf types))
+
+-- a type and those behind it, folded
+unfoldable pub foldBehind : Rules → DataType → List DataType → Option DataType
+foldBehind rules t ts = foldTypes rules (t ∷ ts)
 
 -- a value was written as a candidate, whatever type it is
 pub record Fronted (space : Space) (w v : List ℕ) (x : Leaf) (d : Spot) : Type 0 where

@@ -1,18 +1,15 @@
 // The fold of a list, and the one pair of a union or a comparison.
-ghost use mathlib.Core.Path.{_≡_};
-ghost use Prim.Native.Nat.{ℕ, _+_, _<_, _≤_};
-ghost use Rattle.sheet.specs.Types.{Fields};
-ghost use Rattle.coercion.specs.Data.{DataType};
+ghost use Prim.Native.Nat.{_<_};
 ghost use Rattle.coercion.specs.Answers.{coercion, foldFrom, foldTypes, typeUnionResolution, pairAnswer};
 ghost use Rattle.buffers.specs.Region.{Room, region, Inside};
 ghost use Rattle.buffers.specs.Plain.{rulesOf};
 ghost use Rattle.buffers.specs.Typed.{Typed};
-ghost use Rattle.resolution.specs.Reached.{Reached, Candidate, Entry, Steps, Folds};
+ghost use Rattle.resolution.specs.Reached.{Reached, Candidate, Entry, Steps, Folds, foldBehind};
 ghost use Rattle.values.specs.Value.{Valued};
 ghost use Rattle.values.specs.Keeps.{CoreAt};
 use crate::front::lay_front;
 use crate::front::lay_joint;
-use crate::list::all_equal;
+use crate::list::is_equal;
 use crate::list::is_fitting;
 use crate::shift::mirror;
 use crate::shift::shift;
@@ -251,6 +248,26 @@ fn fold_plain(
     fold_written(sheet, work, space, mask, candidate, last, at)
 }
 
+// The type of record `first`, which is not Null, folded with the types at a link past floor.
+fn fold_entry(
+    sheet: &[u8],
+    work: &mut [u8],
+    space: Space,
+    mask: u64,
+    first: usize,
+    floor: usize,
+    link: usize,
+) -> Out
+    requires { ⌜ Room (now work) space × (1 < space .n) ⌝ }
+    ensures { λ o. ⌜ Folds (foldFrom (rulesOf Question.List mask)) space (Entry space (now (sheet .entry)) first) (now (sheet .entry)) (now (work .entry)) (now (work .exit)) floor link o ⌝ }
+{
+    let h = head_at(sheet, first);
+    if is_plain(h) {
+        return fold_plain(sheet, work, space, mask, leaf_of(h), floor, link);
+    }
+    fold_first(sheet, work, space, mask, first, floor, link)
+}
+
 // The first type at a link past floor that is not Null, folded with those behind it.
 fn fold_types(
     sheet: &[u8],
@@ -272,10 +289,7 @@ fn fold_types(
         let h = head_at(sheet, at);
         let next = h.next;
         if h.kind != 1 {
-            if is_plain(h) {
-                return fold_plain(sheet, work, space, mask, leaf_of(h), at, next);
-            }
-            return fold_first(sheet, work, space, mask, at, at, next);
+            return fold_entry(sheet, work, space, mask, at, at, next);
         }
         last = at;
         at = next;
@@ -283,7 +297,26 @@ fn fold_types(
     Out::No
 }
 
-// `type_union_resolution`, of the types at a link.
+// The type of record `first`, folded with the types at a link past floor. A first Null gives way to the next type.
+fn fold_behind(
+    sheet: &[u8],
+    work: &mut [u8],
+    space: Space,
+    mask: u64,
+    first: usize,
+    floor: usize,
+    link: usize,
+) -> Out
+    requires { ⌜ Room (now work) space × (1 < space .n) ⌝ }
+    ensures { λ o. ⌜ Folds (foldBehind (rulesOf Question.List mask)) space (Entry space (now (sheet .entry)) first) (now (sheet .entry)) (now (work .entry)) (now (work .exit)) floor link o ⌝ }
+{
+    if head_at(sheet, first).kind == 1 {
+        return fold_types(sheet, work, space, mask, floor, link);
+    }
+    fold_entry(sheet, work, space, mask, first, floor, link)
+}
+
+// `type_union_resolution`, of the types at a link. Types that are the same as the first leave it as it is: the fold begins at the first that is another.
 pub(crate) fn type_union_resolution(
     sheet: &[u8],
     work: &mut [u8],
@@ -300,14 +333,22 @@ pub(crate) fn type_union_resolution(
     if space.n <= 1 {
         return Out::No;
     }
-    let next = head_at(sheet, link).next;
-    if all_equal(sheet, space, link, link, next) {
-        return copy_field(sheet, work, space, false, link, Spot { at: 1, label: 0 });
+    let mut last = link;
+    let mut at = head_at(sheet, link).next;
+    while last < at {
+        if space.n <= at {
+            return Out::No;
+        }
+        if !is_equal(sheet, space, at, link) {
+            if is_fitting(sheet, space, link) {
+                return fold_behind(sheet, work, space, mask, link, last, at);
+            }
+            return Out::No;
+        }
+        last = at;
+        at = head_at(sheet, at).next;
     }
-    if is_fitting(sheet, space, link) {
-        return fold_types(sheet, work, space, mask, 0, link);
-    }
-    Out::No
+    copy_field(sheet, work, space, false, link, Spot { at: 1, label: 0 })
 }
 
 // The common type of the two types at a link, where there are two.

@@ -1,4 +1,4 @@
-// What a list is asked before it is folded: whether its types are all the same, and of which categories they are.
+// What a list is asked before it is folded: whether its types are the same, and of which categories they are.
 ghost use mathlib.Core.Path.{_≡_};
 ghost use mathlib.Core.Bool.{Bool};
 ghost use mathlib.Core.List.{List};
@@ -7,7 +7,7 @@ ghost use Rattle.sheet.specs.Types.{Shape, Fields, field};
 ghost use Rattle.sheet.specs.Holds.{Leads};
 ghost use Rattle.coercion.specs.Data.{DataType, typesOf};
 ghost use Rattle.coercion.specs.Same.{equal};
-ghost use Rattle.coercion.specs.Answers.{allEqual, ownCategory, categoryOf, categoriesFit};
+ghost use Rattle.coercion.specs.Answers.{ownCategory, categoryOf, categoriesFit};
 ghost use Rattle.buffers.specs.Typed.{Typed};
 ghost use Rattle.resolution.specs.Reached.{Listed, seenBits};
 use buffers::Space;
@@ -23,7 +23,7 @@ use values::value::is_same;
 use values::value::leaf_of;
 
 // Whether the type at a link is that of record `first`. Types without parts are compared by their heads.
-fn is_equal(sheet: &[u8], space: Space, link: usize, first: usize) -> bool
+pub(crate) fn is_equal(sheet: &[u8], space: Space, link: usize, first: usize) -> bool
     requires { ⌜ space .n ≤ 1024 ⌝ }
     ensures { λ b. ⌜ ((u t : DataType) → Typed space (now (sheet .entry)) link u → Typed space (now (sheet .entry)) first t → b ≡ equal u t) ⌝ }
 {
@@ -40,27 +40,6 @@ fn is_equal(sheet: &[u8], space: Space, link: usize, first: usize) -> bool
         }
     }
     same_type(sheet, space.n, link, sheet, space.n, first, true)
-}
-
-// Whether the types at a link, past floor, are all the same as that of record `first`.
-pub(crate) fn all_equal(sheet: &[u8], space: Space, first: usize, floor: usize, link: usize) -> bool
-    requires { ⌜ space .n ≤ 1024 ⌝ }
-    ensures { λ b. ⌜ ((t : DataType) (ts : Fields) → Typed space (now (sheet .entry)) first t → Listed space (now (sheet .entry)) floor link ts → b ≡ allEqual t (typesOf ts)) ⌝ }
-{
-    let mut last = floor;
-    let mut at = link;
-    while last < at {
-        if space.n <= at {
-            return false;
-        }
-        let next = head_at(sheet, at).next;
-        if !is_equal(sheet, space, at, first) {
-            return false;
-        }
-        last = at;
-        at = next;
-    }
-    true
 }
 
 // The kind below all wrappers of record r, which is its own where it is no wrapper.

@@ -25,7 +25,7 @@ use Rattle.coercion.specs.Times.{timeunitCoercion, zoneCoercion, temporalCoerci
 use Rattle.coercion.specs.Wrappers.{valueIn}
 use Rattle.coercion.specs.Answers.{coercion, ask, wrapped, keepDictionary, runEndsOf}
 use Rattle.coercion.proofs.Fuel.{coercion-asks}
-use Rattle.coercion.proofs.Sameness.{equal-same, equal-self}
+use Rattle.coercion.proofs.Sameness.{equal-same}
 use Rattle.buffers.specs.Goal.{typeOf}
 use Rattle.buffers.specs.Region.{Held}
 use Rattle.buffers.specs.Plain.{rulesOf, plainRules}
@@ -177,14 +177,13 @@ module _ (mask : ℕ) where
   abbrev rules : Rules
   rules = rulesOf Question.List mask
 
-  same-is : (l r : DataType) → l ≡ r → coercion rules l r ≡ some l
-  same-is l r e = coercion-asks rules l r ∙ rw (ap (λ (t : DataType). equal l t) (sym e) ∙ equal-self l) refl
-
   -- a type that is the candidate itself
+  pub equal-kept : (t c : DataType) → equal t c ≡ true → coercion rules t c ≡ some c
+  equal-kept t c e = coercion-asks rules t c ∙ rw e (ap (λ (y : DataType). some y) (equal-same t c e))
+
   pub keeps-same : {space : Space} {s u : List ℕ} {link : ℕ} {e : Bool} → SameTypes s (space .n) link u (space .n) 1 true e → e ≡ true → (t c : DataType) → Typed space s link t
       → Typed space u 1 c → coercion rules t c ≡ some c
-  keeps-same f z t c a d =
-      let q = equal-same t c (sym (typed-same true f a d) ∙ z) in same-is t c q ∙ ap (λ (y : DataType). some y) q
+  keeps-same f z t c a d = equal-kept t c (sym (typed-same true f a d) ∙ z)
 
   -- two types without parts whose common type is a third
   pub common-is : {x y z c : Leaf} {b : Bool} {o : Joint} → o ≡ Joint.Of c → Joins (coercion rules) x y o → ((named : Bool) → b ≡ sameType named (leafType c) (leafType z)) → b ≡ true

@@ -1,6 +1,6 @@
 use native.Mathlib.Omega.{arith}
 use borrow.Author.Needs.{needs}
-use mathlib.Core.Path.{_≡_, refl, sym, _∙_}
+use mathlib.Core.Path.{_≡_, refl, _∙_}
 use mathlib.Core.List.{List}
 use Prim.Native.Nat.{ℕ, _-_, _<_}
 use lib.ListN.{length}
@@ -10,17 +10,12 @@ use Rattle.buffers.specs.Plain.{rulesOf}
 use Rattle.buffers.specs.declared.Out.{Out}
 use Rattle.buffers.specs.declared.Question.the-variants as Question
 use Rattle.resolution.specs.Reached.{Reached}
-use Rattle.resolution.proofs.Folding.{entry-typed, reached-empty, reached-lost, types-null, types-on}
-use Rattle.values.proofs.Valuing.{plain-valued}
-use Rattle.resolution.proofs.Leaves.{folds-as}
+use Rattle.resolution.proofs.Folding.{reached-empty, reached-lost, types-null, types-behind, behind-on}
 use Rattle.resolution.proofs.fold.fold_types.Statement.{statement}
 use Rattle.resolution.proofs.fold.fold_types.Tie as tie
 use Rattle.resolution.proofs.fold.fold_types.Reads as reads
 use Rattle.resolution.proofs.fold.fold_types.Lts as lts
-use Rattle.resolution.proofs.fold.fold_first.Reads as fold-first-reads
-use Rattle.resolution.proofs.fold.fold_plain.Reads as fold-plain-reads
-use Rattle.values.proofs.value.is_plain.Reads as is-plain-reads
-use Rattle.values.proofs.value.leaf_of.Reads as leaf-of-reads
+use Rattle.resolution.proofs.fold.fold_entry.Reads as fold-entry-reads
 use Rattle.sheet.proofs.record.head_at.Reads as head-at-reads
 
 abbrev Inv-loop : tie.InvT-loop
@@ -31,86 +26,60 @@ abbrev μ-loop : tie.MeasureT-loop
 μ-loop sheet work₀ space mask floor link last₀ at₀ work last at =
     space .n - last
 
--- src/fold.rt:236:5
+-- src/fold.rt:288:5
 loop-holds : tie.Need-loop-holds Inv-loop μ-loop
 loop-holds c =
     ((c .before .before .pre), (refl, λ v o g. g))
 
--- src/fold.rt:238:13
+-- src/fold.rt:290:13
 same-length : tie.Need-same-length Inv-loop μ-loop
 same-length c =
     (c .before .before .before .loop .inv .1 .0)
 
--- src/fold.rt:238:13
+-- src/fold.rt:290:13
 returns : tie.Need-returns Inv-loop μ-loop
 returns c =
     (c .before .before .before .loop .inv .1 .1) _ _ (reached-lost _ (c .before .before .loop-test .taken) (c .if1 .taken))
 
--- src/fold.rt:240:13
+-- src/fold.rt:292:13
 head-at-requires : tie.Need-head-at-requires Inv-loop μ-loop
 head-at-requires c κs =
     search needs
 
--- src/fold.rt:243:16
-is-plain-requires : tie.Need-is-plain-requires Inv-loop μ-loop
-is-plain-requires c κs =
-    search needs
+-- src/fold.rt:295:13
+fold-entry-requires : tie.Need-fold-entry-requires Inv-loop μ-loop
+fold-entry-requires c κs =
+    (c .before .before .before .before .before .before .before .loop .inv .0)
 
--- src/fold.rt:244:61
-leaf-of-requires : tie.Need-leaf-of-requires Inv-loop μ-loop
-leaf-of-requires c κs =
-    (c .before .before .before .before .before .head-at .ensures .1)
-
--- src/fold.rt:244:17
-fold-plain-requires : tie.Need-fold-plain-requires Inv-loop μ-loop
-fold-plain-requires c κs =
-    ((c .before .before .before .before .before .before .before .before .before .before .loop .inv .0 .0), ((c .before .before .before .before .before .before .before .before .before .before .loop .inv .0 .1), (c .leaf-of .ensures .1)))
-
--- src/fold.rt:244:17
+-- src/fold.rt:295:13
 same-length-2 : tie.Need-same-length-2 Inv-loop μ-loop
 same-length-2 c =
-    (c .before .before .fold-plain .ensures .within .long) ∙ (c .before .before .before .before .before .before .before .before .before .before .before .before .before .loop .inv .1 .0)
+    (c .before .before .fold-entry .ensures .within .long) ∙ (c .before .before .before .before .before .before .before .before .before .before .loop .inv .1 .0)
 
--- src/fold.rt:244:17
+-- src/fold.rt:295:13
 returns-2 : tie.Need-returns-2 Inv-loop μ-loop
 returns-2 c =
-    let p = sym (c .before .before .before .before .before .before .is-plain .ensures) ∙ (c .before .before .before .before .before .if3 .taken) in
-    (c .before .before .before .before .before .before .before .before .before .before .before .before .before .loop .inv .1 .1) _ _ (types-on (rulesOf Question.List _) _ (c .before .before .before .before .before .before .before .before .before .before .before .before .loop-test .taken) _ (c .before .before .before .before .before .before .before .before .before .head-at .ensures .0) _ (c .before .before .before .before .before .before .before .if2 .taken) (folds-as (rulesOf Question.List _) (λ t k. plain-valued _ p (c .before .before .before .leaf-of .ensures .0) (c .before .before .before .before .before .before .before .before .before .head-at .ensures .0) (entry-typed t k)) (c .before .before .fold-plain .ensures)))
+    (c .before .before .before .before .before .before .before .before .before .before .loop .inv .1 .1) _ _ (types-behind (rulesOf Question.List _) _ (c .before .before .before .before .before .before .before .before .before .loop-test .taken) _ (c .before .before .before .before .before .before .head-at .ensures .0) _ (behind-on (rulesOf Question.List _) _ (c .before .before .before .before .before .before .head-at .ensures .0) _ (c .before .before .before .before .if2 .taken) (c .before .before .fold-entry .ensures)))
 
--- src/fold.rt:246:13
-fold-first-requires : tie.Need-fold-first-requires Inv-loop μ-loop
-fold-first-requires c κs =
-    (c .before .before .before .before .before .before .before .before .before .loop .inv .0)
-
--- src/fold.rt:246:13
-same-length-3 : tie.Need-same-length-3 Inv-loop μ-loop
-same-length-3 c =
-    (c .before .before .fold-first .ensures .within .long) ∙ (c .before .before .before .before .before .before .before .before .before .before .before .before .loop .inv .1 .0)
-
--- src/fold.rt:246:13
-returns-3 : tie.Need-returns-3 Inv-loop μ-loop
-returns-3 c =
-    (c .before .before .before .before .before .before .before .before .before .before .before .before .loop .inv .1 .1) _ _ (types-on (rulesOf Question.List _) _ (c .before .before .before .before .before .before .before .before .before .before .before .loop-test .taken) _ (c .before .before .before .before .before .before .before .before .head-at .ensures .0) _ (c .before .before .before .before .before .before .if2 .taken) (c .before .before .fold-first .ensures))
-
--- src/fold.rt:236:5
+-- src/fold.rt:288:5
 loop-less : tie.Need-loop-less Inv-loop μ-loop
 loop-less c =
     omega arith
 
--- src/fold.rt:236:5
+-- src/fold.rt:288:5
 loop-again : tie.Need-loop-again Inv-loop μ-loop
 loop-again c =
     ((c .before .before .before .before .before .before .loop .inv .0), ((c .before .before .before .before .before .before .loop .inv .1 .0), λ v o g. (c .before .before .before .before .before .before .loop .inv .1 .1) v o (types-null (rulesOf Question.List _) _ (c .before .before .before .before .before .loop-test .taken) _ (c .before .before .head-at .ensures .0) o (c .if2 .left) g)))
 
--- src/fold.rt:223:1
-same-length-4 : tie.Need-same-length-4 Inv-loop μ-loop
-same-length-4 c =
+-- src/fold.rt:275:1
+same-length-3 : tie.Need-same-length-3 Inv-loop μ-loop
+same-length-3 c =
     (c .before .loop .inv .1 .0)
 
--- src/fold.rt:223:1
-returns-4 : tie.Need-returns-4 Inv-loop μ-loop
+-- src/fold.rt:275:1
+returns-3 : tie.Need-returns-3 Inv-loop μ-loop
 unfolding foldTypes
-returns-4 c =
+returns-3 c =
     (c .before .loop .inv .1 .1) _ _ (reached-empty _ refl (c .loop-test .left))
 
 pub fold-types-spec : {M : Type 1} → statement M
@@ -123,15 +92,10 @@ fold-types-spec =
     same-length
     returns
     head-at-requires
-    is-plain-requires
-    leaf-of-requires
-    fold-plain-requires
+    fold-entry-requires
     same-length-2
     returns-2
-    fold-first-requires
-    same-length-3
-    returns-3
     loop-less
     loop-again
-    same-length-4
-    returns-4)
+    same-length-3
+    returns-3)
