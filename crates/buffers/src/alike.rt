@@ -66,7 +66,7 @@ fn same_figures(g: Head, h: Head) -> bool
 }
 
 // Whether the shapes of two records are the same.
-pub fn same_shape(a: &[u8], n: usize, g: Head, b: &[u8], m: usize, h: Head) -> bool
+fn same_shape(a: &[u8], n: usize, g: Head, b: &[u8], m: usize, h: Head) -> bool
     requires { ⌜ (n < 65536) × (m < 65536) ⌝ }
     ensures { λ r. ⌜ r ≡ sameShape (shapeOf (now (a .entry)) n g) (shapeOf (now (b .entry)) m h) ⌝ }
 {
@@ -142,7 +142,7 @@ fn differ_fields(
 }
 
 // The record at which the type of record i of a and that of record j of b first differ.
-fn differ_type(a: &[u8], n: usize, i: usize, b: &[u8], m: usize, j: usize, named: bool) -> usize
+pub fn differ_type(a: &[u8], n: usize, i: usize, b: &[u8], m: usize, j: usize, named: bool) -> usize
     requires { ⌜ (n < 65536) × (m < 65536) ⌝ }
     ensures { λ e. ⌜ DifferTypes (now (a .entry)) n i (now (b .entry)) m j named e ⌝ }
 {
@@ -158,14 +158,6 @@ fn differ_type(a: &[u8], n: usize, i: usize, b: &[u8], m: usize, j: usize, named
         return differ_fields(a, n, i, g.first, b, m, h.first, named);
     }
     i
-}
-
-// Whether the type of record i of a is that of record j of b.
-pub fn same_type(a: &[u8], n: usize, i: usize, b: &[u8], m: usize, j: usize, named: bool) -> bool
-    requires { ⌜ (n < 65536) × (m < 65536) ⌝ }
-    ensures { λ e. ⌜ SameTypes (now (a .entry)) n i (now (b .entry)) m j named e ⌝ }
-{
-    differ_type(a, n, i, b, m, j, named) == 0
 }
 
 // The record at which the type of record l of a side and that of record r of the other first differ.

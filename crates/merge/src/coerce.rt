@@ -71,7 +71,7 @@ fn is_small(n: usize, link: usize, next: usize) -> bool
     are_few(link, next)
 }
 
-// The common type of two types, or none. The table of partners has no room where the left type is small.
+// The common type of two types, of which something may be known, or none. The table of partners has no room where the left type is small.
 pub fn coerce(
     sheet: &[u8],
     work: &mut [u8],
@@ -80,12 +80,13 @@ pub fn coerce(
     mask: u64,
     left: usize,
     swap: bool,
+    known: usize,
     l: usize,
     r: usize,
     g: Goal,
 ) -> Out
     requires { ⌜ Room (now work) space × Ready space g ⌝ }
-    ensures { λ o. ⌜ Merges (coercion (rulesOf question mask)) space left swap (now (sheet .entry)) (now (work .entry)) (now (work .exit)) l r g o ⌝ }
+    ensures { λ o. ⌜ MergesKnown known (isListQuestion (asked question)) (coercion (rulesOf question mask)) space left swap (now (sheet .entry)) (now (work .entry)) (now (work .exit)) l r g o ⌝ }
 {
     if is_small(space.n, l, look(sheet, &*work, swap, l).next) {
         let mut table = [0u32; 0];
@@ -98,7 +99,7 @@ pub fn coerce(
             mask,
             left,
             swap,
-            1,
+            known,
             0,
             l,
             r,
@@ -115,7 +116,7 @@ pub fn coerce(
         mask,
         left,
         swap,
-        1,
+        known,
         0,
         l,
         r,

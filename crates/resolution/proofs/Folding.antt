@@ -25,7 +25,8 @@ use Rattle.coercion.proofs.Shorter.{coercion-smaller, coercion-shorter}
 use Rattle.buffers.specs.Region.{Room, Kept, Inside, Passes, Wrote}
 use Rattle.buffers.specs.Goal.{letters, typeOf, Means}
 use Rattle.buffers.specs.Plain.{asked, rulesOf, isListQuestion}
-use Rattle.buffers.specs.Typed.{Chain, Typed, Merges, ChainIs, CopiedField}
+use Rattle.buffers.specs.Differ.{DifferTypes}
+use Rattle.buffers.specs.Typed.{Chain, Typed, ChainIs, CopiedField}
 use Rattle.buffers.specs.declared.Question.{Question}
 use Rattle.buffers.specs.declared.Question.the-variants as Question
 use Rattle.buffers.specs.declared.Space.{Space}
@@ -35,8 +36,9 @@ use Rattle.buffers.specs.declared.Out.{Out}
 use Rattle.buffers.specs.declared.Out.the-variants.{Done, No, Full}
 use Rattle.buffers.proofs.Sources.{source-none, link-inside}
 use Rattle.buffers.proofs.Chained.{labels-sum}
-use Rattle.merge.proofs.Merging.{typed-kind, type-differ, single-letters}
-use Rattle.resolution.specs.Reached.{front, Listed, Fits, AnswerIs, Enclosed, Within, Reached, Candidate, Shifted, Mirrored, Entry, Steps, Folds, foldBehind}
+use Rattle.merge.specs.Merge.{MergesKnown}
+use Rattle.merge.proofs.Merging.{typed-kind, typed-differs, nothing-known, type-differ, single-letters}
+use Rattle.resolution.specs.Reached.{front, Listed, Fits, AnswerIs, Enclosed, Within, Reached, Candidate, Shifted, Mirrored, Entry, Compared, Steps, Folds, foldBehind}
 use Rattle.values.proofs.Valuing.{typed-right}
 use Rattle.values.proofs.Keeping.{by-test, plain-field, equal-kept}
 use Rattle.resolution.proofs.Shifting.{candidate-typed, mirrored-typed}
@@ -67,22 +69,32 @@ shifted-within room a k =
       above = λ j h. k .above j (omega (arith, room .half)) ∙ a .above j (omega arith);
     }
 
+-- two types that were compared, and two of which nothing is known
+pub compared : {space : Space} {s : List ℕ} {link other d : ℕ} → DifferTypes s (space .n) link s (space .n) other true d → Compared d true space (Typed space s other) s link
+compared f = record { is = λ x c a b h. sym (typed-differs true f a b) }
+
+pub not-compared : {named : Bool} {space : Space} {Is : DataType → Type 0} {s : List ℕ} {link : ℕ} → Compared 1 named space Is s link
+not-compared {named} = record { is = λ x c a k. nothing-known named x c a }
+
 -- the candidate was moved, then merged
-pub stepped : {A : DataType → DataType → Option DataType} (space : Space) {s w v u : List ℕ} {link : ℕ} {d : Spot} (o : Out) → Room w space → Inside space d → Shifted space w v d
-    → Merges A space (2 * space .n) false s v u link 1 foremost o → Steps A space (Candidate space w d) s w u link o
-stepped {A} space {w = w} {v} {u} {d = d} o room inside a m =
+pub stepped : {A : DataType → DataType → Option DataType} (space : Space) {s w v u : List ℕ} {link known : ℕ} {d : Spot} (o : Out) → Room w space → Inside space d
+    → Compared known true space (Candidate space w d) s link → Shifted space w v d → MergesKnown known true A space (2 * space .n) false s v u link 1 foremost o
+    → Steps A space (Candidate space w d) s w u link o
+stepped {A} space {w = w} {v} {u} {d = d} o room inside i a m =
     record {
       within = shifted-within room a (m .writes .kept);
       inside = enclosed space foremost o (m .writes .passes);
       means =
           λ x c t k h l.
-          answered space v u (size x + size c) (letters x + letters c) o (A x c) h l (m .means x c t (candidate-typed space w v d c room inside a k) (omega arith));
+          answered space v u (size x + size c) (letters x + letters c) o (A x c) h l
+          (m .means x c t (candidate-typed space w v d c room inside a k) (omega arith) (i .is x c t k));
     }
 
 -- the sheet was laid in the first half, then two of its types were merged
-pub met : {A : DataType → DataType → Option DataType} (space : Space) {s w v u : List ℕ} {link other : ℕ} (o : Out) → Room w space → Mirrored space s w v
-    → Merges A space (2 * space .n) false s v u link other foremost o → Steps A space (Typed space s other) s w u link o
-met {A} space {s} {w} {v} {u} o room a m =
+pub met : {A : DataType → DataType → Option DataType} (space : Space) {s w v u : List ℕ} {link other known : ℕ} {named : Bool} (o : Out) → Room w space
+    → Compared known named space (Typed space s other) s link → Mirrored space s w v → MergesKnown known named A space (2 * space .n) false s v u link other foremost o
+    → Steps A space (Typed space s other) s w u link o
+met {A} space {s} {w} {v} {u} o room i a m =
     record {
       within =
           record {
@@ -90,11 +102,19 @@ met {A} space {s} {w} {v} {u} o room a m =
             above = λ j h. m .writes .kept .above j (omega (arith, room .half)) ∙ a .above j (omega arith);
           };
       inside = enclosed space foremost o (m .writes .passes);
-      means = λ x c t k h l. answered space v u (size x + size c) (letters x + letters c) o (A x c) h l (m .means x c t (mirrored-typed space s w v room a k) (omega arith));
+      means =
+          λ x c t k h l.
+          answered space v u (size x + size c) (letters x + letters c) o (A x c) h l (m .means x c t (mirrored-typed space s w v room a k) (omega arith) (i .is x c t k));
     }
 
 pub within-self : {space : Space} (w : List ℕ) → Within space w w
 within-self w = record { long = refl; above = λ j h. refl }
+
+-- the common type is the candidate itself
+pub steps-kept : {A : DataType → DataType → Option DataType} {space : Space} {s w : List ℕ} {link : ℕ} {d : Spot} → Inside space d
+    → ((x c : DataType) → Typed space s link x → Candidate space w d c → A x c ≡ some c) → Steps A space (Candidate space w d) s w w link (Done d)
+steps-kept {space = space} {w = w} {d = d} inside f =
+    record { within = within-self w; inside = inside; means = λ x c t k h l. subst (AnswerIs space w (Done d)) (sym (f x c t k)) (k .wrote) }
 
 pub within-trans : {space : Space} {w v u : List ℕ} → Within space w v → Within space v u → Within space w u
 within-trans a b = record { long = b .long ∙ a .long; above = λ j h. b .above j h ∙ a .above j h }

@@ -19,10 +19,13 @@ use Rattle.coercion.specs.Same.{equal}
 use Rattle.coercion.specs.Answers.{Category, array, boolean, numeric, dateTime, composite, unknown, notSupported, ownCategory, categoryOf, isCategory, hasCategory, asNumber, categoriesIn, categoriesFit, allEqual}
 use Rattle.coercion.specs.Meaning.{categoryBit, isSupported}
 use Rattle.rules.proofs.Cores.{Found, core-own}
+use Rattle.buffers.specs.Differ.{DifferTypes}
 use Rattle.buffers.specs.Typed.{Typed}
 use Rattle.buffers.specs.declared.Space.{Space}
+use Rattle.buffers.proofs.Differing.{type-same}
 use Rattle.buffers.proofs.Sources.{link-inside}
 use Rattle.buffers.proofs.Chained.{held-next}
+use Rattle.merge.proofs.Merging.{typed-differs, chain-some}
 use Rattle.resolution.specs.Reached.{Listed, categoryBits, seenBits}
 
 pub unnot : (b : Bool) {c : Bool} → not b ≡ c → b ≡ not c
@@ -69,6 +72,11 @@ module _ {A : Type 0} (F : List DataType → A) (space : Space) (s : List ℕ) (
     unfolding typesOf
     tells-next h e G g f end l = absurd (omega (arith, l .held .source .leads .is))
     tells-next h e G g f (field name nullable shape parts rest) l = g rest (listed-next l h e) ∙ f _ (typesOf rest) (listed-typed l)
+
+-- whether two types are the same, by the record at which they first differ
+pub differ-equal : {space : Space} {s t : List ℕ} {link other d : ℕ} → DifferTypes s (space .n) link t (space .n) other true d → (x c : DataType) → Typed space s link x
+    → Typed space t other c → eqb d 0 ≡ equal x c
+differ-equal {link = link} f x c a b = ap (λ (e : ℕ). eqb e 0) (typed-differs true f a b) ∙ type-same true link x c (chain-some (a .chain))
 
 -- whether the types are all the same as a first
 pub equal-none : (space : Space) (s : List ℕ) (floor link : ℕ) → link ≤ floor → (t : DataType) → Tells (allEqual t) space s floor link true

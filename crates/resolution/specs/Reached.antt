@@ -19,6 +19,7 @@ use Rattle.buffers.specs.declared.Space.{Space}
 use Rattle.buffers.specs.declared.Spot.{Spot}
 use Rattle.buffers.specs.declared.Out.{Out}
 use Rattle.buffers.specs.declared.Out.the-variants.{Done, No, Full}
+use Rattle.merge.specs.Known.{Known}
 use Rattle.values.specs.declared.value.Leaf.{Leaf}
 use Rattle.values.specs.declared.value.Joint.{Joint}
 use Rattle.values.specs.Value.{Valued, JointIs}
@@ -109,6 +110,10 @@ pub record Entry (space : Space) (s : List ℕ) (first : ℕ) (c : DataType) : T
   pub nullable : Bool
   pub rest : Fields
   pub listed : Listed space s floor first (field name nullable (c .shape) (c .parts) rest)
+
+-- what is known of where a type of the sheet differs from a candidate, which stands as `Is` says
+pub record Compared (known : ℕ) (named : Bool) (space : Space) (Is : DataType → Type 0) (s : List ℕ) (link : ℕ) : Type 0 where
+  pub is : (x c : DataType) → Typed space s link x → Is c → Known known named link x c
 
 -- a type of the sheet was merged with a candidate, which stands as `Is` says
 pub record Steps (coerce : DataType → DataType → Option DataType) (space : Space) (Is : DataType → Type 0) (s w v : List ℕ) (link : ℕ) (o : Out) : Type 0 where

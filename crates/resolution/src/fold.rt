@@ -1,15 +1,15 @@
 // The fold of a list, and the one pair of a union or a comparison.
+ghost use mathlib.Core.Bool.{true};
 ghost use Prim.Native.Nat.{_<_};
 ghost use Rattle.coercion.specs.Answers.{coercion, foldFrom, foldTypes, typeUnionResolution, pairAnswer};
 ghost use Rattle.buffers.specs.Region.{Room, region, Inside};
-ghost use Rattle.buffers.specs.Plain.{rulesOf};
+ghost use Rattle.buffers.specs.Plain.{asked, rulesOf, isListQuestion};
 ghost use Rattle.buffers.specs.Typed.{Typed};
-ghost use Rattle.resolution.specs.Reached.{Reached, Candidate, Entry, Steps, Folds, foldBehind};
+ghost use Rattle.resolution.specs.Reached.{Reached, Candidate, Entry, Compared, Steps, Folds, foldBehind};
 ghost use Rattle.values.specs.Value.{Valued};
 ghost use Rattle.values.specs.Keeps.{CoreAt};
 use crate::front::lay_front;
 use crate::front::lay_joint;
-use crate::list::is_equal;
 use crate::list::is_fitting;
 use crate::shift::mirror;
 use crate::shift::shift;
@@ -19,6 +19,7 @@ use buffers::Out;
 use buffers::Question;
 use buffers::Space;
 use buffers::Spot;
+use buffers::alike::differ_type;
 use buffers::field::copy_field;
 use merge::coerce::coerce;
 use sheet::record::head_at;
@@ -33,18 +34,19 @@ use values::value::common_type;
 use values::value::is_plain;
 use values::value::leaf_of;
 
-// The common type of the type at a link and the candidate that ends at d; it takes the candidate's place.
+// The common type, in a list, of the type at a link and the candidate that ends at d, of which it is known where they differ; it takes the candidate's place.
 fn step(
     sheet: &[u8],
     work: &mut [u8],
     space: Space,
-    question: Question,
     mask: u64,
-    link: usize,
+    known: usize,
+    at: usize,
     d: Spot,
 ) -> Out
     requires { ⌜ Room (now work) space × (Inside space d × (1 < space .n)) ⌝ }
-    ensures { λ o. ⌜ Steps (coercion (rulesOf question mask)) space (Candidate space (now (work .entry)) d) (now (sheet .entry)) (now (work .entry)) (now (work .exit)) link o ⌝ }
+    requires { ⌜ Compared known true space (Candidate space (now work) d) (now sheet) at ⌝ }
+    ensures { λ o. ⌜ Steps (coercion (rulesOf Question.List mask)) space (Candidate space (now (work .entry)) d) (now (sheet .entry)) (now (work .entry)) (now (work .exit)) at o ⌝ }
 {
     shift(work, space, d);
     let g = Goal {
@@ -53,11 +55,12 @@ fn step(
         nlen: 0,
         nullable: false,
     };
+    let list = Question::List;
     let left = 2 * space.n;
-    coerce(sheet, work, space, question, mask, left, false, link, 1, g)
+    coerce(sheet, work, space, list, mask, left, false, known, at, 1, g)
 }
 
-// The same in a list, of a candidate whose core is at a record. Where the core alone changes, only that is written.
+// The same of a candidate whose core is at a record. Where the core alone changes, only that is written. A type that is the candidate itself leaves it.
 fn step_list(
     sheet: &[u8],
     work: &mut [u8],
@@ -75,20 +78,26 @@ fn step_list(
     if is_core_alone(sheet, &work[half..], space, mask, link, core) {
         return step_core(sheet, work, space, mask, link, d);
     }
-    step(sheet, work, space, Question::List, mask, link, d)
+    let known = differ_type(sheet, space.n, link, &work[half..], space.n, 1, true);
+    if known == 0 {
+        return Out::Done(d);
+    }
+    step(sheet, work, space, mask, known, link, d)
 }
 
-// The common type of the types at two links of the sheet. The second is read from a copy of the sheet's bytes.
+// The common type of the types at two links of the sheet, of which something may be known. The second is read from a copy of the sheet's bytes.
 fn meet(
     sheet: &[u8],
     work: &mut [u8],
     space: Space,
     question: Question,
     mask: u64,
+    known: usize,
     link: usize,
     other: usize,
 ) -> Out
     requires { ⌜ Room (now work) space × (1 < space .n) ⌝ }
+    requires { ⌜ Compared known (isListQuestion (asked question)) space (Typed space (now sheet) other) (now sheet) link ⌝ }
     ensures { λ o. ⌜ Steps (coercion (rulesOf question mask)) space (Typed space (now (sheet .entry)) other) (now (sheet .entry)) (now (work .entry)) (now (work .exit)) link o ⌝ }
 {
     mirror(sheet, work, space);
@@ -107,6 +116,7 @@ fn meet(
         mask,
         records,
         false,
+        known,
         link,
         other,
         g,
@@ -154,19 +164,22 @@ fn fold_from(
     Out::Done(end)
 }
 
-// The type of record `first`, folded with the types at a link past floor. Nulls are skipped.
+// The type of record `first`, folded with the types at a link past floor, of the first of which something may be known. Nulls are skipped.
 fn fold_first(
     sheet: &[u8],
     work: &mut [u8],
     space: Space,
     mask: u64,
+    d: usize,
     first: usize,
     floor: usize,
     at: usize,
 ) -> Out
     requires { ⌜ Room (now work) space × (1 < space .n) ⌝ }
+    requires { ⌜ Compared d true space (Typed space (now sheet) first) (now sheet) at ⌝ }
     ensures { λ o. ⌜ Folds (foldFrom (rulesOf Question.List mask)) space (Entry space (now (sheet .entry)) first) (now (sheet .entry)) (now (work .entry)) (now (work .exit)) floor at o ⌝ }
 {
+    let mut known = d;
     let mut last = floor;
     let mut link = at;
     while last < link {
@@ -176,12 +189,13 @@ fn fold_first(
         let h = head_at(sheet, link);
         let next = h.next;
         if h.kind != 1 {
-            return match meet(sheet, work, space, Question::List, mask, link, first) {
+            return match meet(sheet, work, space, Question::List, mask, known, link, first) {
                 Out::Done(e) => fold_from(sheet, work, space, mask, link, next, e),
                 Out::No => Out::No,
                 Out::Full => Out::No,
             };
         }
+        known = 1;
         last = link;
         link = next;
     }
@@ -248,24 +262,26 @@ fn fold_plain(
     fold_written(sheet, work, space, mask, candidate, last, at)
 }
 
-// The type of record `first`, which is not Null, folded with the types at a link past floor.
+// The type of record `first`, which is not Null, folded with the types at a link past floor, of the first of which something may be known.
 fn fold_entry(
     sheet: &[u8],
     work: &mut [u8],
     space: Space,
     mask: u64,
+    known: usize,
     first: usize,
     floor: usize,
     link: usize,
 ) -> Out
     requires { ⌜ Room (now work) space × (1 < space .n) ⌝ }
+    requires { ⌜ Compared known true space (Typed space (now sheet) first) (now sheet) link ⌝ }
     ensures { λ o. ⌜ Folds (foldFrom (rulesOf Question.List mask)) space (Entry space (now (sheet .entry)) first) (now (sheet .entry)) (now (work .entry)) (now (work .exit)) floor link o ⌝ }
 {
     let h = head_at(sheet, first);
     if is_plain(h) {
         return fold_plain(sheet, work, space, mask, leaf_of(h), floor, link);
     }
-    fold_first(sheet, work, space, mask, first, floor, link)
+    fold_first(sheet, work, space, mask, known, first, floor, link)
 }
 
 // The first type at a link past floor that is not Null, folded with those behind it.
@@ -289,7 +305,7 @@ fn fold_types(
         let h = head_at(sheet, at);
         let next = h.next;
         if h.kind != 1 {
-            return fold_entry(sheet, work, space, mask, at, at, next);
+            return fold_entry(sheet, work, space, mask, 1, at, at, next);
         }
         last = at;
         at = next;
@@ -297,23 +313,25 @@ fn fold_types(
     Out::No
 }
 
-// The type of record `first`, folded with the types at a link past floor. A first Null gives way to the next type.
+// The type of record `first`, folded with the types at a link past floor, of the first of which something may be known. A first Null gives way to the next type.
 fn fold_behind(
     sheet: &[u8],
     work: &mut [u8],
     space: Space,
     mask: u64,
+    known: usize,
     first: usize,
     floor: usize,
     link: usize,
 ) -> Out
     requires { ⌜ Room (now work) space × (1 < space .n) ⌝ }
+    requires { ⌜ Compared known true space (Typed space (now sheet) first) (now sheet) link ⌝ }
     ensures { λ o. ⌜ Folds (foldBehind (rulesOf Question.List mask)) space (Entry space (now (sheet .entry)) first) (now (sheet .entry)) (now (work .entry)) (now (work .exit)) floor link o ⌝ }
 {
     if head_at(sheet, first).kind == 1 {
         return fold_types(sheet, work, space, mask, floor, link);
     }
-    fold_entry(sheet, work, space, mask, first, floor, link)
+    fold_entry(sheet, work, space, mask, known, first, floor, link)
 }
 
 // `type_union_resolution`, of the types at a link. Types that are the same as the first leave it as it is: the fold begins at the first that is another.
@@ -339,9 +357,10 @@ pub(crate) fn type_union_resolution(
         if space.n <= at {
             return Out::No;
         }
-        if !is_equal(sheet, space, at, link) {
+        let d = differ_type(sheet, space.n, at, sheet, space.n, link, true);
+        if d != 0 {
             if is_fitting(sheet, space, link) {
-                return fold_behind(sheet, work, space, mask, link, last, at);
+                return fold_behind(sheet, work, space, mask, d, link, last, at);
             }
             return Out::No;
         }
@@ -384,5 +403,5 @@ pub(crate) fn pair(
             return lay_joint(work, space, joint);
         }
     }
-    meet(sheet, work, space, question, mask, link, next)
+    meet(sheet, work, space, question, mask, 1, link, next)
 }

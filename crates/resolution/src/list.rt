@@ -1,46 +1,19 @@
-// What a list is asked before it is folded: whether its types are the same, and of which categories they are.
+// What a list is asked before it is folded: of which categories its types are.
 ghost use mathlib.Core.Path.{_≡_};
 ghost use mathlib.Core.Bool.{Bool};
 ghost use mathlib.Core.List.{List};
 ghost use Prim.Native.Nat.{ℕ, _≤_};
 ghost use Rattle.sheet.specs.Types.{Shape, Fields, field};
 ghost use Rattle.sheet.specs.Holds.{Leads};
-ghost use Rattle.coercion.specs.Data.{DataType, typesOf};
-ghost use Rattle.coercion.specs.Same.{equal};
+ghost use Rattle.coercion.specs.Data.{typesOf};
 ghost use Rattle.coercion.specs.Answers.{ownCategory, categoryOf, categoriesFit};
-ghost use Rattle.buffers.specs.Typed.{Typed};
 ghost use Rattle.resolution.specs.Reached.{Listed, seenBits};
 use buffers::Space;
-use buffers::alike::same_shape;
-use buffers::alike::same_type;
 use rules::category::core_kind;
 use rules::category::is_mixed;
 use rules::category::is_supported;
 use rules::category::with_category;
 use sheet::record::head_at;
-use values::value::is_plain;
-use values::value::is_same;
-use values::value::leaf_of;
-
-// Whether the type at a link is that of record `first`. Types without parts are compared by their heads.
-pub(crate) fn is_equal(sheet: &[u8], space: Space, link: usize, first: usize) -> bool
-    requires { ⌜ space .n ≤ 1024 ⌝ }
-    ensures { λ b. ⌜ ((u t : DataType) → Typed space (now (sheet .entry)) link u → Typed space (now (sheet .entry)) first t → b ≡ equal u t) ⌝ }
-{
-    let x = head_at(sheet, link);
-    let y = head_at(sheet, first);
-    if is_plain(x) {
-        if is_plain(y) {
-            return is_same(leaf_of(x), leaf_of(y));
-        }
-    }
-    if x.kind < 32 {
-        if y.kind < 32 {
-            return same_shape(sheet, space.n, x, sheet, space.n, y);
-        }
-    }
-    same_type(sheet, space.n, link, sheet, space.n, first, true)
-}
 
 // The kind below all wrappers of record r, which is its own where it is no wrapper.
 fn value_kind(sheet: &[u8], n: usize, r: usize) -> u8

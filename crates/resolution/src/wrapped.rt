@@ -46,7 +46,7 @@ pub(crate) fn step_core(
         nullable: is_nullable(h),
     };
     shift(work, space, d);
-    let question = Question::List;
+    let list = Question::List;
     let left = 2 * space.n;
-    coerce(sheet, work, space, question, mask, left, true, at, link, g)
+    coerce(sheet, work, space, list, mask, left, true, 1, at, link, g)
 }

@@ -29,7 +29,6 @@ use Rattle.coercion.proofs.Sameness.{equal-same}
 use Rattle.buffers.specs.Goal.{typeOf}
 use Rattle.buffers.specs.Region.{Held}
 use Rattle.buffers.specs.Plain.{rulesOf, plainRules}
-use Rattle.buffers.specs.Source.{SameTypes}
 use Rattle.buffers.specs.Steps.{Figured, Reads, stepOf}
 use Rattle.buffers.specs.Typed.{Typed}
 use Rattle.buffers.specs.declared.Question.the-variants as Question
@@ -43,7 +42,6 @@ use Rattle.buffers.proofs.Turns.{turns, spoken}
 use Rattle.wrappers.specs.Ways.{isWrapper}
 use Rattle.wrappers.proofs.Cores.{missing, wrapper-is, two-parts}
 use Rattle.wrappers.proofs.Values.{Two, typed-two, value-of}
-use Rattle.merge.proofs.Merging.{typed-same}
 use Rattle.values.specs.declared.value.Leaf.{Leaf}
 use Rattle.values.specs.declared.value.Joint.{Joint}
 use Rattle.values.specs.declared.value.Joint.the-variants as Joint
@@ -180,10 +178,6 @@ module _ (mask : ℕ) where
   -- a type that is the candidate itself
   pub equal-kept : (t c : DataType) → equal t c ≡ true → coercion rules t c ≡ some c
   equal-kept t c e = coercion-asks rules t c ∙ rw e (ap (λ (y : DataType). some y) (equal-same t c e))
-
-  pub keeps-same : {space : Space} {s u : List ℕ} {link : ℕ} {e : Bool} → SameTypes s (space .n) link u (space .n) 1 true e → e ≡ true → (t c : DataType) → Typed space s link t
-      → Typed space u 1 c → coercion rules t c ≡ some c
-  keeps-same f z t c a d = equal-kept t c (sym (typed-same true f a d) ∙ z)
 
   -- two types without parts whose common type is a third
   pub common-is : {x y z c : Leaf} {b : Bool} {o : Joint} → o ≡ Joint.Of c → Joins (coercion rules) x y o → ((named : Bool) → b ≡ sameType named (leafType c) (leafType z)) → b ≡ true

@@ -1,6 +1,6 @@
 -- Types without parts, zone or order, by value. Assumes nothing.
-use mathlib.Core.Path.{_≡_, refl, ap, ap₂, sym, subst, _∙_}
-use mathlib.Core.Bool.{Bool, true, false, cond, _&&_, and-true}
+use mathlib.Core.Path.{_≡_, refl, ap, sym, subst, _∙_}
+use mathlib.Core.Bool.{Bool, true, false, cond, and-true}
 use mathlib.Core.List.{List, [], _∷_}
 use mathlib.Core.Option.{Option, none, some}
 use Prim.Native.Nat.{ℕ, _/_, _%_, _<_}
@@ -111,22 +111,6 @@ module _ (x y : Leaf) where
   pub same-last : x .kind ≡ y .kind → x .figure ≡ y .figure → x .scale ≡ y .scale → (named : Bool) → eqb (x .size) (y .size) ≡ sameType named (leafType x) (leafType y)
   unfolding allOf
   same-last a b c named = sym (same-tests named ∙ rw (eq-eqb (x .kind) (y .kind) a, eq-eqb (x .figure) (y .figure) b, eq-eqb (x .scale) (y .scale) c) (and-true (eqb (x .size) (y .size))))
-
--- two plain types that were compared by value
-pub plain-equal : (named : Bool) {space : Space} {s : List ℕ} {link other : ℕ} (h k : Head) {x y : Leaf} {b : Bool} → isPlain h ≡ true → isPlain k ≡ true → h ≡ headAt s link → k ≡ headAt s other
-    → x ≡ leafOf h → y ≡ leafOf k → ((n : Bool) → b ≡ sameType n (leafType x) (leafType y)) → (u t : DataType) → Typed space s link u → Typed space s other t → b ≡ sameType named u t
-plain-equal named h k p q eh ek ex ey same u t a c =
-    same named
-    ∙ sym (ap₂ (sameType named) (plain-valued h p ex eh a .is) (plain-valued k q ey ek c .is))
-
--- two types without parts whose shapes were compared
-pub low-equal : (named : Bool) {space : Space} {s : List ℕ} {link other : ℕ} (h k : Head) {b : Bool} → h .kind < 32 → k .kind < 32 → h ≡ headAt s link → k ≡ headAt s other
-    → b ≡ sameShape (shapeOf s (space .n) h) (shapeOf s (space .n) k) → (u t : DataType) → Typed space s link u → Typed space s other t → b ≡ sameType named u t
-unfolding sameType sameFields
-low-equal named h k p q eh ek same u t a c =
-    same
-    ∙ ap₂ sameShape (read-shape (a .chain .held .source) h eh) (read-shape (c .chain .held .source) k ek)
-    ∙ sym (ap₂ (λ (x y : Fields). sameShape (u .shape) (t .shape) && sameFields named x y) (partless h p eh a) (partless k q ek c) ∙ and-true (sameShape (u .shape) (t .shape)))
 
 -- what a step says of two values
 module _ {step : Step} {x y : Leaf} where

@@ -2,7 +2,7 @@
 ghost use mathlib.Core.Path.{_≡_};
 ghost use mathlib.Core.Bool.{true};
 ghost use mathlib.Core.Option.{some};
-ghost use Prim.Native.Nat.{_<_, _≤_};
+ghost use Prim.Native.Nat.{_<_};
 ghost use Rattle.coercion.specs.Data.{DataType};
 ghost use Rattle.coercion.specs.Answers.{coercion};
 ghost use Rattle.buffers.specs.Plain.{rulesOf};
@@ -18,7 +18,6 @@ use crate::value::leaf_of;
 use buffers::Question;
 use buffers::Space;
 use buffers::Step;
-use buffers::alike::same_type;
 use buffers::plain::plain;
 use kinds::tests::both;
 use kinds::tests::either;
@@ -80,9 +79,8 @@ fn stays_zoned(x: Head, y: Head) -> bool
 }
 
 // Whether the candidate at record 1 of the second half, whose core is at a record, stays as it is under the type at a link of the sheet. Below a wrapper the
-// core goes left, and a Dictionary of Utf8View gives way to Utf8View. Other types with parts, zone or order are only compared.
+// core goes left, and a Dictionary of Utf8View gives way to Utf8View. Nothing is said of other types with parts, zone or order.
 pub fn keeps(sheet: &[u8], second: &[u8], space: Space, mask: u64, link: usize, core: usize) -> bool
-    requires { ⌜ space .n ≤ 1024 ⌝ }
     ensures { λ b. ⌜ (b ≡ true → CoreAt space (now (second .entry)) 1 core → (x c : DataType) → Typed space (now (sheet .entry)) link x → Typed space (now (second .entry)) 1 c → coercion (rulesOf Question.List mask) x c ≡ some c) ⌝ }
 {
     let x = head_at(sheet, link);
@@ -99,10 +97,7 @@ pub fn keeps(sheet: &[u8], second: &[u8], space: Space, mask: u64, link: usize, 
         }
         return is_common(mask, old, new, old);
     }
-    if both(wrapped, stays_zoned(v, x)) {
-        return true;
-    }
-    same_type(sheet, space.n, link, second, space.n, 1, true)
+    both(wrapped, stays_zoned(v, x))
 }
 
 fn lays_view(step: Step) -> bool

@@ -1,5 +1,5 @@
 use borrow.Author.Needs.{needs}
-use Rattle.merge.proofs.Merging.{none-known, none-hint, tabled-zeros}
+use Rattle.merge.proofs.Merging.{none-hint, tabled-zeros}
 use Rattle.merge.proofs.coerce.coerce.Statement.{statement}
 use Rattle.merge.proofs.coerce.coerce.Tie as tie
 use Rattle.merge.proofs.coerce.coerce.Reads as reads
@@ -32,7 +32,7 @@ same-length c = search needs
 -- src/coerce.rt:91:9
 returns : tie.Need-returns
 returns c =
-    none-known (c .before .before .before .before .before .before .before .before .before .before .before .before .args .swap) (none-hint (c .before .before .before .before .before .before .before .before .before .before .before .before .args .swap) (c .before .before .before .common .ensures .0))
+    none-hint (c .before .before .before .before .before .before .before .before .before .before .before .before .args .swap) (c .before .before .before .common .ensures .0)
 
 -- src/coerce.rt:110:9
 slice-aggregate-common-2 : tie.Need-slice-aggregate-common-2
@@ -50,7 +50,7 @@ same-length-2 c = search needs
 -- src/coerce.rt:74:1
 returns-2 : tie.Need-returns-2
 returns-2 c =
-    none-known (c .before .before .before .before .before .before .before .before .before .before .before .before .args .swap) (none-hint (c .before .before .before .before .before .before .before .before .before .before .before .before .args .swap) (c .before .before .before .common2 .ensures .0))
+    none-hint (c .before .before .before .before .before .before .before .before .before .before .before .before .args .swap) (c .before .before .before .common2 .ensures .0)
 
 pub coerce-spec : {M : Type 1} → statement M
 coerce-spec =

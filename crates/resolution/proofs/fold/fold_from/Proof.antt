@@ -88,7 +88,7 @@ part-keeps-end c =
 -- src/fold.rt:111:17
 keeps-requires : tie.Need-keeps-requires Inv-loop μ-loop
 keeps-requires c κs =
-    (c .before .before .before .before .before .before .before .before .before .before .before .loop .inv .0 .0 .few)
+    search needs
 
 -- src/fold.rt:112:23
 step-list-requires : tie.Need-step-list-requires Inv-loop μ-loop

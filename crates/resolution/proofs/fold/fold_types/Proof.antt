@@ -10,7 +10,7 @@ use Rattle.buffers.specs.Plain.{rulesOf}
 use Rattle.buffers.specs.declared.Out.{Out}
 use Rattle.buffers.specs.declared.Question.the-variants as Question
 use Rattle.resolution.specs.Reached.{Reached}
-use Rattle.resolution.proofs.Folding.{reached-empty, reached-lost, types-null, types-behind, behind-on}
+use Rattle.resolution.proofs.Folding.{reached-empty, reached-lost, types-null, types-behind, behind-on, not-compared}
 use Rattle.resolution.proofs.fold.fold_types.Statement.{statement}
 use Rattle.resolution.proofs.fold.fold_types.Tie as tie
 use Rattle.resolution.proofs.fold.fold_types.Reads as reads
@@ -49,7 +49,7 @@ head-at-requires c κs =
 -- src/fold.rt:295:13
 fold-entry-requires : tie.Need-fold-entry-requires Inv-loop μ-loop
 fold-entry-requires c κs =
-    (c .before .before .before .before .before .before .before .loop .inv .0)
+    ((c .before .before .before .before .before .before .before .loop .inv .0), not-compared)
 
 -- src/fold.rt:295:13
 same-length-2 : tie.Need-same-length-2 Inv-loop μ-loop

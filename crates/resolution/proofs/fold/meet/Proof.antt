@@ -26,7 +26,7 @@ same-length c = search needs
 -- src/fold.rt:49:1
 returns : tie.Need-returns
 returns c =
-    met _ _ (c .before .before .before .before .before .before .before .before .before .before .before .pre .0) (c .before .before .before .before .before .before .before .mirror .ensures) (c .before .before .coerce .ensures)
+    met _ _ (c .before .before .before .before .before .before .before .before .before .before .before .pre .0 .0) (c .before .before .before .before .before .before .before .before .before .before .before .pre .1) (c .before .before .before .before .before .before .before .mirror .ensures) (c .before .before .coerce .ensures)
 
 pub meet-spec : {M : Type 1} → statement M
 meet-spec = tie.close (tie.spec mirror-requires mul-records coerce-requires same-length returns)

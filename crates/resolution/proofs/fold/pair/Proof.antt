@@ -1,7 +1,7 @@
 use native.Mathlib.Omega.{arith}
 use mathlib.Core.Path.{refl, sym, _∙_}
 use Rattle.buffers.specs.Plain.{rulesOf}
-use Rattle.resolution.proofs.Folding.{reached-empty, reached-lost, pair-one, pair-many, pair-on}
+use Rattle.resolution.proofs.Folding.{not-compared, reached-empty, reached-lost, pair-one, pair-many, pair-on}
 use Rattle.resolution.proofs.Leaves.{steps-joined}
 use borrow.Author.Needs.{needs}
 use Rattle.resolution.proofs.fold.pair.Statement.{statement}
@@ -80,7 +80,8 @@ returns-5 c =
 
 -- src/fold.rt:314:5
 meet-requires : tie.Need-meet-requires
-meet-requires c κs = search needs
+meet-requires c κs =
+    (((c .before .before .before .before .before .before .before .before .before .before .before .before .before .pre), omega arith), not-compared)
 
 -- src/fold.rt:282:1
 same-length-2 : tie.Need-same-length-2

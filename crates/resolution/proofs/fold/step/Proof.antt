@@ -22,7 +22,7 @@ same-length c = search needs
 -- src/fold.rt:23:1
 returns : tie.Need-returns
 returns c =
-    stepped _ _ (c .before .before .before .before .before .before .before .before .before .before .before .pre .0) (c .before .before .before .before .before .before .before .before .before .before .before .pre .1 .0) (c .before .before .before .before .before .before .before .shift .ensures) (c .before .before .coerce .ensures)
+    stepped _ _ (c .before .before .before .before .before .before .before .before .before .before .before .pre .0 .0) (c .before .before .before .before .before .before .before .before .before .before .before .pre .0 .1 .0) (c .before .before .before .before .before .before .before .before .before .before .before .pre .1) (c .before .before .before .before .before .before .before .shift .ensures) (c .before .before .coerce .ensures)
 
 pub step-spec : {M : Type 1} → statement M
 step-spec = tie.close (tie.spec shift-requires mul-left coerce-requires same-length returns)

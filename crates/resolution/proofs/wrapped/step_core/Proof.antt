@@ -1,8 +1,10 @@
 use mathlib.Core.Path.{refl, ap}
 use native.Mathlib.Omega.{arith}
+use mathlib.Core.Bool.{true}
 use Prim.Native.Nat.{ℕ, _-_}
 use Rattle.buffers.specs.Plain.{rulesOf}
 use Rattle.buffers.specs.declared.Question.the-variants as Question
+use Rattle.merge.proofs.Merging.{none-known}
 use Rattle.resolution.proofs.Shifting.{head-second}
 use Rattle.resolution.proofs.Cores.{core-lost, core-short, core-stepped}
 use borrow.Author.Needs.{needs}
@@ -85,7 +87,7 @@ same-length-2 c = search needs
 -- src/wrapped.rt:20:1
 returns-3 : tie.Need-returns-3
 returns-3 c =
-    core-stepped (rulesOf Question.List (c .before .before .before .before .before .before .before .before .before .before .before .before .before .before .before .before .before .before .before .before .before .before .args .mask)) _ (c .before .before .before .before .before .before .before .before .before .before .before .before .before .before .before .before .before .before .before .before .before .before .pre .0 .0) (c .before .before .before .before .before .before .before .before .before .before .before .before .before .before .before .before .before .before .before .before .before .before .pre .0 .1 .0) (c .before .before .before .before .before .before .before .before .before .before .before .before .before .before .before .before .before .before .before .before .before .before .pre .1) (c .before .before .before .before .before .before .before .before .before .before .before .before .before .before .head-at .result) (head-second (c .before .before .before .before .before .before .before .before .before .before .before .before .before .before .before .before .before .before .before .before .before .before .args .space) (c .before .before .before .before .before .before .before .before .before .before .before .before .before .before .before .before .before .before .before .before .before .before .args .work .now) (c .before .before .before .before .before .before .before .before .before .before .before .before .before .before .head-at .result) _ (c .before .before .before .before .before .before .before .before .before .before .before .before .before .before .head-at .ensures .0)) (c .before .before .coerce .result) refl (ap (λ (k : ℕ). (c .before .before .before .before .before .before .before .before .before .before .before .before .before .before .before .before .before .before .before .before .before .before .args .d .label) - k) (c .before .before .before .before .before .before .before .before .before .before .before .before .before .label-bytes .ensures .0)) (c .before .before .before .before .before .before .before .before .before .is-nullable .ensures) (c .before .before .before .before .before .before .before .shift .ensures) (c .before .before .coerce .ensures)
+    core-stepped (rulesOf Question.List (c .before .before .before .before .before .before .before .before .before .before .before .before .before .before .before .before .before .before .before .before .before .before .args .mask)) _ (c .before .before .before .before .before .before .before .before .before .before .before .before .before .before .before .before .before .before .before .before .before .before .pre .0 .0) (c .before .before .before .before .before .before .before .before .before .before .before .before .before .before .before .before .before .before .before .before .before .before .pre .0 .1 .0) (c .before .before .before .before .before .before .before .before .before .before .before .before .before .before .before .before .before .before .before .before .before .before .pre .1) (c .before .before .before .before .before .before .before .before .before .before .before .before .before .before .head-at .result) (head-second (c .before .before .before .before .before .before .before .before .before .before .before .before .before .before .before .before .before .before .before .before .before .before .args .space) (c .before .before .before .before .before .before .before .before .before .before .before .before .before .before .before .before .before .before .before .before .before .before .args .work .now) (c .before .before .before .before .before .before .before .before .before .before .before .before .before .before .head-at .result) _ (c .before .before .before .before .before .before .before .before .before .before .before .before .before .before .head-at .ensures .0)) (c .before .before .coerce .result) refl (ap (λ (k : ℕ). (c .before .before .before .before .before .before .before .before .before .before .before .before .before .before .before .before .before .before .before .before .before .before .args .d .label) - k) (c .before .before .before .before .before .before .before .before .before .before .before .before .before .label-bytes .ensures .0)) (c .before .before .before .before .before .before .before .before .before .is-nullable .ensures) (c .before .before .before .before .before .before .before .shift .ensures) (none-known true (c .before .before .coerce .ensures))
 
 pub step-core-spec : {M : Type 1} → statement M
 step-core-spec =

@@ -3,13 +3,12 @@ use mathlib.Core.Bool.{_&&_}
 use lib.Dec.{leb}
 use borrow.Author.Tests.{not-true, not-false, leb-true, leb-false}
 use Rattle.sheet.proofs.Tests.{never, and-fst, and-snd}
-use Rattle.values.proofs.Keeping.{keeps-same, keeps-alone, keeps-under, keeps-zoned}
+use Rattle.values.proofs.Keeping.{keeps-alone, keeps-under, keeps-zoned}
 use borrow.Author.Needs.{needs}
 use Rattle.values.proofs.keep.keeps.Statement.{statement}
 use Rattle.values.proofs.keep.keeps.Tie as tie
 use Rattle.values.proofs.keep.keeps.Reads as reads
 use Rattle.values.proofs.keep.keeps.Lts as lts
-use Rattle.buffers.proofs.alike.same_type.Reads as same-type-reads
 use Rattle.kinds.proofs.tests.both.Reads as both-reads
 use Rattle.values.proofs.keep.is_common.Reads as is-common-reads
 use Rattle.values.proofs.keep.stays_zoned.Reads as stays-zoned-reads
@@ -80,19 +79,10 @@ stays-zoned-requires c κs = search needs
 both-requires-2 : tie.Need-both-requires-2
 both-requires-2 c κs = search needs
 
--- src/keep.rt:108:9
+-- src/keep.rt:82:1
 returns-4 : tie.Need-returns-4
 returns-4 c =
-    λ z at t y a d. let b = sym (c .before .both2 .ensures) ∙ (c .if4 .taken) in keeps-zoned (c .before .before .before .before .before .before .before .before .before .before .before .before .before .args .mask) _ _ _ (c .before .before .before .before .before .before .before .before .before .before .head-at .ensures .0) (c .before .before .before .before .before .before .before .before .before .head-at2 .ensures .0) (c .before .before .before .before .before .before .before .before .head-at3 .ensures .0) at t y a d (leb-true 32 _ (and-fst (leb 32 ((c .before .before .before .before .before .before .before .before .head-at3 .result .kind))) _ b)) (sym (c .before .before .stays-zoned .ensures) ∙ and-snd (leb 32 ((c .before .before .before .before .before .before .before .before .head-at3 .result .kind))) _ b)
-
--- src/keep.rt:110:5
-same-type-requires : tie.Need-same-type-requires
-same-type-requires c κs = search needs
-
--- src/keep.rt:82:1
-returns-5 : tie.Need-returns-5
-returns-5 c =
-    λ z at. keeps-same (c .before .before .before .before .before .before .before .before .before .before .before .before .before .before .args .mask) (c .same-type .ensures) z
+    λ z at t y a d. let b = sym (c .both2 .ensures) ∙ z in keeps-zoned (c .before .before .before .before .before .before .before .before .before .before .before .before .args .mask) _ _ _ (c .before .before .before .before .before .before .before .before .before .head-at .ensures .0) (c .before .before .before .before .before .before .before .before .head-at2 .ensures .0) (c .before .before .before .before .before .before .before .head-at3 .ensures .0) at t y a d (leb-true 32 _ (and-fst (leb 32 ((c .before .before .before .before .before .before .before .head-at3 .result .kind))) _ b)) (sym (c .before .stays-zoned .ensures) ∙ and-snd (leb 32 ((c .before .before .before .before .before .before .before .head-at3 .result .kind))) _ b)
 
 pub keeps-spec : {M : Type 1} → statement M
 keeps-spec =
@@ -113,6 +103,4 @@ keeps-spec =
     returns-3
     stays-zoned-requires
     both-requires-2
-    returns-4
-    same-type-requires
-    returns-5)
+    returns-4)
