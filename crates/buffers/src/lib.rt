@@ -1,4 +1,4 @@
-// Types in lent buffers: whether two are the same, how one is copied or laid, which fields feed which, and the rules for types without parts.
+// Types in lent buffers: whether two are the same, how one is copied or laid, and the rules for types without parts.
 pub mod alike;
 pub mod copy;
 pub mod field;

@@ -20,7 +20,7 @@ use Rattle.buffers.specs.Writes.{side}
 use Rattle.buffers.specs.Goal.{CopiedType}
 use Rattle.buffers.specs.Typed.{Typed, Merges}
 use Rattle.buffers.specs.Plain.{asked, rulesOf, isListQuestion, plainRules}
-use Rattle.merge.specs.Turns.{nestedOf, resolved, unwrapped, eitherWrapped, rewrapped, turnsFor, turnsOf}
+use Rattle.turns.specs.Turns.{nestedOf, resolved, unwrapped, eitherWrapped, rewrapped, turnsFor, turnsOf}
 use Rattle.merge.specs.Known.{Known, FirstDifference}
 use Rattle.merge.specs.Merge.{MergesKnown, MergesHinted}
 use Rattle.buffers.specs.declared.Space.{Space}
@@ -29,7 +29,7 @@ use Rattle.buffers.specs.declared.Question.{Question}
 use Rattle.buffers.specs.declared.Question.the-variants as Question
 use Rattle.buffers.specs.declared.Out.{Out}
 use Rattle.buffers.specs.declared.Out.the-variants.{No}
-use Rattle.merge.proofs.Orders.{ask-turns, bare-turns, plain-turns}
+use Rattle.turns.proofs.Orders.{ask-turns, bare-turns, plain-turns}
 use Rattle.merge.proofs.Merging.{chain-some, nothing-known, typed-differs, any-known, none-known, hinted-within, known-as, as-known, merges-left, merges-none}
 use Rattle.merge.proofs.Turning.{resolve-dictionary, resolve-runs, wrap-left}
 use Rattle.buffers.proofs.Sameness.{shapes-unlike}

@@ -1,7 +1,6 @@
 pub mod Merging
 pub mod Knowing
 pub mod Joining
-pub mod Orders
 pub mod Asking
 pub mod Turning
 pub mod Structs

@@ -20,7 +20,7 @@ use Rattle.coercion.proofs.Maybe.{If, if-then}
 use Rattle.buffers.specs.Writes.{side}
 use Rattle.buffers.specs.Region.{Room, region, Kept, Grows, Ready, Named, Passes, Wrote, CopiedHead}
 use Rattle.buffers.specs.Goal.{letters, spotOf, fieldFor, Means, Writes, Laid, typeOf, shapeFor}
-use Rattle.merge.specs.Turns.{bothWrapped, mapRule}
+use Rattle.turns.specs.Turns.{bothWrapped, mapRule}
 use Rattle.buffers.specs.Typed.{Chain, Typed, Merges, ChainIs, goalAt, NamedAt}
 use Rattle.merge.specs.Known.{Known, RowsKnown, rowKnown}
 use Rattle.merge.specs.Merge.{MergesKnown, MergesField, fieldOf, Rowed, Under}

@@ -26,7 +26,7 @@ use Rattle.coercion.proofs.NestedRight.{coercion-sound}
 use Rattle.buffers.specs.Writes.{side}
 use Rattle.buffers.specs.Region.{Room, region, Kept, Grows, Wrote, CopiedHead}
 use Rattle.buffers.specs.Goal.{letters, Means, Writes, typeOf, shapeFor, Tied}
-use Rattle.merge.specs.Turns.{rewrap, rewrapped}
+use Rattle.turns.specs.Turns.{rewrap, rewrapped}
 use Rattle.buffers.specs.Typed.{Chain, Typed, Merges, ChainIs, CopiedField, isView, Viewed}
 use Rattle.merge.specs.Merge.{Tabled, MergesField, fieldOf}
 use Rattle.buffers.specs.declared.Space.{Space}

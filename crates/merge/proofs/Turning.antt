@@ -25,7 +25,8 @@ use Rattle.buffers.specs.Region.{Room, Kept}
 use Rattle.buffers.specs.Goal.{letters, Means, CopiedType, shapeFor}
 use Rattle.buffers.specs.Steps.{Reads, listKind, listSize}
 use Rattle.buffers.specs.Plain.{isListQuestion, plainRules}
-use Rattle.merge.specs.Turns.{structRule, nestedOf, listRule, mapRule, bothWrapped, rewrapped, eitherWrapped, resolved, wrapperRule, unwrapped}
+use Rattle.turns.proofs.Orders.{map-turns}
+use Rattle.turns.specs.Turns.{structRule, nestedOf, listRule, mapRule, bothWrapped, rewrapped, eitherWrapped, resolved, wrapperRule, unwrapped}
 use Rattle.buffers.specs.Typed.{Typed, Merges}
 use Rattle.merge.specs.Known.{Known, rowKnown}
 use Rattle.merge.specs.Merge.{MergesKnown, MergesHinted, Under}
@@ -341,10 +342,10 @@ module _ (known : ℕ) (named : Bool) (rules : Rules) (c : DataType → DataType
 
     module _ (h : (eqb k 35 && eqb j 35) ≡ false) where
       pub nested-map : (eqb k 36 && eqb j 36) ≡ true → MergesKnown known named (mapRule c) space (left + 1) swap s w v l r g o → MergesKnown known named (nestedOf rules c) space (left + 1) swap s w v l r g o
-      unfolding nestedOf mapCoercion
+      unfolding nestedOf
       nested-map e =
           known-as (nestedOf rules c) space swap s w v l r g o known (left + 1) (omega arith)
-          (λ X Y a b d. (rw (lists a b ∙ n) (rw (are a b 35 ∙ h) (rw (are a b 36 ∙ e) refl)), d))
+          (λ X Y a b d. (rw (lists a b ∙ n) (rw (are a b 35 ∙ h) (rw (are a b 36 ∙ e) (map-turns c X Y (are a b 36 ∙ e)))), d))
 
       pub nested-plain : (eqb k 36 && eqb j 36) ≡ false → ((i : ℕ) → Merges (plainRules rules) space i swap s w v l r g o) → MergesKnown known named (nestedOf rules c) space (left + 1) swap s w v l r g o
       unfolding nestedOf

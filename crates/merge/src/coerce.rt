@@ -11,7 +11,7 @@ ghost use Rattle.buffers.specs.Region.{Room, Inside, Ready};
 ghost use Rattle.buffers.specs.Goal.{shapeFor};
 ghost use Rattle.buffers.specs.Plain.{asked, rulesOf, isListQuestion};
 ghost use Rattle.wrappers.specs.Ways.{isWrapper};
-ghost use Rattle.merge.specs.Turns.{resolved, unwrapped, wrapperRule, eitherWrapped, nestedOf, bothWrapped, rewrapped, listRule, mapRule};
+ghost use Rattle.turns.specs.Turns.{resolved, unwrapped, wrapperRule, eitherWrapped, nestedOf, bothWrapped, rewrapped, listRule, mapRule};
 ghost use Rattle.buffers.specs.Typed.{Merges};
 ghost use Rattle.merge.specs.Merge.{Tabled, MergesKnown, MergesHinted, StructFed, MergesField, Rowed, Under};
 use crate::known::first_difference;

@@ -32,7 +32,7 @@ use Rattle.buffers.specs.declared.Space.{Space}
 use Rattle.buffers.specs.declared.Step.{Step}
 use Rattle.buffers.specs.declared.Step.the-variants as Step
 use Rattle.buffers.proofs.Sources.{read-shape}
-use Rattle.merge.proofs.Orders.{ask-turns, plain-turns}
+use Rattle.turns.proofs.Orders.{ask-turns, plain-turns}
 use Rattle.merge.proofs.Merging.{typed-kind, type-differ}
 use Rattle.merge.proofs.Rewrapping.{end-is}
 use Rattle.values.specs.declared.value.Leaf.{Leaf}

@@ -27,7 +27,7 @@ use Rattle.rules.proofs.Moments.{above}
 use Rattle.coercion.proofs.Words.{or-none, rulesFor}
 use Rattle.buffers.specs.Plain.{isListQuestion, stringTime, plainRules}
 use Rattle.wrappers.proofs.Unwrapping.{wrapper-none}
-use Rattle.merge.specs.Turns.{structRule, nestedOf, eitherWrapped, resolved, unwrapped, turnsFor, turnsOf}
+use Rattle.turns.specs.Turns.{structRule, mapRule, nestedOf, eitherWrapped, resolved, unwrapped, turnsFor, turnsOf}
 
 -- answers with others between them that are none
 data Among : List (Option DataType) → List (Option DataType) → Type 0 where
@@ -295,3 +295,8 @@ module _ (rules : Rules) (c : DataType → DataType → Option DataType) (l r : 
 
   pub plain-turns : plainRules rules l r ≡ turnsOf rules c l r
   plain-turns = plain-nested ∙ bare-turns rules c l r (omega arith) (omega arith)
+
+-- two maps, by their entries
+pub map-turns : (c : DataType → DataType → Option DataType) (l r : DataType) → (isOf Kind.map l && isOf Kind.map r) ≡ true → mapRule c l r ≡ mapCoercion c l r
+unfolding mapCoercion
+map-turns c l r e = rw e refl
