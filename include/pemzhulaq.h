@@ -66,7 +66,7 @@ enum pemzhulaq_answer {
  * `work` have `output_len` and `work_len` bytes that can be written; the three
  * do not overlap, and nobody else writes them during the call. No pointer is
  * null, not even where its length is 0. Nothing else is asked: any bytes, any
- * mask and any lengths will do. A call needs up to 1 MiB of stack for the
+ * mask and any lengths will do. A call needs up to 1.25 MiB of stack for the
  * deepest sheets (measured, not proved), keeps no pointer and has no state.
  *
  * The call answers

@@ -19,7 +19,7 @@
 //! - [`sheet`]: types as bytes, both ways.
 //! - [`raw`]: the calls over bytes and lent buffers, without any allocation.
 //!
-//! A call uses up to 1 MiB of stack for the deepest sheets (measured, not proved); the threads of
+//! A call uses up to 1.25 MiB of stack for the deepest sheets (measured, not proved); the threads of
 //! Rust's standard library have 2 MiB.
 
 pub mod coerce;

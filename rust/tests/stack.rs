@@ -1,4 +1,4 @@
-//! The deepest and widest sheets, asked about on a thread with 1 MiB of stack.
+//! The deepest and widest sheets, asked about on a thread with 1.25 MiB of stack.
 
 mod common;
 
@@ -29,7 +29,7 @@ fn wide_struct(count: usize, data_type: DataType) -> DataType {
 }
 
 #[test]
-fn one_mebibyte_is_enough() {
+fn five_quarters_of_a_mebibyte_are_enough() {
     let pairs = [
         vec![deep_list(1022)],
         vec![deep_list(510), deep_list(510)],
@@ -50,5 +50,5 @@ fn one_mebibyte_is_enough() {
             }
         }
     };
-    std::thread::Builder::new().stack_size(1 << 20).spawn(ask).unwrap().join().unwrap();
+    std::thread::Builder::new().stack_size(5 << 18).spawn(ask).unwrap().join().unwrap();
 }
