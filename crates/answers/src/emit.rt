@@ -5,6 +5,7 @@ ghost use Rattle.buffers.specs.Region.{Room, Inside};
 ghost use Rattle.answers.specs.Code.{zeroed, Emits};
 
 use buffers::{Space, Spot};
+use sheet::label::copy;
 
 // Writes a sheet's header to the front of an output.
 fn write_header(n: usize, m: usize, output: &mut [u8])
@@ -29,7 +30,7 @@ fn write_header(n: usize, m: usize, output: &mut [u8])
         0,
         0,
     ];
-    bytes::copy(&bytes, output);
+    copy(&bytes, output);
 }
 
 // Writes the one-type sheet of the type that ends at d in the second half of the work space to the front of an output.
@@ -43,8 +44,8 @@ pub(crate) fn write_type(work: &[u8], space: Space, d: Spot, output: &mut [u8])
     let labels_end = labels + d.label;
     let end = 16 * d.at;
     write_header(d.at, d.label, output);
-    bytes::copy(&work[records..records_end], &mut output[16..]);
-    bytes::copy(&work[labels..labels_end], &mut output[end..]);
+    copy(&work[records..records_end], &mut output[16..]);
+    copy(&work[labels..labels_end], &mut output[end..]);
 }
 
 // Sets the first len bytes of a work space to zero.

@@ -1,4 +1,6 @@
 // The three answers over sheets and lent buffers. No call has a condition of its own: it takes any bytes and any mask.
+#![tactic(auto)]
+
 mod emit;
 mod refuse;
 
@@ -17,7 +19,7 @@ use refuse::{number_of, refused};
 use sheet::Checked;
 
 // What a call reports: a refusal number; no type; or a type, with the byte length of its one-type sheet, which is at the front of the output.
-#[derive(Drop)]
+#[derive(Clone, Copy)]
 pub enum Answer {
     Refused(u8),
     Nothing,

@@ -5,7 +5,7 @@ ghost use Rattle.sheet.specs.Bounds.{Bounded};
 ghost use Rattle.buffers.specs.Writes.{side, Put};
 
 use sheet::Head;
-use sheet::label::{fill, label_at};
+use sheet::label::{copy, fill, label_at};
 use sheet::record::head_at;
 
 // The head of record r of a side.
@@ -39,7 +39,7 @@ pub(crate) fn put(work: &mut [u8], at: usize, bytes: &[u8])
     requires { at + length bytes.now ≤ length work.old }
     ensures { Put work.old work.new at bytes.now }
 {
-    bytes::copy(bytes, &mut work[at..]);
+    copy(bytes, &mut work[at..]);
 }
 
 // Puts the sixteen bytes of a head into a buffer.

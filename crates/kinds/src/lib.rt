@@ -1,2 +1,4 @@
 // Tests on kinds.
+#![tactic(auto)]
+
 pub mod tests;

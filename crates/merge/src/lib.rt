@@ -1,3 +1,5 @@
 // The merge of two types in lent buffers.
+#![tactic(auto)]
+
 pub mod coerce;
 mod known;

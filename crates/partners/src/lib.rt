@@ -1,4 +1,6 @@
 // Which fields of the right feed those of the left.
+#![tactic(auto)]
+
 mod index;
 pub mod names;
 pub mod rows;

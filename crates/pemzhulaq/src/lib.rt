@@ -1,4 +1,6 @@
 // The three calls for programs in other languages, which link the static library: a slice is a pointer and a length, an answer is one number.
+#![tactic(auto)]
+
 ghost use Rattle.std.specs.Prelude.{◌≡◌};
 ghost use Rattle.coercion.specs.Data as Data;
 ghost use Rattle.answers.specs.Call.{outcome};

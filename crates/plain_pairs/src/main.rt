@@ -2,6 +2,8 @@
 //
 // The file: the number of types, in two bytes; the types; and for each left and each right the answers to list, union and compare.
 // A type or an answer is four bytes, and four zeros are none. oracle/README.md says how they were made (`plain`).
+#![tactic(auto)]
+
 pub mod pairs;
 pub mod plain;
 pub mod questions;
@@ -12,7 +14,7 @@ use crate::plain::{Plain, nothing, same};
 use libc::STDOUT_FILENO;
 
 // The answers that were compared, how many differ, and the first that does; and whether the file is too short or too long.
-#[derive(Drop)]
+#[derive(Clone, Copy)]
 struct Tally {
     answers: u64,
     wrong: u64,

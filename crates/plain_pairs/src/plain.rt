@@ -6,7 +6,7 @@ ghost use Rattle.plain_pairs.specs.Plain.{no_type, same_plain, first_of, figures
 use coercion::{Common, Figures, Found, Moment, Side};
 
 // The zone is a number for a Timestamp's zone, 0 for none, or the size of a FixedSizeBinary. Kind 0 is no type.
-#[derive(Drop)]
+#[derive(Clone, Copy)]
 pub struct Plain {
     pub kind: u8,
     pub figure: u8,

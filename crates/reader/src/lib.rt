@@ -1,5 +1,7 @@
 // A thin reader of a sheet: it borrows the bytes and stands at a record. Each of its functions takes it apart and calls one of `record`, which
 // the prover covers; `look` serves callers that have a slice and a record number.
+#![tactic(auto)]
+
 ghost use Rattle.std.specs.Prelude.{◌≡◌};
 ghost use Rattle.reader.specs.Record.{listed_at, kind_at, first_at, next_at, name_at, entry_at};
 
@@ -9,14 +11,14 @@ pub mod list;
 pub mod record;
 
 // A sheet and the record at which it is read, 0 where a chain has ended.
-#[derive(Drop)]
+#[derive(Clone, Copy)]
 pub struct Reader<'a> {
     pub sheet: &'a [u8],
     pub at: usize,
 }
 
 // What a record says of itself: its kind, and the records of its first part and of its next.
-#[derive(Drop)]
+#[derive(Clone, Copy)]
 pub struct Entry {
     pub kind: u8,
     pub first: usize,

@@ -11,7 +11,7 @@ use refusals::check;
 use sheet::{Checked, Refusal};
 
 // What a listing reports: why the sheet is refused, or how many types it lists.
-#[derive(Drop)]
+#[derive(Clone, Copy)]
 pub enum Listing {
     Refused(Refusal),
     Types(usize),

@@ -1,4 +1,6 @@
 // The check of a sheet, which gives refusals 1 to 5.
+#![tactic(auto)]
+
 pub mod header;
 mod pass;
 mod walk;
@@ -16,7 +18,7 @@ use sheet::{Checked, Refusal};
 use walk::walk_all;
 
 // What a walk has found so far: the next record, the next label, and whether a figure or a label is wrong.
-#[derive(Drop)]
+#[derive(Clone, Copy)]
 struct Progress {
     due: usize,
     at: usize,
@@ -25,7 +27,7 @@ struct Progress {
 }
 
 // A walk along a chain: how far it came and how many records the chain has; or a link that leads elsewhere, or a wrong number of parts.
-#[derive(Drop)]
+#[derive(Clone, Copy)]
 enum Walked {
     Came(Progress, usize),
     Lost,

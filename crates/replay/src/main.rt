@@ -1,6 +1,8 @@
 // Runs the stored calls of data/calls.bin and compares what they answer, and what they leave in the output and the work space, with what is stored.
 //
 // oracle/vectors/README.md has the form of the file and says how it was made.
+#![tactic(auto)]
+
 pub mod spaces;
 pub mod stored;
 
@@ -17,7 +19,7 @@ const ROOM: usize = 20000;
 const GUARD: usize = 64;
 
 // What a call answered, and whether it left the output and the work space as it should.
-#[derive(Drop)]
+#[derive(Clone, Copy)]
 struct Given {
     number: u8,
     length: usize,
@@ -25,7 +27,7 @@ struct Given {
     work: bool,
 }
 
-#[derive(Drop)]
+#[derive(Clone, Copy)]
 enum Turn {
     End,
     Broken,
@@ -33,7 +35,7 @@ enum Turn {
 }
 
 // The calls that were run, how many went wrong, and the first of those; and how the reading stopped.
-#[derive(Drop)]
+#[derive(Clone, Copy)]
 struct Tally {
     calls: u64,
     wrong: u64,

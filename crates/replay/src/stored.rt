@@ -12,7 +12,7 @@ pub const COMPARE: u8 = 3;
 pub const TYPE: u8 = 32;
 
 // A stored call without its bytes: its question, the answer that is expected, lengths and the mask.
-#[derive(Drop)]
+#[derive(Clone, Copy)]
 pub struct Vector {
     pub question: u8,
     pub expected: u8,
@@ -23,7 +23,7 @@ pub struct Vector {
     pub mask: u64,
 }
 
-#[derive(Drop)]
+#[derive(Clone, Copy)]
 pub enum Entry {
     End,
     Broken,

@@ -1,4 +1,6 @@
 // The answer for the listed types of a sheet, in work space: the fold of a list, and the one pair of a union or a comparison.
+#![tactic(auto)]
+
 mod fold;
 mod front;
 mod list;

@@ -3,7 +3,7 @@ ghost use Rattle.std.specs.Prelude.{◌≡◌, Bool, not, ◌-◌, ◌≤◌, le
 ghost use Rattle.rules.specs.Zones.{side, part_of, choice};
 
 // Where a zone stands: whether it is present, where it begins and where it ends. A present one may be empty.
-#[derive(Drop)]
+#[derive(Clone, Copy)]
 pub struct Place {
     pub present: bool,
     pub from: usize,

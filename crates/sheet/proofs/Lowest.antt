@@ -16,10 +16,12 @@ From n [] = Unit
 From n (c ∷ cs) = (n < c.number) × From c.number cs
 
 above : {k : ℕ} (n : ℕ) (cs : List Condition) → From n cs → Applies cs k → n < k
+above n [] f a = elim a [ ]
 above n (c ∷ cs) f (here e) = f.0
 above n (c ∷ cs) f (later a) = omega (arith, f.0, above c.number cs f.1 a)
 
 least : {k : ℕ} (n : ℕ) (cs : List Condition) → From n cs → Applies cs k → first_met cs ≤ k
+least n [] f a = elim a [ ]
 least {k} n (c ∷ cs) f (here e) = let g : first_met (c ∷ cs) ≡ c.number = rw e in omega arith
 least {k} n (c ∷ cs) f (later a) = go c.met (least c.number cs f.1 a)
   where

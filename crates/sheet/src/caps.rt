@@ -3,7 +3,7 @@ ghost use Rattle.std.specs.Prelude.{◌≡◌, ◌≤◌};
 ghost use Rattle.sheet.specs.Kind.{cap};
 ghost use Rattle.sheet.specs.Caps.{cap_of, width_of};
 
-#[derive(Drop)]
+#[derive(Clone, Copy)]
 pub enum Width {
     W32,
     W64,

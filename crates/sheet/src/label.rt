@@ -1,5 +1,5 @@
 // Labels: parts of a sheet, and whether two are the same bytes.
-ghost use Rattle.std.specs.Prelude.{◌≡◌, false, length, take, drop};
+ghost use Rattle.std.specs.Prelude.{◌≡◌, ◌++◌, false, length, take, drop};
 ghost use Prim.Native.Nat.{◌+◌, ◌*◌, ◌-◌, ◌<◌, ◌≤◌};
 ghost use Rattle.sheet.specs.Read.{label_at};
 ghost use Rattle.sheet.specs.Names.{same_bytes, stir, mixed};
@@ -70,6 +70,16 @@ pub fn same(a: &[u8], b: &[u8]) -> bool
     eight_at(a, last) == eight_at(b, last)
 }
 
+// Copies a string to the front of a buffer that has room for it, and says how long it is.
+pub fn copy(src: &[u8], dst: &mut [u8]) -> usize
+    requires { length src.now ≤ length dst.old }
+    ensures count { result ≡ length src.now }
+    ensures bytes { dst.new ≡ take (length src.now) src.now ++ drop (length src.now) dst.old }
+{
+    dst[..src.len()].copy_from_slice(src);
+    src.len()
+}
+
 // Fills a buffer from the front with the m bytes of s from a on, as far as s has them, and says how many they were.
 pub fn fill(s: &[u8], a: usize, m: usize, buf: &mut [u8]) -> usize
     requires { m ≤ length buf.old }
@@ -80,9 +90,9 @@ pub fn fill(s: &[u8], a: usize, m: usize, buf: &mut [u8]) -> usize
         return 0;
     }
     if m <= n - a {
-        bytes::copy(&s[a..a + m], buf)
+        copy(&s[a..a + m], buf)
     } else {
-        bytes::copy(&s[a..], buf)
+        copy(&s[a..], buf)
     }
 }
 

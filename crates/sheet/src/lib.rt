@@ -1,10 +1,12 @@
 // The sheet of document 01: its records, figures and labels, and how they are read.
+#![tactic(auto)]
+
 pub mod caps;
 pub mod figure;
 pub mod label;
 pub mod record;
 
-#[derive(Drop)]
+#[derive(Clone, Copy)]
 pub struct Head {
     pub kind: u8,
     pub flags: u8,
@@ -18,7 +20,7 @@ pub struct Head {
     pub last: u8,
 }
 
-#[derive(Drop)]
+#[derive(Clone, Copy)]
 pub enum Refusal {
     Torn,
     Kind,
@@ -27,7 +29,7 @@ pub enum Refusal {
     Label,
 }
 
-#[derive(Drop)]
+#[derive(Clone, Copy)]
 pub enum Checked {
     Refused(Refusal),
     Accepted(usize, usize),

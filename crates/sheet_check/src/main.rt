@@ -2,27 +2,29 @@
 //
 // An entry is 12 bytes, integers little-endian, and then the sheet: byte 0 the refusal number, 0 for an accepted one,
 // bytes 2-3 n and 4-5 m of an accepted one, bytes 8-11 the sheet's length. vectors/README.md says how they were made.
+#![tactic(auto)]
+
 ghost use Rattle.std.specs.Prelude.{◌≡◌, ◌+◌, ◌^◌, ◌<◌, ◌≤◌};
 
 use libc::STDOUT_FILENO;
 use sheet::{Checked, Refusal};
 
 // A refusal number, or 0 with the n and m of an accepted sheet.
-#[derive(Drop)]
+#[derive(Clone, Copy)]
 struct Verdict {
     number: u8,
     n: usize,
     m: usize,
 }
 
-#[derive(Drop)]
+#[derive(Clone, Copy)]
 enum Entry {
     End,
     Broken,
     Sheet(Verdict, usize),
 }
 
-#[derive(Drop)]
+#[derive(Clone, Copy)]
 enum Turn {
     End,
     Broken,
@@ -30,7 +32,7 @@ enum Turn {
 }
 
 // The sheets that were run, how many went wrong, and the first of those; and how the reading stopped.
-#[derive(Drop)]
+#[derive(Clone, Copy)]
 struct Tally {
     sheets: u64,
     wrong: u64,

@@ -2,6 +2,8 @@
 //
 // A line is the question and then the kind, byte 2, signed scale and number of records of the answer, its header left out; or
 // `none`; or `refused` and the number.
+#![tactic(auto)]
+
 ghost use Rattle.std.specs.Prelude.{◌<◌};
 
 use answers::Answer;

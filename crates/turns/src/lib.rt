@@ -1,1 +1,2 @@
 // The order in which the merge tries the rules of the source, and that it gives the source's answers: definitions and laws, no function.
+#![tactic(auto)]

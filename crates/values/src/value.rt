@@ -12,7 +12,7 @@ use coercion::Figures;
 use sheet::Head;
 
 // A type without parts, zone or order.
-#[derive(Drop)]
+#[derive(Clone, Copy)]
 pub struct Leaf {
     pub kind: u8,
     pub figure: u8,
@@ -21,7 +21,7 @@ pub struct Leaf {
 }
 
 // The common type of two such types, or none.
-#[derive(Drop)]
+#[derive(Clone, Copy)]
 pub enum Joint {
     Of(Leaf),
     Nothing,

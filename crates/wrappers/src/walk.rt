@@ -175,7 +175,7 @@ fn kind_for(dictionary: bool) -> u8
 }
 
 // The wrapper whose rule is asked of two types, 0 where no answer is possible, and what is known of the types that the rule goes on with.
-#[derive(Drop)]
+#[derive(Clone, Copy)]
 pub struct Turn {
     pub kind: u8,
     pub hint: u8,

@@ -1,0 +1,13 @@
+use Rattle.answers.specs.Code.{call_of}
+use Rattle.answers.proofs.Refusing.{checked_accepted}
+use Rattle.answers.proofs.Calling.{refused_sheet}
+use borrow.Author.Rules.{rules}
+use Rattle.answers.proofs.call.Goals as goal
+
+pub call_accepted-requires : goal.call_accepted-requires
+call_accepted-requires c =
+    checked_accepted _ _ _ (rw c.n-1.given.1 at c.check_whole.ensures)
+
+pub returns-in-Refused : goal.returns-in-Refused
+returns-in-Refused c =
+    refused_sheet (call_of c.args.question c.args.sheet.now c.args.mask c.args.output.now c.args.work.now) c.r-1.given.0.0 _ (rw c.r-1.given.1 at c.check_whole.ensures) c.number_of.ensures

@@ -1,0 +1,12 @@
+use mathlib.Core.Path.{sym, ◌∙◌}
+use Rattle.answers.proofs.Calling.{torn_call}
+use borrow.Author.Rules.{rules}
+use Rattle.answers.proofs.comparison_coercion.Goals as goal
+
+pub returns-then-is_torn : goal.returns-then-is_torn
+returns-then-is_torn c =
+    torn_call _ (sym c.is_torn.ensures ∙ c.if-is_torn.true)
+
+pub call-requires : goal.call-requires
+call-requires c =
+    sym c.is_torn.ensures ∙ c.if-is_torn.false

@@ -1,0 +1,16 @@
+use native.Mathlib.Omega.{arith}
+use borrow.Author.Rules.{rules}
+use Prim.Native.Nat.{◌-◌, ◌≤◌}
+use mathlib.Core.Path.{◌≡◌, refl, ◌∙◌}
+use lib.ListN.{length, length-set}
+use Rattle.answers.specs.Code.{zeroed}
+use Rattle.answers.proofs.Emitting.{zero_next, zero_done}
+use Rattle.answers.proofs.emit.clear.Given as goal
+
+abbrev pub invariant-loop-i : goal.invariant-loop-i
+invariant-loop-i l =
+    (l.i ≤ l.len) × ((length l.work ≡ length l.initial.work) × (l.work ≡ zeroed l.i l.initial.work))
+
+abbrev pub decreases-loop-i : goal.decreases-loop-i
+decreases-loop-i l =
+    l.len - l.i

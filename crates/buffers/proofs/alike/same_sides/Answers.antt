@@ -1,0 +1,7 @@
+use borrow.Author.Rules.{rules}
+use Rattle.buffers.proofs.Sameness.{types_same}
+use Rattle.buffers.proofs.alike.same_sides.Goals as goal
+
+pub returns : goal.returns
+returns c =
+    types_same _ _ _ _ _ _ _ _ c.differ_sides.ensures

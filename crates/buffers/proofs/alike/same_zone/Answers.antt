@@ -1,0 +1,8 @@
+use mathlib.Core.Path.{◌∙◌, ap₂}
+use Rattle.sheet.specs.Names.{same_bytes}
+use borrow.Author.Rules.{rules}
+use Rattle.buffers.proofs.alike.same_zone.Goals as goal
+
+pub returns : goal.returns
+returns c =
+    c.same.ensures ∙ ap₂ same_bytes c.label_at.ensures c.label_at-2.ensures

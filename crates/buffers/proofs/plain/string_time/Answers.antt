@@ -1,0 +1,13 @@
+use mathlib.Core.Path.{sym, ◌∙◌}
+use Rattle.buffers.specs.Plain.{asked}
+use Rattle.buffers.proofs.Steps.{string_zone, time_listed, time_paired}
+use borrow.Author.Rules.{rules}
+use Rattle.buffers.proofs.plain.string_time.Goals as goal
+
+pub returns-then-is_list_question : goal.returns-then-is_list_question
+returns-then-is_list_question c =
+    λ l r p q. sym (time_listed (asked c.args.question) l r (sym c.is_list_question.ensures ∙ c.if-is_list_question.true))
+
+pub returns : goal.returns
+returns c =
+    λ l r p q. let e = c.string_temporal_coercion.ensures l r p.kind p.figure q.kind q.figure in c.of_moment.ensures l r (rw e (string_zone l r p q)) ∙ e ∙ sym (time_paired (asked c.args.question) l r (sym c.is_list_question.ensures ∙ c.if-is_list_question.false))

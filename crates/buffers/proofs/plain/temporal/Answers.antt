@@ -1,0 +1,15 @@
+use mathlib.Core.Path.{sym, ◌∙◌, ap}
+use Rattle.buffers.proofs.Steps.{times_read}
+use Rattle.coercion.specs.Times.{temporal_coercion_nonstrict_timezone}
+use Rattle.coercion.specs.Data.{as_type}
+use borrow.Author.Rules.{rules}
+use Rattle.buffers.proofs.plain.temporal.Goals as goal
+
+pub returns-then-both : goal.returns-then-both
+unfolding temporal_coercion_nonstrict_timezone
+returns-then-both c =
+    λ l r p q. rw (p.kind, q.kind, p.figure, q.figure, sym c.both.ensures ∙ c.if-both.true, c.timeunit_coercion.ensures)
+
+pub returns : goal.returns
+returns c =
+    λ l r p q. c.of_common.ensures l r ∙ ap as_type c.temporal_coercion.ensures ∙ sym (times_read l r p.kind q.kind (sym c.both.ensures ∙ c.if-both.false))

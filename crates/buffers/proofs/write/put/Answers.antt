@@ -1,0 +1,10 @@
+use borrow.Author.Rules.{rules}
+use Prim.Native.Nat.{◌-◌}
+use mathlib.Core.Path.{refl}
+use Rattle.buffers.proofs.Puts.{put_part}
+use borrow.Author.Rules.{rules}
+use Rattle.buffers.proofs.write.put.Goals as goal
+
+pub returns : goal.returns
+returns c =
+    put_part c.args.work.now c.args.bytes.now _ c.args.at _ c.requires refl c.copy.ensures.1

@@ -1,0 +1,18 @@
+use Prim.Native.Nat.{ℕ, ◌-◌, ◌<◌, ◌≤◌}
+use mathlib.Core.Path.{◌≡◌, refl, sym, ◌∙◌}
+use native.Mathlib.Omega.{arith}
+use borrow.Author.Count.{below_more}
+use borrow.Author.Rules.{rules}
+use Rattle.sheet.specs.Read.{label_at}
+use Rattle.names.specs.Twins.{placed}
+use Rattle.sheet.proofs.Bytewise.{same_equal}
+use Rattle.names.proofs.Naming.{names, not_same, name_here, next_here}
+use Rattle.names.proofs.twins.named.Given as goal
+
+abbrev pub invariant-loop-i : goal.invariant-loop-i
+invariant-loop-i l =
+    (l.at ≡ placed l.s l.link l.i) × ((l.i ≤ l.k) × ((j : ℕ) → j < l.i → names l.s l.n l.link j ≡ label_at l.s l.n l.h.name l.h.nlen → ⊥))
+
+abbrev pub decreases-loop-i : goal.decreases-loop-i
+decreases-loop-i l =
+    l.k - l.i

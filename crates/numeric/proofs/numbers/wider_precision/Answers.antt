@@ -1,0 +1,7 @@
+use native.Mathlib.Omega.{arith}
+use borrow.Author.Rules.{rules}
+use Rattle.numeric.proofs.numbers.wider_precision.Goals as goal
+
+pub returns : goal.returns
+returns c =
+    (cc, omega arith)

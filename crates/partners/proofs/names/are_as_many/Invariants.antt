@@ -1,0 +1,13 @@
+use native.Mathlib.Omega.{arith}
+use borrow.Author.Rules.{rules}
+use Prim.Native.Nat.{◌-◌}
+use Rattle.partners.proofs.Naming.{Counted, same_arity, asks_past, arity_none, arity_short, arity_on}
+use Rattle.partners.proofs.names.are_as_many.Given as goal
+
+abbrev pub invariant-loop-low : goal.invariant-loop-low
+invariant-loop-low l =
+    Counted l.n l.s l.t l.floor l.l l.r l.low l.i l.j
+
+abbrev pub decreases-loop-low : goal.decreases-loop-low
+decreases-loop-low l =
+    l.n - l.low

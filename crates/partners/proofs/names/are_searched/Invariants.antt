@@ -1,0 +1,14 @@
+use Prim.Native.Nat.{◌-◌, ◌≤◌}
+use native.Mathlib.Omega.{arith}
+use borrow.Author.Rules.{rules}
+use mathlib.Core.Path.{◌∙◌}
+use Rattle.partners.proofs.Naming.{label_short, Matching, match_from, match_none, match_rest, match_past, match-lack, match-on}
+use Rattle.partners.proofs.names.are_searched.Given as goal
+
+abbrev pub invariant-loop-low : goal.invariant-loop-low
+invariant-loop-low l =
+    Matching l.n l.s l.t l.floor l.l l.r l.key l.initial.table l.low l.i l.table × (l.k ≤ 4)
+
+abbrev pub decreases-loop-low : goal.decreases-loop-low
+decreases-loop-low l =
+    l.n - l.low

@@ -1,0 +1,11 @@
+use mathlib.Core.Path.{refl}
+use borrow.Author.Rules.{rules}
+use Rattle.partners.proofs.names.in_order.Goals as goal
+
+pub returns-then-swap : goal.returns-then-swap
+returns-then-swap c =
+    rw c.if-swap.true (c.are_in_order.ensures _ refl)
+
+pub returns-else-swap : goal.returns-else-swap
+returns-else-swap c =
+    rw c.if-swap.false (c.are_in_order-else-swap.ensures _ refl)

@@ -1,0 +1,34 @@
+use native.Mathlib.Omega.{arith}
+use mathlib.Core.Path.{refl, sym, ap}
+use mathlib.Core.Bool.{not}
+use Rattle.refusals.proofs.Verdicts.{few_differ, found_short, found_figure, found-label, found-end, found-twins, found-sheet}
+use borrow.Author.Rules.{rules}
+use Rattle.refusals.proofs.check_found.Goals as goal
+
+pub returns-then-p-n : goal.returns-then-p-n
+returns-then-p-n c =
+    found_short _ _ _ _ _ c.requires c.if-p-n.true
+
+pub returns-then-p : goal.returns-then-p
+returns-then-p c =
+    found_figure _ _ _ _ _ c.requires c.if-p-n.false c.if-p.true
+
+pub returns-then-p-2 : goal.returns-then-p-2
+returns-then-p-2 c =
+    found-label _ _ _ _ _ c.requires c.if-p-n.false c.if-p.false c.if-p-2.true
+
+pub returns-then-p-m : goal.returns-then-p-m
+returns-then-p-m c =
+    found-end _ _ _ _ _ c.requires c.if-p-n.false c.if-p.false c.if-p-2.false c.if-p-m.true
+
+pub returns-then-n-lt4 : goal.returns-then-n-lt4
+returns-then-n-lt4 c =
+    found-sheet _ _ _ _ _ c.requires c.if-p-n.false c.if-p.false c.if-p-2.false c.if-p-m.false (λ i. (c.shared_slice_known-1.given i).fits) (λ o t h e. ap not (sym (few_differ t (omega (arith, e, c.if-n-lt4.true))))) refl
+
+pub returns-then-twins : goal.returns-then-twins
+returns-then-twins c =
+    found-twins _ _ _ _ _ c.requires c.if-p-n.false c.if-p.false c.if-p-2.false c.if-p-m.false (λ i. (c.shared_slice_known-1.given i).fits) c.twins.ensures c.if-twins.true
+
+pub returns : goal.returns
+returns c =
+    found-sheet _ _ _ _ _ c.requires c.if-p-n.false c.if-p.false c.if-p-2.false c.if-p-m.false (λ i. (c.shared_slice_known-1.given i).fits) c.twins.ensures c.if-twins.false

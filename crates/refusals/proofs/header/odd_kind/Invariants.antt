@@ -1,0 +1,17 @@
+use native.Mathlib.Omega.{arith}
+use Prim.Native.Nat.{◌+◌, ◌-◌, ◌≤◌}
+use mathlib.Core.Path.{◌≡◌, refl, ◌∙◌}
+use mathlib.Core.Bool.{not}
+use Rattle.sheet.specs.Kind.{is_kind}
+use Rattle.sheet.specs.Head.{head_at}
+use Rattle.sheet.specs.Refusals.{any_from}
+use Rattle.refusals.proofs.Scans.{any_four}
+use Rattle.refusals.proofs.header.odd_kind.Given as goal
+
+abbrev pub invariant-loop-r : goal.invariant-loop-r
+invariant-loop-r l =
+    (l.r ≤ l.n + 1) × (any_from (λ j. not (is_kind (head_at l.s j).kind)) l.r (l.n - l.r) ≡ any_from (λ j. not (is_kind (head_at l.s j).kind)) 1 (l.n - 1))
+
+abbrev pub decreases-loop-r : goal.decreases-loop-r
+decreases-loop-r l =
+    l.n - l.r

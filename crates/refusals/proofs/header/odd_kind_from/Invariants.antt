@@ -1,0 +1,18 @@
+use native.Mathlib.Omega.{arith}
+use borrow.Author.Rules.{rules}
+use Prim.Native.Nat.{◌-◌}
+use mathlib.Core.Path.{◌≡◌, refl}
+use mathlib.Core.Bool.{not}
+use Rattle.sheet.specs.Kind.{is_kind}
+use Rattle.sheet.specs.Head.{head_at}
+use Rattle.sheet.specs.Refusals.{any_from}
+use Rattle.refusals.proofs.Scans.{any_next, any_here, any_done, odd_at}
+use Rattle.refusals.proofs.header.odd_kind_from.Given as goal
+
+abbrev pub invariant-loop-r : goal.invariant-loop-r
+invariant-loop-r l =
+    any_from (λ j. not (is_kind (head_at l.s j).kind)) l.r (l.n - l.r) ≡ any_from (λ j. not (is_kind (head_at l.s j).kind)) l.r-2 (l.n - l.r-2)
+
+abbrev pub decreases-loop-r : goal.decreases-loop-r
+decreases-loop-r l =
+    l.n - l.r

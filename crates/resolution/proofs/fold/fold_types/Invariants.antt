@@ -1,0 +1,22 @@
+use native.Mathlib.Omega.{arith}
+use borrow.Author.Rules.{rules}
+use mathlib.Core.Path.{◌≡◌, refl, ◌∙◌}
+use mathlib.Core.List.{List}
+use Prim.Native.Nat.{ℕ, ◌-◌, ◌<◌}
+use lib.ListN.{length}
+use Rattle.coercion.specs.Answers.{fold_types}
+use Rattle.buffers.specs.Region.{Room}
+use Rattle.buffers.specs.Plain.{rules_of}
+use Rattle.buffers.specs.declared.Out.{Out}
+use Rattle.buffers.specs.declared.Question.TheVariants as Question
+use Rattle.resolution.specs.Reached.{Reached}
+use Rattle.resolution.proofs.Folding.{reached_empty, reached_lost, types_null, types_behind, behind_on, not_compared}
+use Rattle.resolution.proofs.fold.fold_types.Given as goal
+
+abbrev pub invariant-loop-last : goal.invariant-loop-last
+invariant-loop-last l =
+    (Room l.work l.space × (1 < l.space.n)) × ((length l.work ≡ length l.initial.work) × ((v : List ℕ) (o : Out) → Reached (fold_types (rules_of Question.List l.mask)) l.space l.sheet l.work v l.last l.at o → Reached (fold_types (rules_of Question.List l.mask)) l.space l.sheet l.initial.work v l.initial.last l.initial.at o))
+
+abbrev pub decreases-loop-last : goal.decreases-loop-last
+decreases-loop-last l =
+    l.space.n - l.last

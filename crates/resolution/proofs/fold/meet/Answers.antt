@@ -1,0 +1,7 @@
+use Rattle.resolution.proofs.Folding.{met}
+use borrow.Author.Rules.{rules}
+use Rattle.resolution.proofs.fold.meet.Goals as goal
+
+pub returns : goal.returns
+returns c =
+    met _ _ c.requires.0.0 c.requires.1 c.mirror.ensures c.coerce.ensures

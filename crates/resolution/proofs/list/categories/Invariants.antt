@@ -1,0 +1,14 @@
+use native.Mathlib.Omega.{arith}
+use borrow.Author.Rules.{rules}
+use Prim.Native.Nat.{◌-◌}
+use Rattle.resolution.specs.Reached.{seen_bits}
+use Rattle.resolution.proofs.Listing.{unnot, Onward, tells_past, seen_none, seen_on, seen_here}
+use Rattle.resolution.proofs.list.categories.Given as goal
+
+abbrev pub invariant-loop-last : goal.invariant-loop-last
+invariant-loop-last l =
+    Onward (seen_bits 0) (seen_bits l.bits) l.space l.sheet 0 l.link l.last l.at
+
+abbrev pub decreases-loop-last : goal.decreases-loop-last
+decreases-loop-last l =
+    l.space.n - l.last

@@ -1,0 +1,12 @@
+use native.Mathlib.Omega.{arith}
+use borrow.Author.Rules.{rules}
+use Prim.Native.Nat.{◌+◌, ◌*◌, ◌-◌}
+use Rattle.rules.proofs.Cores.{core_own, core_value, value_none, value_short, value_past, value_found}
+use Prim.Native.Nat.{ℕ, ◌<◌}
+use Rattle.rules.proofs.category.+core_kind_value_kind.Given as goal
+
+abbrev pub decreases-core_kind : goal.decreases-core_kind
+decreases-core_kind l = 2 * (l.n - l.r) + 1
+
+abbrev pub decreases-value_kind : goal.decreases-value_kind
+decreases-value_kind l = 2 * (l.n - l.r)

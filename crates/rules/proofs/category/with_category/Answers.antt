@@ -1,0 +1,6 @@
+use borrow.Author.Rules.{rules}
+use Rattle.rules.proofs.category.with_category.Goals as goal
+
+pub returns : goal.returns
+returns c =
+    rw c.category_bit.ensures

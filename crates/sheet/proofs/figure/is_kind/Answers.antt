@@ -1,0 +1,9 @@
+use Prim.Native.Nat.{◌-◌, ◌/◌}
+use Rattle.sheet.specs.Kind.{is_kind}
+use borrow.Author.Rules.{rules}
+use Rattle.sheet.proofs.figure.is_kind.Goals as goal
+
+pub returns : goal.returns
+unfolding is_kind
+returns c =
+    c.within.ensures

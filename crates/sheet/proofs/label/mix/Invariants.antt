@@ -1,0 +1,16 @@
+use mathlib.Core.Path.{◌≡◌, refl, sym, ◌∙◌, ap, subst}
+use Prim.Native.Nat.{ℕ, ◌+◌, ◌-◌, ◌<◌, ◌≤◌}
+use native.Mathlib.Omega.{arith}
+use lib.ListN.{length, drop}
+use Rattle.sheet.specs.Names.{stir, mixed}
+use Rattle.sheet.proofs.Mixing.{mixed_four, mixed_one, mixed_done}
+use borrow.Author.Rules.{rules}
+use Rattle.sheet.proofs.label.mix.Given as goal
+
+abbrev pub invariant-loop-i : goal.invariant-loop-i
+invariant-loop-i l =
+    (l.i ≤ length l.name) × ((l.k < 4294967296) × (mixed l.k (drop l.i l.name) ≡ mixed 0 l.name))
+
+abbrev pub decreases-loop-i : goal.decreases-loop-i
+decreases-loop-i l =
+    length l.name - l.i

@@ -1,0 +1,6 @@
+use borrow.Author.Rules.{rules}
+use Rattle.values.proofs.keep.lays_view.Goals as goal
+
+pub returns-in-Lay : goal.returns-in-Lay
+returns-in-Lay c =
+    cc

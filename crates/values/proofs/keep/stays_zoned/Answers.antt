@@ -1,0 +1,6 @@
+use borrow.Author.Rules.{rules}
+use Rattle.values.proofs.keep.stays_zoned.Goals as goal
+
+pub returns : goal.returns
+returns c =
+    cc
