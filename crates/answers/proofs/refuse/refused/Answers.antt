@@ -13,10 +13,6 @@ pub returns-then-is_bad_pair : goal.returns-then-is_bad_pair
 returns-then-is_bad_pair c =
     later_pair _ _ _ _ _ (sym c.is_bad_mask.ensures ∙ c.if-is_bad_mask.false) (sym c.is_bad_pair.ensures ∙ c.if-is_bad_pair.true)
 
-pub is_short-requires : goal.is_short-requires
-is_short-requires c =
-    measured_low _ c.args.space (λ i. ((c.shared_slice_known-1.given) i).fits) c.requires
-
 pub returns-then-is_short : goal.returns-then-is_short
 returns-then-is_short c =
     later-short _ _ _ _ _ (sym c.is_bad_mask.ensures ∙ c.if-is_bad_mask.false) (sym c.is_bad_pair.ensures ∙ c.if-is_bad_pair.false) (ap (λ (k : ℕ). is_short k c.args.output c.args.work) (sym c.requires.half) ∙ sym c.is_short.ensures ∙ c.if-is_short.true)

@@ -29,7 +29,7 @@ returns-then-y-eq0 t c =
 
 pub same_record-requires : goal.same_record-requires
 same_record-requires t c =
-    (c.requires.1, (c.head_at-g.ensures.1, c.head_at-h.ensures.1))
+    (c.requires, (c.head_at-g.ensures.1, c.head_at-h.ensures.1))
 
 pub returns-then-not-same_record : goal.returns-then-not-same_record
 returns-then-not-same_record t c =
@@ -49,7 +49,7 @@ loop-low-preserved-then-g-h-eq0 t c =
 
 pub differ_fields-d-requires : goal.differ_fields-d-requires
 differ_fields-d-requires t c =
-    (omega (arith, c.requires.0, c.loop-low.invariant.0, c.loop-low-test.true, c.if-n-x.false), c.requires.1)
+    (omega (arith, c.decreases, c.loop-low.invariant.0, c.loop-low-test.true, c.if-n-x.false), c.requires)
 
 pub returns-then-d-ne0 : goal.returns-then-d-ne0
 returns-then-d-ne0 t c =

@@ -18,7 +18,7 @@ copy-fields-μ-loop sheet work₀ space swap start link₀ spot₀ work link spo
 
 pub loop-link-init : goal.loop-link-init
 loop-link-init t c =
-    record { long = refl; room = c.requires.1.0; inside = c.requires.1.1; further = omega arith; whole = λ o x k. k }
+    record { long = refl; room = c.requires.0; inside = c.requires.1; further = omega arith; whole = λ o x k. k }
 
 pub shape_of-work-then-space-at : goal.shape_of-work-then-space-at
 shape_of-work-then-space-at t c =
@@ -35,42 +35,6 @@ copy_record-requires t c =
 pub returns-in_default : goal.returns-in_default
 returns-in_default t c =
     c.loop-link.invariant.whole Full _ (chain_stop (c.args.space) (c.args.sheet.now) (c.args.swap) (c.loop-link.link) (c.loop-link.spot) _ (c.loop-link.invariant.room) _ (c.look-h.ensures.0) (c.loop-link-test.true) _ _ (c.in_default.keys2) (c.copy_record.ensures))
-
-pub loop-link-smaller-then-h-eq0 : goal.loop-link-smaller-then-h-eq0
-loop-link-smaller-then-h-eq0 t c =
-    let rec = rw (c.d-1.given.1) at (c.copy_record.ensures) in omega (arith, rec.further, c.if-space-at.false)
-
-pub loop-link-preserved-then-h-eq0 : goal.loop-link-preserved-then-h-eq0
-loop-link-preserved-then-h-eq0 t c =
-    let rec = rw (c.d-1.given.1) at (c.copy_record.ensures) in left_on (c.loop-link.invariant) rec.kept rec.grows.0 rec.grows.1.0 (chain_last (c.args.space) (c.args.sheet.now) (c.args.swap) (c.loop-link.link) (c.loop-link.spot) _ (c.loop-link.invariant.room) _ (c.look-h.ensures.0) (c.loop-link-test.true) _ _ rec (c.if-h-eq0.true))
-
-pub loop-link-smaller-then-h-eq0-2 : goal.loop-link-smaller-then-h-eq0-2
-loop-link-smaller-then-h-eq0-2 t c =
-    let rec = rw (c.d-1.given.1) at (c.copy_record.ensures) in omega (arith, rec.further, c.if-space-at.false)
-
-pub loop-link-preserved-then-h-eq0-2 : goal.loop-link-preserved-then-h-eq0-2
-loop-link-preserved-then-h-eq0-2 t c =
-    let rec = rw (c.d-1.given.1) at (c.copy_record.ensures) in left_on (c.loop-link.invariant) rec.kept rec.grows.0 rec.grows.1.0 (chain_plain (c.args.space) (c.args.sheet.now) (c.args.swap) (c.loop-link.link) (c.loop-link.spot) _ (c.loop-link.invariant.room) _ (c.look-h.ensures.0) (c.loop-link-test.true) _ _ rec (c.if-h-eq0-2.true))
-
-pub copy_fields-requires : goal.copy_fields-requires
-copy_fields-requires t c =
-    let rec = rw (c.d-1.given.1) at (c.copy_record.ensures) in (omega (arith, c.requires.0, c.loop-link.invariant.further, c.if-space-at.false, rec.further, rec.grows.0.records), (room_kept rec.kept (c.loop-link.invariant.room), rec.grows.0))
-
-pub shape_of-work-in_default-copy_fields : goal.shape_of-work-in_default-copy_fields
-shape_of-work-in_default-copy_fields t c =
-    let rec = rw (c.d-1.given.1) at (c.copy_record.ensures) in c.copy_fields.ensures.kept.long ∙ rec.kept.long ∙ c.loop-link.invariant.long
-
-pub returns-in_default-copy_fields : goal.returns-in_default-copy_fields
-returns-in_default-copy_fields t c =
-    let rec = rw (c.d-1.given.1) at (c.copy_record.ensures) in c.loop-link.invariant.whole Full _ (chain_parts_stop (c.args.space) (c.args.sheet.now) (c.args.swap) (c.loop-link.link) (c.loop-link.spot) _ (c.loop-link.invariant.room) _ (c.look-h.ensures.0) (c.loop-link-test.true) _ _ rec _ _ (c.in_default-copy_fields.keys2) (c.copy_fields.ensures))
-
-pub loop-link-smaller : goal.loop-link-smaller
-loop-link-smaller t c =
-    let rec = rw (c.d-1.given.1) at (c.copy_record.ensures) in let b = rw (c.e-1.given.1) at (c.copy_fields.ensures) in omega (arith, rec.further, b.grows.1.0, c.if-space-at.false)
-
-pub loop-link-preserved : goal.loop-link-preserved
-loop-link-preserved t c =
-    let rec = rw (c.d-1.given.1) at (c.copy_record.ensures) in let b = rw (c.e-1.given.1) at (c.copy_fields.ensures) in left_on (c.loop-link.invariant) (kept_trans rec.kept (kept_wider _ _ rec.grows.1.0 rec.grows.1.1 b.kept)) b.grows.0 (omega (arith, rec.grows.1.0, b.grows.1.0)) (chain-on (c.args.space) (c.args.sheet.now) (c.args.swap) (c.loop-link.link) (c.loop-link.spot) _ (c.loop-link.invariant.room) _ (c.look-h.ensures.0) (c.loop-link-test.true) _ _ rec _ _ b)
 
 pub shape_of-work : goal.shape_of-work
 shape_of-work t c =

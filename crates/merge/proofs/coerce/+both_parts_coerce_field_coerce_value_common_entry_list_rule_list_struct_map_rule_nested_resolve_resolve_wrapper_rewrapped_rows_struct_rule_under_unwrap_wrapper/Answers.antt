@@ -19,10 +19,6 @@ use Prim.Native.Nat.{ℕ, ◌<◌}
 use Rattle.merge.proofs.coerce.+both_parts_coerce_field_coerce_value_common_entry_list_rule_list_struct_map_rule_nested_resolve_resolve_wrapper_rewrapped_rows_struct_rule_under_unwrap_wrapper.{
 use Rattle.merge.proofs.coerce.+both_parts_coerce_field_coerce_value_common_entry_list_rule_list_struct_map_rule_nested_resolve_resolve_wrapper_rewrapped_rows_struct_rule_under_unwrap_wrapper.Goals as goal
 
-}
-
-}
-
 abbrev entry_at : ℕ → In 3 entry-kinds.ps
 entry_at t = and 3 entry-kinds.ps (is 3 entry-kinds.ps μ-entry t) entry.Pre
 
@@ -34,61 +30,43 @@ under_at t = and 3 under-kinds.ps (is 3 under-kinds.ps μ-under t) under.Pre
 
 pub both_parts-returns-then-space-g : goal.both_parts-returns-then-space-g
 both_parts-returns-then-space-g t c =
-    (any_known _ c.args.swap (merges_full _ _ _ _ _ _ _ _ _ c.if-space-g.true), c.requires.1.1)
+    (any_known _ c.args.swap (merges_full _ _ _ _ _ _ _ _ _ c.if-space-g.true), c.requires.1)
 
 pub both_parts-copy_head-requires : goal.both_parts-copy_head-requires
 both_parts-copy_head-requires t c =
-    (c.requires.1.0, (c.if-space-g.false, (omega arith, c.look-x.ensures.1)))
-
-pub both_parts-rows-requires : goal.both_parts-rows-requires
-both_parts-rows-requires t c =
-    let h = rw c.d-1.given.1 at c.copy_head.ensures in
-    (omega (arith, c.requires.0), ((room_kept h.kept c.requires.1.0.0, h.passes.0), tabled_over c.requires.1.0.0 h.kept c.requires.1.1))
-
-pub both_parts-returns-in-Done : goal.both_parts-returns-in-Done
-both_parts-returns-in-Done t c =
-    let h = rw c.d-1.given.1 at c.copy_head.ensures in
-    (both_on c.args.known _ _ _ _ _ _ _ _ _ c.requires.1.0.0 _ _ c.look-x.ensures.0 c.look-y.ensures.0 _ _ _ _ h c.rows.ensures.0, c.rows.ensures.1)
-
-pub both_parts-returns-in-No : goal.both_parts-returns-in-No
-both_parts-returns-in-No t c =
-    absurd (rw c.enum_told-1.given.1 at c.copy_head.ensures).means
-
-pub both_parts-returns-in-Full : goal.both_parts-returns-in-Full
-both_parts-returns-in-Full t c =
-    (any_known _ c.args.swap (head_crowded _ _ _ _ _ _ _ _ _ _ c.look-x.ensures.0 _ (rw c.enum_told-in-Full-1.given.1 at c.copy_head.ensures)), tabled_over c.requires.1.0.0 (rw c.enum_told-in-Full-1.given.1 at c.copy_head.ensures).kept c.requires.1.1)
+    (c.requires.0, (c.if-space-g.false, (omega arith, c.look-x.ensures.1)))
 
 pub coerce_field-name_field-requires : goal.coerce_field-name_field-requires
 coerce_field-name_field-requires t c =
-    (c.requires.1.0.0, (c.requires.1.0.1, c.look-x.ensures.1))
+    (c.requires.0.0, (c.requires.0.1, c.look-x.ensures.1))
 
 pub coerce_field-coerce_value-requires : goal.coerce_field-coerce_value-requires
 coerce_field-coerce_value-requires t c =
-    (omega (arith, c.requires.0), ((room_kept c.name_field.ensures.kept c.requires.1.0.0, field_ready _ c.requires.1.0.1 c.look-x.ensures.1 c.if-name_field.true c.name_field.ensures), (c.requires.1.1.0, tabled_over c.requires.1.0.0 c.name_field.ensures.kept c.requires.1.1.1)))
+    (omega (arith, c.decreases), ((room_kept c.name_field.ensures.kept c.requires.0.0, field_ready _ c.requires.0.1 c.look-x.ensures.1 c.if-name_field.true c.name_field.ensures), (c.requires.1.0, tabled_over c.requires.0.0 c.name_field.ensures.kept c.requires.1.1)))
 
 pub coerce_field-returns-then-name_field : goal.coerce_field-returns-then-name_field
 coerce_field-returns-then-name_field t c =
-    (field_alone _ _ _ _ _ _ _ _ _ _ c.look-x.ensures.0 _ _ c.name_field.ensures _ _ _ c.requires.1.0.0 c.if-name_field.true c.is_nullable-nullable.ensures c.coerce_value.ensures.0, c.coerce_value.ensures.1)
+    (field_alone _ _ _ _ _ _ _ _ _ _ c.look-x.ensures.0 _ _ c.name_field.ensures _ _ _ c.requires.0.0 c.if-name_field.true c.is_nullable-nullable.ensures c.coerce_value.ensures.0, c.coerce_value.ensures.1)
 
 pub coerce_field-returns : goal.coerce_field-returns
 coerce_field-returns t c =
-    (field_crowded _ _ _ _ _ _ _ _ _ _ c.look-x.ensures.0 _ _ c.name_field.ensures c.if-name_field.false, tabled_over c.requires.1.0.0 c.name_field.ensures.kept c.requires.1.1.1)
+    (field_crowded _ _ _ _ _ _ _ _ _ _ c.look-x.ensures.0 _ _ c.name_field.ensures c.if-name_field.false, tabled_over c.requires.0.0 c.name_field.ensures.kept c.requires.1.1)
 
 pub coerce_value-returns-then-left-eq0 : goal.coerce_value-returns-then-left-eq0
 coerce_value-returns-then-left-eq0 t c =
-    (none_known c.args.swap (coerce_spent c.args.question c.args.mask c.args.space c.args.left c.args.swap _ _ _ _ _ c.if-left-eq0.true), c.requires.1.1.1)
+    (none_known c.args.swap (coerce_spent c.args.question c.args.mask c.args.space c.args.left c.args.swap _ _ _ _ _ c.if-left-eq0.true), c.requires.1.1)
 
 pub coerce_value-rewrapped-requires : goal.coerce_value-rewrapped-requires
 coerce_value-rewrapped-requires t c =
-    (omega (arith, c.requires.0, c.if-left-eq0.false), (c.requires.1.0, (((sym c.either.ensures ∙ and_fst _ _ (sym c.both.ensures ∙ c.if-both.true)), (sym c.kind_at-k.ensures, c.requires.1.1.0)), c.requires.1.1.1)))
+    (omega (arith, c.decreases, c.if-left-eq0.false), (c.requires.0, (((sym c.either.ensures ∙ and_fst _ _ (sym c.both.ensures ∙ c.if-both.true)), (sym c.kind_at-k.ensures, c.requires.1.0)), c.requires.1.1)))
 
 pub coerce_value-returns-then-both : goal.coerce_value-returns-then-both
 coerce_value-returns-then-both t c =
-    (coerce_wrapper c.args.question c.args.mask c.args.space c.args.left c.args.swap _ _ _ _ _ c.kind_at-k.ensures c.kind_at-j.ensures (sym c.either.ensures ∙ and_fst _ _ (sym c.both.ensures ∙ c.if-both.true)) (ltb-true _ 37 (and_snd c.either.result _ (sym c.both.ensures ∙ c.if-both.true))) _ _ c.requires.1.1.0 c.if-left-eq0.false c.rewrapped.ensures.0, c.rewrapped.ensures.1)
+    (coerce_wrapper c.args.question c.args.mask c.args.space c.args.left c.args.swap _ _ _ _ _ c.kind_at-k.ensures c.kind_at-j.ensures (sym c.either.ensures ∙ and_fst _ _ (sym c.both.ensures ∙ c.if-both.true)) (ltb-true _ 37 (and_snd c.either.result _ (sym c.both.ensures ∙ c.if-both.true))) _ _ c.requires.1.0 c.if-left-eq0.false c.rewrapped.ensures.0, c.rewrapped.ensures.1)
 
 pub coerce_value-common-requires : goal.coerce_value-common-requires
 coerce_value-common-requires t c =
-    (omega (arith, c.requires.0), (c.requires.1.0, c.requires.1.1.1))
+    (omega (arith, c.decreases), (c.requires.0, c.requires.1.1))
 
 pub coerce_value-returns-then-k-j : goal.coerce_value-returns-then-k-j
 coerce_value-returns-then-k-j t c =
@@ -96,15 +74,15 @@ coerce_value-returns-then-k-j t c =
 
 pub coerce_value-plain_rule-requires : goal.coerce_value-plain_rule-requires
 coerce_value-plain_rule-requires t c =
-    c.requires.1.0
+    c.requires.0
 
 pub coerce_value-returns-then-both-2 : goal.coerce_value-returns-then-both-2
 coerce_value-returns-then-both-2 t c =
-    (coerce_unlike c.args.question c.args.mask c.args.space c.args.left c.args.swap _ _ _ _ _ c.kind_at-k.ensures c.kind_at-j.ensures c.if-k-j.false _ _ (sym c.both-2.ensures ∙ c.if-both-2.true) c.plain_rule.ensures, tabled_over c.requires.1.0.0 (c.plain_rule.ensures 0).writes.kept c.requires.1.1.1)
+    (coerce_unlike c.args.question c.args.mask c.args.space c.args.left c.args.swap _ _ _ _ _ c.kind_at-k.ensures c.kind_at-j.ensures c.if-k-j.false _ _ (sym c.both-2.ensures ∙ c.if-both-2.true) c.plain_rule.ensures, tabled_over c.requires.0.0 (c.plain_rule.ensures 0).writes.kept c.requires.1.1)
 
 pub coerce_value-common-requires-2 : goal.coerce_value-common-requires-2
 coerce_value-common-requires-2 t c =
-    (omega (arith, c.requires.0), (c.requires.1.0, c.requires.1.1.1))
+    (omega (arith, c.decreases), (c.requires.0, c.requires.1.1))
 
 pub coerce_value-returns : goal.coerce_value-returns
 coerce_value-returns t c =
@@ -112,27 +90,27 @@ coerce_value-returns t c =
 
 pub common-returns-then-left-eq0 : goal.common-returns-then-left-eq0
 common-returns-then-left-eq0 t c =
-    (any_hint _ _ c.args.swap (coerce_spent c.args.question c.args.mask c.args.space c.args.left c.args.swap _ _ _ _ _ c.if-left-eq0.true), c.requires.1.1)
+    (any_hint _ _ c.args.swap (coerce_spent c.args.question c.args.mask c.args.space c.args.left c.args.swap _ _ _ _ _ c.if-left-eq0.true), c.requires.1)
 
 pub common-copy_type-requires : goal.common-copy_type-requires
 common-copy_type-requires t c =
-    c.requires.1.0
+    c.requires.0
 
 pub common-returns-then-d-eq0 : goal.common-returns-then-d-eq0
 common-returns-then-d-eq0 t c =
-    (any_hint _ _ c.args.swap (coerce_same c.args.question c.args.mask c.args.space c.args.left c.args.swap _ _ _ _ _ c.is_list_question-list.ensures c.first_difference-d.ensures _ _ c.if-d-eq0.true c.copy_type.ensures), tabled_over c.requires.1.0.0 c.copy_type.ensures.writes.kept c.requires.1.1)
+    (any_hint _ _ c.args.swap (coerce_same c.args.question c.args.mask c.args.space c.args.left c.args.swap _ _ _ _ _ c.is_list_question-list.ensures c.first_difference-d.ensures _ _ c.if-d-eq0.true c.copy_type.ensures), tabled_over c.requires.0.0 c.copy_type.ensures.writes.kept c.requires.1)
 
 pub common-plain_rule-requires : goal.common-plain_rule-requires
 common-plain_rule-requires t c =
-    c.requires.1.0
+    c.requires.0
 
 pub common-returns-then-both : goal.common-returns-then-both
 common-returns-then-both t c =
-    (any_hint _ _ c.args.swap (coerce-plain c.args.question c.args.mask c.args.space c.args.left c.args.swap _ _ _ _ _ (handed c.args.known _ _ c.is_list_question-list.ensures c.first_difference-d.ensures c.if-d-eq0.false) _ _ c.kind_at-k.ensures c.kind_at-j.ensures (sym c.both.ensures ∙ c.if-both.true) c.plain_rule.ensures), tabled_over c.requires.1.0.0 (c.plain_rule.ensures 0).writes.kept c.requires.1.1)
+    (any_hint _ _ c.args.swap (coerce-plain c.args.question c.args.mask c.args.space c.args.left c.args.swap _ _ _ _ _ (handed c.args.known _ _ c.is_list_question-list.ensures c.first_difference-d.ensures c.if-d-eq0.false) _ _ c.kind_at-k.ensures c.kind_at-j.ensures (sym c.both.ensures ∙ c.if-both.true) c.plain_rule.ensures), tabled_over c.requires.0.0 (c.plain_rule.ensures 0).writes.kept c.requires.1)
 
 pub common-nested-requires : goal.common-nested-requires
 common-nested-requires t c =
-    (omega (arith, c.requires.0, c.if-left-eq0.false), (c.requires.1.0, c.requires.1.1))
+    (omega (arith, c.decreases, c.if-left-eq0.false), (c.requires.0, c.requires.1))
 
 pub common-returns-then-both-2 : goal.common-returns-then-both-2
 common-returns-then-both-2 t c =
@@ -140,7 +118,7 @@ common-returns-then-both-2 t c =
 
 pub common-resolve-requires : goal.common-resolve-requires
 common-resolve-requires t c =
-    (omega (arith, c.requires.0, c.if-left-eq0.false), (c.requires.1.0, (sym c.is_list_question-list.ensures ∙ c.if-list.true, c.requires.1.1)))
+    (omega (arith, c.decreases, c.if-left-eq0.false), (c.requires.0, (sym c.is_list_question-list.ensures ∙ c.if-list.true, c.requires.1)))
 
 pub common-returns-then-list : goal.common-returns-then-list
 common-returns-then-list t c =
@@ -148,7 +126,7 @@ common-returns-then-list t c =
 
 pub common-unwrap-requires : goal.common-unwrap-requires
 common-unwrap-requires t c =
-    (omega (arith, c.requires.0, c.if-left-eq0.false), (c.requires.1.0, (sym c.is_list_question-list.ensures ∙ c.if-list.false, c.requires.1.1)))
+    (omega (arith, c.decreases, c.if-left-eq0.false), (c.requires.0, (sym c.is_list_question-list.ensures ∙ c.if-list.false, c.requires.1)))
 
 pub common-returns : goal.common-returns
 common-returns t c =
@@ -156,23 +134,23 @@ common-returns t c =
 
 pub entry-name_field-requires : goal.entry-name_field-requires
 entry-name_field-requires t c =
-    (c.requires.1.0.0, (c.requires.1.0.1, c.look-x.ensures.1))
+    (c.requires.0.0, (c.requires.0.1, c.look-x.ensures.1))
 
 pub entry-struct_rule-requires : goal.entry-struct_rule-requires
 entry-struct_rule-requires t c =
-    (omega (arith, c.requires.0), ((room_kept c.name_field.ensures.kept c.requires.1.0.0, field_ready _ c.requires.1.0.1 c.look-x.ensures.1 c.if-name_field.true c.name_field.ensures), tabled_over c.requires.1.0.0 c.name_field.ensures.kept c.requires.1.1))
+    (omega (arith, c.decreases), ((room_kept c.name_field.ensures.kept c.requires.0.0, field_ready _ c.requires.0.1 c.look-x.ensures.1 c.if-name_field.true c.name_field.ensures), tabled_over c.requires.0.0 c.name_field.ensures.kept c.requires.1))
 
 pub entry-returns-then-name_field : goal.entry-returns-then-name_field
 entry-returns-then-name_field t c =
-    (field_on _ _ _ _ _ _ _ _ _ _ c.look-x.ensures.0 _ _ c.name_field.ensures _ _ _ c.requires.1.0.0 c.if-name_field.true c.is_nullable-nullable.ensures c.row_known-own.ensures c.struct_rule.ensures.0, c.struct_rule.ensures.1)
+    (field_on _ _ _ _ _ _ _ _ _ _ c.look-x.ensures.0 _ _ c.name_field.ensures _ _ _ c.requires.0.0 c.if-name_field.true c.is_nullable-nullable.ensures c.row_known-own.ensures c.struct_rule.ensures.0, c.struct_rule.ensures.1)
 
 pub entry-returns : goal.entry-returns
 entry-returns t c =
-    (field_crowded _ _ _ _ _ _ _ _ _ _ c.look-x.ensures.0 _ _ c.name_field.ensures c.if-name_field.false, tabled_over c.requires.1.0.0 c.name_field.ensures.kept c.requires.1.1)
+    (field_crowded _ _ _ _ _ _ _ _ _ _ c.look-x.ensures.0 _ _ c.name_field.ensures c.if-name_field.false, tabled_over c.requires.0.0 c.name_field.ensures.kept c.requires.1)
 
 pub list_rule-under-requires : goal.list_rule-under-requires
 list_rule-under-requires t c =
-    (omega (arith, c.requires.0), ((c.requires.1.0, c.list_size-size.ensures.1), c.requires.1.1))
+    (omega (arith, c.decreases), ((c.requires.0, c.list_size-size.ensures.1), c.requires.1))
 
 pub list_rule-returns : goal.list_rule-returns
 list_rule-returns t c =
@@ -180,71 +158,71 @@ list_rule-returns t c =
 
 pub list_struct-returns-then-not-same_arity : goal.list_struct-returns-then-not-same_arity
 list_struct-returns-then-not-same_arity t c =
-    (listed_unlike _ _ _ c.args.swap _ _ _ _ _ _ _ c.look-a.ensures.0 c.look-b.ensures.0 c.same_arity.ensures (not-true _ c.if-not-same_arity.true), c.requires.1.1.1)
+    (listed_unlike _ _ _ c.args.swap _ _ _ _ _ _ _ c.look-a.ensures.0 c.look-b.ensures.0 c.same_arity.ensures (not-true _ c.if-not-same_arity.true), c.requires.1.1)
 
 pub list_struct-in_order-requires : goal.list_struct-in_order-requires
 list_struct-in_order-requires t c =
-    c.requires.1.0.0.few
+    c.requires.0.0.few
 
 pub list_struct-under-requires : goal.list_struct-under-requires
 list_struct-under-requires t c =
-    (omega (arith, c.requires.0), ((c.requires.1.0, omega arith), c.requires.1.1.1))
+    (omega (arith, c.decreases), ((c.requires.0, omega arith), c.requires.1.1))
 
 pub list_struct-returns-then-in_order : goal.list_struct-returns-then-in_order
 list_struct-returns-then-in_order t c =
-    (listed_ordered _ _ _ c.args.swap _ _ _ _ _ _ _ c.look-a.ensures.0 c.look-b.ensures.0 c.same_arity.ensures (not-false _ c.if-not-same_arity.false) c.in_order.ensures c.args.known _ c.if-in_order.true c.requires.1.1.0.1 _ _ c.under.ensures.0, c.under.ensures.1)
+    (listed_ordered _ _ _ c.args.swap _ _ _ _ _ _ _ c.look-a.ensures.0 c.look-b.ensures.0 c.same_arity.ensures (not-false _ c.if-not-same_arity.false) c.in_order.ensures c.args.known _ c.if-in_order.true c.requires.1.0.1 _ _ c.under.ensures.0, c.under.ensures.1)
 
 pub list_struct-have_same_names-requires : goal.list_struct-have_same_names-requires
 list_struct-have_same_names-requires t c =
-    c.requires.1.0.0.few
+    c.requires.0.0.few
 
 pub list_struct-under-requires-then-have_same_names : goal.list_struct-under-requires-then-have_same_names
 list_struct-under-requires-then-have_same_names t c =
-    (omega (arith, c.requires.0), ((c.requires.1.0, omega arith), record { partners = c.have_same_names.ensures.1.1 c.requires.1.1.1.partners }))
+    (omega (arith, c.decreases), ((c.requires.0, omega arith), record { partners = c.have_same_names.ensures.1.1 c.requires.1.1.partners }))
 
 pub list_struct-returns-then-have_same_names : goal.list_struct-returns-then-have_same_names
 list_struct-returns-then-have_same_names t c =
-    (listed-named _ _ _ c.args.swap _ _ _ _ _ _ _ c.look-a.ensures.0 c.look-b.ensures.0 c.same_arity.ensures (not-false _ c.if-not-same_arity.false) c.have_same_names.ensures.0 c.args.known _ c.if-have_same_names.true c.requires.1.1.0.0 c.requires.1.1.0.1 _ _ c.under-then-have_same_names.ensures.0, c.under-then-have_same_names.ensures.1)
+    (listed-named _ _ _ c.args.swap _ _ _ _ _ _ _ c.look-a.ensures.0 c.look-b.ensures.0 c.same_arity.ensures (not-false _ c.if-not-same_arity.false) c.have_same_names.ensures.0 c.args.known _ c.if-have_same_names.true c.requires.1.0.0 c.requires.1.0.1 _ _ c.under-then-have_same_names.ensures.0, c.under-then-have_same_names.ensures.1)
 
 pub list_struct-returns : goal.list_struct-returns
 list_struct-returns t c =
-    (listed-none _ _ _ c.args.swap _ _ _ _ _ _ _ c.look-a.ensures.0 c.look-b.ensures.0 c.same_arity.ensures (not-false _ c.if-not-same_arity.false) c.have_same_names.ensures.0 c.if-have_same_names.false, record { partners = c.have_same_names.ensures.1.1 c.requires.1.1.1.partners })
+    (listed-none _ _ _ c.args.swap _ _ _ _ _ _ _ c.look-a.ensures.0 c.look-b.ensures.0 c.same_arity.ensures (not-false _ c.if-not-same_arity.false) c.have_same_names.ensures.0 c.if-have_same_names.false, record { partners = c.have_same_names.ensures.1.1 c.requires.1.1.partners })
 
 pub map_rule-returns-then-space-at : goal.map_rule-returns-then-space-at
 map_rule-returns-then-space-at t c =
-    (any_known _ c.args.swap (merges_full _ _ _ _ _ _ _ _ _ c.if-space-at.true), c.requires.1.1)
+    (any_known _ c.args.swap (merges_full _ _ _ _ _ _ _ _ _ c.if-space-at.true), c.requires.1)
 
 pub map_rule-returns-then-a-eq0 : goal.map_rule-returns-then-a-eq0
 map_rule-returns-then-a-eq0 t c =
-    (map_left_end _ _ _ _ _ _ _ _ _ _ _ c.look-x.ensures.0 c.look-y.ensures.0 c.if-a-eq0.true, c.requires.1.1)
+    (map_left_end _ _ _ _ _ _ _ _ _ _ _ c.look-x.ensures.0 c.look-y.ensures.0 c.if-a-eq0.true, c.requires.1)
 
 pub map_rule-returns-then-b-eq0 : goal.map_rule-returns-then-b-eq0
 map_rule-returns-then-b-eq0 t c =
-    (map_right_end _ _ _ _ _ _ _ _ _ _ _ c.look-x.ensures.0 c.look-y.ensures.0 c.if-b-eq0.true, c.requires.1.1)
+    (map_right_end _ _ _ _ _ _ _ _ _ _ _ c.look-x.ensures.0 c.look-y.ensures.0 c.if-b-eq0.true, c.requires.1)
 
 pub map_rule-overflow_add-at : goal.map_rule-overflow_add-at
 map_rule-overflow_add-at t c =
-    record { fits = omega (arith, c.if-space-at.false, c.requires.1.0.0.few) }
+    record { fits = omega (arith, c.if-space-at.false, c.requires.0.0.few) }
 
 pub map_rule-lay-requires : goal.map_rule-lay-requires
 map_rule-lay-requires t c =
-    (c.requires.1.0, (c.if-space-at.false, (omega arith, omega (arith, c.if-space-at.false, c.requires.1.0.0.few))))
+    (c.requires.0, (c.if-space-at.false, (omega arith, omega (arith, c.if-space-at.false, c.requires.0.0.few))))
 
 pub map_rule-overflow_add-at-2 : goal.map_rule-overflow_add-at-2
 map_rule-overflow_add-at-2 t c =
-    record { fits = omega (arith, c.if-space-at.false, c.requires.1.0.0.few) }
+    record { fits = omega (arith, c.if-space-at.false, c.requires.0.0.few) }
 
 pub map_rule-entry-requires : goal.map_rule-entry-requires
 map_rule-entry-requires t c =
-    (omega (arith, c.requires.0), ((room_kept c.lay.ensures.kept c.requires.1.0.0, (after_passes _ c.requires.1.0.1 c.if-space-at.false).0), tabled_over c.requires.1.0.0 c.lay.ensures.kept c.requires.1.1))
+    (omega (arith, c.decreases), ((room_kept c.lay.ensures.kept c.requires.0.0, (after_passes _ c.requires.0.1 c.if-space-at.false).0), tabled_over c.requires.0.0 c.lay.ensures.kept c.requires.1))
 
 pub map_rule-returns : goal.map_rule-returns
 map_rule-returns t c =
-    (map_on _ _ _ _ _ _ _ _ _ _ _ c.look-x.ensures.0 c.look-y.ensures.0 c.requires.1.0.0 c.requires.1.0.1 c.if-space-at.false _ _ _ _ c.both-sorted.ensures c.if-a-eq0.false c.if-b-eq0.false c.lay.ensures c.args.known _ c.entry.ensures.0, c.entry.ensures.1)
+    (map_on _ _ _ _ _ _ _ _ _ _ _ c.look-x.ensures.0 c.look-y.ensures.0 c.requires.0.0 c.requires.0.1 c.if-space-at.false _ _ _ _ c.both-sorted.ensures c.if-a-eq0.false c.if-b-eq0.false c.lay.ensures c.args.known _ c.entry.ensures.0, c.entry.ensures.1)
 
 pub nested-list_rule-requires : goal.nested-list_rule-requires
 nested-list_rule-requires t c =
-    (omega (arith, c.requires.0), (c.requires.1.0, c.requires.1.1))
+    (omega (arith, c.decreases), (c.requires.0, c.requires.1))
 
 pub nested-returns-then-both : goal.nested-returns-then-both
 nested-returns-then-both t c =
@@ -252,7 +230,7 @@ nested-returns-then-both t c =
 
 pub nested-list_struct-requires : goal.nested-list_struct-requires
 nested-list_struct-requires t c =
-    (omega (arith, c.requires.0), (c.requires.1.0, (both_are _ _ _ _ _ _ c.kind_at-k.ensures c.kind_at-j.ensures (sym c.both-2.ensures ∙ c.if-both-2.true), c.requires.1.1)))
+    (omega (arith, c.decreases), (c.requires.0, (both_are _ _ _ _ _ _ c.kind_at-k.ensures c.kind_at-j.ensures (sym c.both-2.ensures ∙ c.if-both-2.true), c.requires.1)))
 
 pub nested-returns-then-is_list_question : goal.nested-returns-then-is_list_question
 nested-returns-then-is_list_question t c =
@@ -260,7 +238,7 @@ nested-returns-then-is_list_question t c =
 
 pub nested-struct_rule-requires : goal.nested-struct_rule-requires
 nested-struct_rule-requires t c =
-    (omega (arith, c.requires.0), (c.requires.1.0, c.requires.1.1))
+    (omega (arith, c.decreases), (c.requires.0, c.requires.1))
 
 pub nested-returns-then-both-2 : goal.nested-returns-then-both-2
 nested-returns-then-both-2 t c =
@@ -268,7 +246,7 @@ nested-returns-then-both-2 t c =
 
 pub nested-map_rule-requires : goal.nested-map_rule-requires
 nested-map_rule-requires t c =
-    (omega (arith, c.requires.0), (c.requires.1.0, c.requires.1.1))
+    (omega (arith, c.decreases), (c.requires.0, c.requires.1))
 
 pub nested-returns-then-both-3 : goal.nested-returns-then-both-3
 nested-returns-then-both-3 t c =
@@ -276,15 +254,15 @@ nested-returns-then-both-3 t c =
 
 pub nested-plain_rule-requires : goal.nested-plain_rule-requires
 nested-plain_rule-requires t c =
-    c.requires.1.0
+    c.requires.0
 
 pub nested-returns : goal.nested-returns
 nested-returns t c =
-    (nested-plain c.args.known _ _ _ _ _ c.args.swap _ _ _ _ _ c.kind_at-k.ensures c.kind_at-j.ensures _ _ (and_are c.is_list.ensures c.is_list-2.ensures c.both.ensures ∙ c.if-both.false) (sym c.both-2.ensures ∙ c.if-both-2.false) (sym c.both-3.ensures ∙ c.if-both-3.false) c.plain_rule.ensures, tabled_over c.requires.1.0.0 (c.plain_rule.ensures 0).writes.kept c.requires.1.1)
+    (nested-plain c.args.known _ _ _ _ _ c.args.swap _ _ _ _ _ c.kind_at-k.ensures c.kind_at-j.ensures _ _ (and_are c.is_list.ensures c.is_list-2.ensures c.both.ensures ∙ c.if-both.false) (sym c.both-2.ensures ∙ c.if-both-2.false) (sym c.both-3.ensures ∙ c.if-both-3.false) c.plain_rule.ensures, tabled_over c.requires.0.0 (c.plain_rule.ensures 0).writes.kept c.requires.1)
 
 pub resolve-resolve_wrapper-requires : goal.resolve-resolve_wrapper-requires
 resolve-resolve_wrapper-requires t c =
-    (omega (arith, c.requires.0), (c.requires.1.0, ((refl, c.requires.1.1.0), c.requires.1.1.1)))
+    (omega (arith, c.decreases), (c.requires.0, ((refl, c.requires.1.0), c.requires.1.1)))
 
 pub resolve-returns-then-either : goal.resolve-returns-then-either
 resolve-returns-then-either t c =
@@ -292,7 +270,7 @@ resolve-returns-then-either t c =
 
 pub resolve-resolve_wrapper-requires-then-either-2 : goal.resolve-resolve_wrapper-requires-then-either-2
 resolve-resolve_wrapper-requires-then-either-2 t c =
-    (omega (arith, c.requires.0), (c.requires.1.0, ((refl, c.requires.1.1.0), c.requires.1.1.1)))
+    (omega (arith, c.decreases), (c.requires.0, ((refl, c.requires.1.0), c.requires.1.1)))
 
 pub resolve-returns-then-either-2 : goal.resolve-returns-then-either-2
 resolve-returns-then-either-2 t c =
@@ -300,7 +278,7 @@ resolve-returns-then-either-2 t c =
 
 pub resolve-nested-requires : goal.resolve-nested-requires
 resolve-nested-requires t c =
-    (omega (arith, c.requires.0), (c.requires.1.0, c.requires.1.1.1))
+    (omega (arith, c.decreases), (c.requires.0, c.requires.1.1))
 
 pub resolve-returns : goal.resolve-returns
 resolve-returns t c =
@@ -308,194 +286,79 @@ resolve-returns t c =
 
 pub resolve_wrapper-both_parts-requires : goal.resolve_wrapper-both_parts-requires
 resolve_wrapper-both_parts-requires t c =
-    (omega (arith, c.requires.0), (c.requires.1.0, c.requires.1.1.1))
+    (omega (arith, c.decreases), (c.requires.0, c.requires.1.1))
 
 pub resolve_wrapper-returns-then-j-kind : goal.resolve_wrapper-returns-then-j-kind
 resolve_wrapper-returns-then-j-kind t c =
-    (wrap_both c.args.known _ _ _ c.args.swap _ _ _ _ _ c.kind_at-k.ensures c.kind_at-j.ensures c.requires.1.1.0.0 _ _ c.if-k-kind.true c.if-j-kind.true c.both_parts.ensures.0, c.both_parts.ensures.1)
+    (wrap_both c.args.known _ _ _ c.args.swap _ _ _ _ _ c.kind_at-k.ensures c.kind_at-j.ensures c.requires.1.0.0 _ _ c.if-k-kind.true c.if-j-kind.true c.both_parts.ensures.0, c.both_parts.ensures.1)
 
 pub resolve_wrapper-rewrapped-requires : goal.resolve_wrapper-rewrapped-requires
 resolve_wrapper-rewrapped-requires t c =
-    (omega (arith, c.requires.0), (c.requires.1.0, ((c.requires.1.1.0.0, (sym c.kind_at-k.ensures ∙ c.if-k-kind.true, c.requires.1.1.0.1)), c.requires.1.1.1)))
+    (omega (arith, c.decreases), (c.requires.0, ((c.requires.1.0.0, (sym c.kind_at-k.ensures ∙ c.if-k-kind.true, c.requires.1.0.1)), c.requires.1.1)))
 
 pub resolve_wrapper-returns-then-k-kind : goal.resolve_wrapper-returns-then-k-kind
 resolve_wrapper-returns-then-k-kind t c =
-    (wrap_left c.args.known _ _ _ c.args.swap _ _ _ _ _ c.kind_at-k.ensures c.kind_at-j.ensures c.requires.1.1.0.0 _ _ c.if-k-kind.true c.if-j-kind.false (any_known _ c.args.swap c.rewrapped.ensures.0), c.rewrapped.ensures.1)
+    (wrap_left c.args.known _ _ _ c.args.swap _ _ _ _ _ c.kind_at-k.ensures c.kind_at-j.ensures c.requires.1.0.0 _ _ c.if-k-kind.true c.if-j-kind.false (any_known _ c.args.swap c.rewrapped.ensures.0), c.rewrapped.ensures.1)
 
 pub resolve_wrapper-rewrapped-requires-then-j-kind-2 : goal.resolve_wrapper-rewrapped-requires-then-j-kind-2
 resolve_wrapper-rewrapped-requires-then-j-kind-2 t c =
-    (omega (arith, c.requires.0), (c.requires.1.0, ((c.requires.1.1.0.0, (sym c.kind_at-j.ensures ∙ c.if-j-kind-2.true, c.requires.1.1.0.1)), c.requires.1.1.1)))
+    (omega (arith, c.decreases), (c.requires.0, ((c.requires.1.0.0, (sym c.kind_at-j.ensures ∙ c.if-j-kind-2.true, c.requires.1.0.1)), c.requires.1.1)))
 
 pub resolve_wrapper-returns-then-j-kind-2 : goal.resolve_wrapper-returns-then-j-kind-2
 resolve_wrapper-returns-then-j-kind-2 t c =
-    (wrap_right c.args.known _ _ _ c.args.swap _ _ _ _ _ c.kind_at-k.ensures c.kind_at-j.ensures c.requires.1.1.0.0 _ _ c.if-k-kind.false c.if-j-kind-2.true c.rewrapped-then-j-kind-2.ensures.0, c.rewrapped-then-j-kind-2.ensures.1)
+    (wrap_right c.args.known _ _ _ c.args.swap _ _ _ _ _ c.kind_at-k.ensures c.kind_at-j.ensures c.requires.1.0.0 _ _ c.if-k-kind.false c.if-j-kind-2.true c.rewrapped-then-j-kind-2.ensures.0, c.rewrapped-then-j-kind-2.ensures.1)
 
 pub resolve_wrapper-returns : goal.resolve_wrapper-returns
 resolve_wrapper-returns t c =
-    (wrap_none c.args.known _ _ _ c.args.swap _ _ _ _ _ c.kind_at-k.ensures c.kind_at-j.ensures c.requires.1.1.0.0 c.if-k-kind.false c.if-j-kind-2.false, c.requires.1.1.1)
+    (wrap_none c.args.known _ _ _ c.args.swap _ _ _ _ _ c.kind_at-k.ensures c.kind_at-j.ensures c.requires.1.0.0 c.if-k-kind.false c.if-j-kind-2.false, c.requires.1.1)
 
 pub rewrapped-returns-then-space-g : goal.rewrapped-returns-then-space-g
 rewrapped-returns-then-space-g t c =
-    (merges_full _ _ _ _ _ _ _ _ _ c.if-space-g.true, c.requires.1.1.1)
+    (merges_full _ _ _ _ _ _ _ _ _ c.if-space-g.true, c.requires.1.1)
 
 pub rewrapped-copy_parent-requires : goal.rewrapped-copy_parent-requires
 rewrapped-copy_parent-requires t c =
-    (c.requires.1.0, (c.if-space-g.false, c.look-x.ensures.1))
-
-pub rewrapped-copy_index-requires : goal.rewrapped-copy_index-requires
-rewrapped-copy_index-requires t c =
-    let cp = rw c.a-1.given.1 at c.copy_parent.ensures in
-    (room_kept cp.kept c.requires.1.0.0, cp.passes.0)
-
-pub rewrapped-coerce_field-requires : goal.rewrapped-coerce_field-requires
-rewrapped-coerce_field-requires t c =
-    let cp = rw c.a-1.given.1 at c.copy_parent.ensures in
-    let cf = rw c.b-1.given.1 at c.copy_index.ensures in
-    (omega (arith, c.requires.0), ((room_kept cf.kept (room_kept cp.kept c.requires.1.0.0), cf.grows.0), (c.requires.1.1.0.1.1, tabled_over c.requires.1.0.0 cf.kept (tabled_over c.requires.1.0.0 cp.kept c.requires.1.1.1))))
-
-pub rewrapped-tie-requires : goal.rewrapped-tie-requires
-rewrapped-tie-requires t c =
-    let cp = rw c.a-1.given.1 at c.copy_parent.ensures in
-    let cf = rw c.b-1.given.1 at c.copy_index.ensures in
-    let mf = rw c.e-1.given.1 at c.coerce_field.ensures.0 in
-    ((room_kept mf.kept (room_kept cf.kept (room_kept cp.kept c.requires.1.0.0))), (omega (arith, cf.further, cf.grows.0.records), omega (arith, cf.grows.0.records, c.requires.1.0.0.few)))
-
-pub rewrapped-keep_wrapper-requires : goal.rewrapped-keep_wrapper-requires
-rewrapped-keep_wrapper-requires t c =
-    let cp = rw c.a-1.given.1 at c.copy_parent.ensures in
-    let cf = rw c.b-1.given.1 at c.copy_index.ensures in
-    let mf = rw c.e-1.given.1 at c.coerce_field.ensures.0 in
-    (room_kept (tied_kept _ _ _ _ _ c.tie.ensures 0 (omega (arith, cf.further, cf.grows.0.records))) (room_kept mf.kept (room_kept cf.kept (room_kept cp.kept c.requires.1.0.0))), c.requires.1.0.1)
-
-pub rewrapped-shape_of-work-in-Done-coerce_field : goal.rewrapped-shape_of-work-in-Done-coerce_field
-rewrapped-shape_of-work-in-Done-coerce_field t c =
-    let cp = rw c.a-1.given.1 at c.copy_parent.ensures in
-    let cf = rw c.b-1.given.1 at c.copy_index.ensures in
-    let mf = rw c.e-1.given.1 at c.coerce_field.ensures.0 in
-    (wrapper-on _ _ _ _ _ _ _ _ _ _ c.requires.1.0.0 c.requires.1.1.0.0 _ c.look-x.ensures.0 c.requires.1.1.0.1.0 _ c.look-second.ensures.0 _ _ cp _ _ cf _ _ mf _ c.tie.ensures _ _ c.keep_wrapper.ensures).writes.kept.long
-
-pub rewrapped-returns-in-Done-coerce_field : goal.rewrapped-returns-in-Done-coerce_field
-rewrapped-returns-in-Done-coerce_field t c =
-    let cp = rw c.a-1.given.1 at c.copy_parent.ensures in
-    let cf = rw c.b-1.given.1 at c.copy_index.ensures in
-    let mf = rw c.e-1.given.1 at c.coerce_field.ensures.0 in
-    (wrapper-on _ _ _ _ _ _ _ _ _ _ c.requires.1.0.0 c.requires.1.1.0.0 _ c.look-x.ensures.0 c.requires.1.1.0.1.0 _ c.look-second.ensures.0 _ _ cp _ _ cf _ _ mf _ c.tie.ensures _ _ c.keep_wrapper.ensures, viewed_tabled c.requires.1.0.0 c.keep_wrapper.ensures (tabled_over c.requires.1.0.0 (tied_kept _ _ _ _ _ c.tie.ensures 0 (omega (arith, cf.further, cf.grows.0.records))) c.coerce_field.ensures.1))
-
-pub rewrapped-returns-in-No-coerce_field : goal.rewrapped-returns-in-No-coerce_field
-rewrapped-returns-in-No-coerce_field t c =
-    let cp = rw c.a-1.given.1 at c.copy_parent.ensures in
-    let cf = rw c.b-1.given.1 at c.copy_index.ensures in
-    (value_none _ _ _ _ _ _ _ _ _ _ c.requires.1.0.0 c.requires.1.1.0.0 _ c.look-x.ensures.0 c.requires.1.1.0.1.0 _ c.look-second.ensures.0 _ _ cp _ _ cf _ (rw c.enum_told-1.given.1 at c.coerce_field.ensures.0), c.coerce_field.ensures.1)
-
-pub rewrapped-returns-in-Full-coerce_field : goal.rewrapped-returns-in-Full-coerce_field
-rewrapped-returns-in-Full-coerce_field t c =
-    let cp = rw c.a-1.given.1 at c.copy_parent.ensures in
-    let cf = rw c.b-1.given.1 at c.copy_index.ensures in
-    (value-full _ _ _ _ _ _ _ _ _ _ c.requires.1.0.0 c.requires.1.1.0.0 _ c.look-x.ensures.0 c.requires.1.1.0.1.0 _ c.look-second.ensures.0 _ _ cp _ _ cf _ (rw c.enum_told-in-Full-coerce_field-1.given.1 at c.coerce_field.ensures.0), c.coerce_field.ensures.1)
-
-pub rewrapped-returns-in-No-copy_index : goal.rewrapped-returns-in-No-copy_index
-rewrapped-returns-in-No-copy_index t c =
-    let cp = rw c.a-1.given.1 at c.copy_parent.ensures in
-    (index_none _ _ _ _ _ _ _ _ _ _ c.requires.1.0.0 c.requires.1.1.0.0 _ c.look-x.ensures.0 c.requires.1.1.0.1.0 _ c.look-second.ensures.0 _ _ cp _ (rw c.enum_told-in-No-copy_index-1.given.1 at c.copy_index.ensures), tabled_over c.requires.1.0.0 (rw c.enum_told-in-No-copy_index-1.given.1 at c.copy_index.ensures).kept (tabled_over c.requires.1.0.0 cp.kept c.requires.1.1.1))
-
-pub rewrapped-returns-in-Full-copy_index : goal.rewrapped-returns-in-Full-copy_index
-rewrapped-returns-in-Full-copy_index t c =
-    let cp = rw c.a-1.given.1 at c.copy_parent.ensures in
-    (index_full _ _ _ _ _ _ _ _ _ _ c.requires.1.0.0 c.requires.1.1.0.0 _ c.look-x.ensures.0 c.requires.1.1.0.1.0 _ c.look-second.ensures.0 _ _ cp _ (rw c.enum_told-in-Full-copy_index-1.given.1 at c.copy_index.ensures), tabled_over c.requires.1.0.0 (rw c.enum_told-in-Full-copy_index-1.given.1 at c.copy_index.ensures).kept (tabled_over c.requires.1.0.0 cp.kept c.requires.1.1.1))
-
-pub rewrapped-returns-in-No : goal.rewrapped-returns-in-No
-rewrapped-returns-in-No t c =
-    absurd (rw c.enum_told-in-No-1.given.1 at c.copy_parent.ensures).means
-
-pub rewrapped-returns-in-Full : goal.rewrapped-returns-in-Full
-rewrapped-returns-in-Full t c =
-    (head_crowded _ _ _ _ _ _ _ _ _ _ c.look-x.ensures.0 _ (rw c.enum_told-in-Full-1.given.1 at c.copy_parent.ensures), tabled_over c.requires.1.0.0 (rw c.enum_told-in-Full-1.given.1 at c.copy_parent.ensures).kept c.requires.1.1.1)
+    (c.requires.0, (c.if-space-g.false, c.look-x.ensures.1))
 
 pub rows-returns-then-l-eq0 : goal.rows-returns-then-l-eq0
 rows-returns-then-l-eq0 t c =
-    (rows_end c.args.known _ _ c.args.space c.args.left c.args.swap _ _ c.args.feed _ _ _ _ _ c.requires.1.0.1 c.if-l-eq0.true c.row_end.ensures, c.requires.1.1)
+    (rows_end c.args.known _ _ c.args.space c.args.left c.args.swap _ _ c.args.feed _ _ _ _ _ c.requires.0.1 c.if-l-eq0.true c.row_end.ensures, c.requires.1)
 
 pub rows-returns-then-left-eq0 : goal.rows-returns-then-left-eq0
 rows-returns-then-left-eq0 t c =
-    (rows_spent c.args.known _ _ c.args.space c.args.left c.args.swap _ _ c.args.feed _ _ _ _ c.if-l-eq0.false c.if-left-eq0.true, c.requires.1.1)
+    (rows_spent c.args.known _ _ c.args.space c.args.left c.args.swap _ _ c.args.feed _ _ _ _ c.if-l-eq0.false c.if-left-eq0.true, c.requires.1)
 
 pub rows-row-row-requires : goal.rows-row-row-requires
 rows-row-row-requires t c =
-    c.requires.1.0.0.few
+    c.requires.0.0.few
 
 pub rows-returns-then-partner-eq0 : goal.rows-returns-then-partner-eq0
 rows-returns-then-partner-eq0 t c =
-    (rows_unfed c.args.known _ _ c.args.space c.args.left c.args.swap _ _ c.args.feed _ _ _ _ _ c.if-l-eq0.false (c.row-row.ensures c.requires.1.1.partners) c.if-partner-eq0.true, c.requires.1.1)
+    (rows_unfed c.args.known _ _ c.args.space c.args.left c.args.swap _ _ c.args.feed _ _ _ _ _ c.if-l-eq0.false (c.row-row.ensures c.requires.1.partners) c.if-partner-eq0.true, c.requires.1)
 
 pub rows-name_field-requires : goal.rows-name_field-requires
 rows-name_field-requires t c =
-    (c.requires.1.0.0, (c.requires.1.0.1, c.look-x.ensures.1))
+    (c.requires.0.0, (c.requires.0.1, c.look-x.ensures.1))
 
 pub rows-returns-then-not-name_field : goal.rows-returns-then-not-name_field
 rows-returns-then-not-name_field t c =
-    (rows_crowded c.args.known _ _ c.args.space c.args.left c.args.swap _ _ c.args.feed _ _ _ _ c.requires.1.0.0 c.requires.1.0.1 _ c.look-x.ensures.0 c.if-l-eq0.false _ (c.row-row.ensures c.requires.1.1.partners) c.if-partner-eq0.false _ _ c.name_field.ensures (not-true _ c.if-not-name_field.true), tabled_over c.requires.1.0.0 c.name_field.ensures.kept c.requires.1.1)
+    (rows_crowded c.args.known _ _ c.args.space c.args.left c.args.swap _ _ c.args.feed _ _ _ _ c.requires.0.0 c.requires.0.1 _ c.look-x.ensures.0 c.if-l-eq0.false _ (c.row-row.ensures c.requires.1.partners) c.if-partner-eq0.false _ _ c.name_field.ensures (not-true _ c.if-not-name_field.true), tabled_over c.requires.0.0 c.name_field.ensures.kept c.requires.1)
 
 pub rows-common-requires : goal.rows-common-requires
 rows-common-requires t c =
-    (omega (arith, c.requires.0), ((room_kept c.name_field.ensures.kept c.requires.1.0.0, field_ready _ c.requires.1.0.1 c.look-x.ensures.1 (not-false _ c.if-not-name_field.false) c.name_field.ensures), tabled_over c.requires.1.0.0 c.name_field.ensures.kept c.requires.1.1))
+    (omega (arith, c.decreases), ((room_kept c.name_field.ensures.kept c.requires.0.0, field_ready _ c.requires.0.1 c.look-x.ensures.1 (not-false _ c.if-not-name_field.false) c.name_field.ensures), tabled_over c.requires.0.0 c.name_field.ensures.kept c.requires.1))
 
 pub rows-overflow_sub-left : goal.rows-overflow_sub-left
 rows-overflow_sub-left t c =
     omega (arith, c.if-left-eq0.false)
 
-pub rows-rows-requires : goal.rows-rows-requires
-rows-rows-requires t c =
-    let done = none_hint c.args.swap (rw c.d-1.given.1 at c.common.ensures.0) in
-    (omega (arith, c.requires.0, c.if-left-eq0.false), ((room_kept done.writes.kept (room_kept c.name_field.ensures.kept c.requires.1.0.0), done.writes.passes.0), c.common.ensures.1))
-
-pub rows-tie-requires : goal.rows-tie-requires
-rows-tie-requires t c =
-    let done = none_hint c.args.swap (rw c.d-1.given.1 at c.common.ensures.0) in
-    let more = rw c.e-1.given.1 at c.rows.ensures.0 in
-    let room = room_kept more.kept (room_kept done.writes.kept (room_kept c.name_field.ensures.kept c.requires.1.0.0)) in
-    (room, (omega (arith, done.writes.passes.1.0, done.writes.passes.0.records), omega (arith, c.next_link.ensures.1, done.writes.passes.0.records, room.few)))
-
-pub rows-shape_of-work-in-Done-rows : goal.rows-shape_of-work-in-Done-rows
-rows-shape_of-work-in-Done-rows t c =
-    let done = none_hint c.args.swap (rw c.d-1.given.1 at c.common.ensures.0) in
-    let more = rw c.e-1.given.1 at c.rows.ensures.0 in
-    (rows-done c.args.known _ _ c.args.space c.args.left c.args.swap _ _ c.args.feed _ _ _ _ c.requires.1.0.0 c.requires.1.0.1 _ c.look-x.ensures.0 c.if-l-eq0.false _ (c.row-row.ensures c.requires.1.1.partners) c.if-partner-eq0.false _ _ c.name_field.ensures _ c.row_known-own.ensures (not-false _ c.if-not-name_field.false) _ _ done _ _ _ _ more c.next_link.ensures.0 c.tie.ensures).kept.long
-
-pub rows-returns-in-Done-rows : goal.rows-returns-in-Done-rows
-rows-returns-in-Done-rows t c =
-    let done = none_hint c.args.swap (rw c.d-1.given.1 at c.common.ensures.0) in
-    let more = rw c.e-1.given.1 at c.rows.ensures.0 in
-    (rows-done c.args.known _ _ c.args.space c.args.left c.args.swap _ _ c.args.feed _ _ _ _ c.requires.1.0.0 c.requires.1.0.1 _ c.look-x.ensures.0 c.if-l-eq0.false _ (c.row-row.ensures c.requires.1.1.partners) c.if-partner-eq0.false _ _ c.name_field.ensures _ c.row_known-own.ensures (not-false _ c.if-not-name_field.false) _ _ done _ _ _ _ more c.next_link.ensures.0 c.tie.ensures, tabled_over c.requires.1.0.0 (tied_kept _ _ _ _ _ c.tie.ensures 0 (omega (arith, done.writes.passes.1.0, done.writes.passes.0.records))) c.rows.ensures.1)
-
-pub rows-returns-in-No-rows : goal.rows-returns-in-No-rows
-rows-returns-in-No-rows t c =
-    let done = none_hint c.args.swap (rw c.d-1.given.1 at c.common.ensures.0) in
-    let more = rw c.enum_told-1.given.1 at c.rows.ensures.0 in
-    (rows-rest-none c.args.known _ _ c.args.space c.args.left c.args.swap _ _ c.args.feed _ _ _ _ c.requires.1.0.0 c.requires.1.0.1 _ c.look-x.ensures.0 c.if-l-eq0.false _ (c.row-row.ensures c.requires.1.1.partners) c.if-partner-eq0.false _ _ c.name_field.ensures _ c.row_known-own.ensures (not-false _ c.if-not-name_field.false) _ _ done _ more, c.rows.ensures.1)
-
-pub rows-returns-in-Full-rows : goal.rows-returns-in-Full-rows
-rows-returns-in-Full-rows t c =
-    let done = none_hint c.args.swap (rw c.d-1.given.1 at c.common.ensures.0) in
-    let more = rw c.enum_told-in-Full-rows-1.given.1 at c.rows.ensures.0 in
-    (rows-rest-full c.args.known _ _ c.args.space c.args.left c.args.swap _ _ c.args.feed _ _ _ _ c.requires.1.0.0 c.requires.1.0.1 _ c.look-x.ensures.0 c.if-l-eq0.false _ (c.row-row.ensures c.requires.1.1.partners) c.if-partner-eq0.false _ _ c.name_field.ensures _ c.row_known-own.ensures (not-false _ c.if-not-name_field.false) _ _ done _ more, c.rows.ensures.1)
-
-pub rows-returns-in-No : goal.rows-returns-in-No
-rows-returns-in-No t c =
-    let one = none_hint c.args.swap (rw c.enum_told-in-No-1.given.1 at c.common.ensures.0) in
-    (rows_none c.args.known _ _ c.args.space c.args.left c.args.swap _ _ c.args.feed _ _ _ _ c.requires.1.0.0 c.requires.1.0.1 _ c.look-x.ensures.0 c.if-l-eq0.false _ (c.row-row.ensures c.requires.1.1.partners) c.if-partner-eq0.false _ _ c.name_field.ensures _ c.row_known-own.ensures (not-false _ c.if-not-name_field.false) _ one, c.common.ensures.1)
-
-pub rows-returns-in-Full : goal.rows-returns-in-Full
-rows-returns-in-Full t c =
-    let one = none_hint c.args.swap (rw c.enum_told-in-Full-1.given.1 at c.common.ensures.0) in
-    (rows_full c.args.known _ _ c.args.space c.args.left c.args.swap _ _ c.args.feed _ _ _ _ c.requires.1.0.0 c.requires.1.0.1 _ c.look-x.ensures.0 c.if-l-eq0.false _ (c.row-row.ensures c.requires.1.1.partners) c.if-partner-eq0.false _ _ c.name_field.ensures _ c.row_known-own.ensures (not-false _ c.if-not-name_field.false) _ one, c.common.ensures.1)
-
 pub struct_rule-struct_feed-feed-requires : goal.struct_rule-struct_feed-feed-requires
 struct_rule-struct_feed-feed-requires t c =
-    (c.requires.1.0.0.few, c.requires.1.1)
+    (c.requires.0.0.few, c.requires.1)
 
 pub struct_rule-under-requires : goal.struct_rule-under-requires
 struct_rule-under-requires t c =
-    (omega (arith, c.requires.0), ((c.requires.1.0, omega arith), c.struct_feed-feed.ensures.1))
+    (omega (arith, c.decreases), ((c.requires.0, omega arith), c.struct_feed-feed.ensures.1))
 
 pub struct_rule-returns-then-both : goal.struct_rule-returns-then-both
 struct_rule-returns-then-both t c =
@@ -503,51 +366,39 @@ struct_rule-returns-then-both t c =
 
 pub struct_rule-returns : goal.struct_rule-returns
 struct_rule-returns t c =
-    (struct_none _ _ _ c.args.swap _ _ _ _ _ _ _ c.look-x.ensures.0 c.look-y.ensures.0 c.same_arity.ensures (and_are c.both.ensures refl c.both-2.ensures ∙ c.if-both.false), c.requires.1.1)
+    (struct_none _ _ _ c.args.swap _ _ _ _ _ _ _ c.look-x.ensures.0 c.look-y.ensures.0 c.same_arity.ensures (and_are c.both.ensures refl c.both-2.ensures ∙ c.if-both.false), c.requires.1)
 
 pub under-returns-then-space-at : goal.under-returns-then-space-at
 under-returns-then-space-at t c =
-    (under_full _ _ _ _ _ _ _ _ _ _ _ _ c.if-space-at.true, c.requires.1.1)
+    (under_full _ _ _ _ _ _ _ _ _ _ _ _ c.if-space-at.true, c.requires.1)
 
 pub under-lay-requires : goal.under-lay-requires
 under-lay-requires t c =
-    (c.requires.1.0.0, (c.if-space-at.false, (c.requires.1.0.1, c.first_link.ensures.1)))
+    (c.requires.0.0, (c.if-space-at.false, (c.requires.0.1, c.first_link.ensures.1)))
 
 pub under-rows-requires : goal.under-rows-requires
 under-rows-requires t c =
-    (omega (arith, c.requires.0), ((room_kept c.lay.ensures.kept c.requires.1.0.0.0, (after_passes _ c.requires.1.0.0.1 c.if-space-at.false).0), tabled_over c.requires.1.0.0.0 c.lay.ensures.kept c.requires.1.1))
+    (omega (arith, c.decreases), ((room_kept c.lay.ensures.kept c.requires.0.0.0, (after_passes _ c.requires.0.0.1 c.if-space-at.false).0), tabled_over c.requires.0.0.0 c.lay.ensures.kept c.requires.1))
 
 pub under-returns : goal.under-returns
 under-returns t c =
-    (under_on _ _ _ _ _ _ _ _ _ _ _ _ _ _ c.requires.1.0.0.0 c.requires.1.0.0.1 c.if-space-at.false c.first_link.ensures.0 c.lay.ensures c.rows.ensures.0, c.rows.ensures.1)
+    (under_on _ _ _ _ _ _ _ _ _ _ _ _ _ _ c.requires.0.0.0 c.requires.0.0.1 c.if-space-at.false c.first_link.ensures.0 c.lay.ensures c.rows.ensures.0, c.rows.ensures.1)
 
 pub unwrap-wrapper-requires : goal.unwrap-wrapper-requires
 unwrap-wrapper-requires t c =
-    (omega (arith, c.requires.0), (c.requires.1.0, c.requires.1.1.1))
+    (omega (arith, c.decreases), (c.requires.0, c.requires.1.1))
 
 pub unwrap-nested-requires : goal.unwrap-nested-requires
 unwrap-nested-requires t c =
-    (omega (arith, c.requires.0), ((room_kept c.wrapper.ensures.0.writes.kept c.requires.1.0.0, c.requires.1.0.1), c.wrapper.ensures.1))
-
-pub unwrap-returns-in-Done : goal.unwrap-returns-in-Done
-unwrap-returns-in-Done t c =
-    (unwrap_done c.args.known _ _ c.requires.1.1.0 _ _ c.args.swap _ _ _ _ _ _ _ (rw c.d-1.given.1 at c.wrapper.ensures.0), c.wrapper.ensures.1)
-
-pub unwrap-returns-in-No : goal.unwrap-returns-in-No
-unwrap-returns-in-No t c =
-    (unwrap_nested c.args.known _ _ c.requires.1.1.0 _ _ c.args.swap _ _ _ _ _ _ c.requires.1.0.0 _ _ (rw c.enum_told-1.given.1 at c.wrapper.ensures.0) c.nested.ensures.0, c.nested.ensures.1)
-
-pub unwrap-returns-in-Full : goal.unwrap-returns-in-Full
-unwrap-returns-in-Full t c =
-    (unwrap_full c.args.known _ _ c.requires.1.1.0 _ _ c.args.swap _ _ _ _ _ _ (rw c.enum_told-in-Full-1.given.1 at c.wrapper.ensures.0), c.wrapper.ensures.1)
+    (omega (arith, c.decreases), ((room_kept c.wrapper.ensures.0.writes.kept c.requires.0.0, c.requires.0.1), c.wrapper.ensures.1))
 
 pub wrapper-returns-then-kind-eq0 : goal.wrapper-returns-then-kind-eq0
 wrapper-returns-then-kind-eq0 t c =
-    (way_spent (rules_of c.args.question c.args.mask) _ _ _ c.args.swap _ _ _ _ _ c.way-t.ensures c.if-kind-eq0.true, c.requires.1.1)
+    (way_spent (rules_of c.args.question c.args.mask) _ _ _ c.args.swap _ _ _ _ _ c.way-t.ensures c.if-kind-eq0.true, c.requires.1)
 
 pub wrapper-common-requires : goal.wrapper-common-requires
 wrapper-common-requires t c =
-    (omega (arith, c.requires.0), (c.requires.1.0, c.requires.1.1))
+    (omega (arith, c.decreases), (c.requires.0, c.requires.1))
 
 pub wrapper-returns-then-j-kind : goal.wrapper-returns-then-j-kind
 wrapper-returns-then-j-kind t c =
@@ -555,19 +406,19 @@ wrapper-returns-then-j-kind t c =
 
 pub wrapper-same_sides-requires : goal.wrapper-same_sides-requires
 wrapper-same_sides-requires t c =
-    omega (arith, c.requires.1.0.0.few)
+    omega (arith, c.requires.0.0.few)
 
 pub wrapper-copy_type-requires : goal.wrapper-copy_type-requires
 wrapper-copy_type-requires t c =
-    c.requires.1.0
+    c.requires.0
 
 pub wrapper-returns-then-same_sides : goal.wrapper-returns-then-same_sides
 wrapper-returns-then-same_sides t c =
-    (way_merged (rules_of c.args.question c.args.mask) _ _ _ c.args.swap _ _ _ _ _ c.way-t.ensures _ _ (any_hint _ _ c.args.swap (any_known _ c.args.swap (wrapper-left-same _ _ _ c.args.swap _ _ _ _ _ c.kind_at-k.ensures c.kind_at-j.ensures (c.way-t.ensures.wrapper c.if-kind-eq0.false) _ _ c.if-k-kind.true c.if-j-kind.false c.value_at-a.ensures c.same_sides.ensures c.if-same_sides.true c.copy_type.ensures))), tabled_over c.requires.1.0.0 c.copy_type.ensures.writes.kept c.requires.1.1)
+    (way_merged (rules_of c.args.question c.args.mask) _ _ _ c.args.swap _ _ _ _ _ c.way-t.ensures _ _ (any_hint _ _ c.args.swap (any_known _ c.args.swap (wrapper-left-same _ _ _ c.args.swap _ _ _ _ _ c.kind_at-k.ensures c.kind_at-j.ensures (c.way-t.ensures.wrapper c.if-kind-eq0.false) _ _ c.if-k-kind.true c.if-j-kind.false c.value_at-a.ensures c.same_sides.ensures c.if-same_sides.true c.copy_type.ensures))), tabled_over c.requires.0.0 c.copy_type.ensures.writes.kept c.requires.1)
 
 pub wrapper-common-requires-then-k-kind : goal.wrapper-common-requires-then-k-kind
 wrapper-common-requires-then-k-kind t c =
-    (omega (arith, c.requires.0), (c.requires.1.0, c.requires.1.1))
+    (omega (arith, c.decreases), (c.requires.0, c.requires.1))
 
 pub wrapper-returns-then-k-kind : goal.wrapper-returns-then-k-kind
 wrapper-returns-then-k-kind t c =
@@ -575,19 +426,19 @@ wrapper-returns-then-k-kind t c =
 
 pub wrapper-same_sides-requires-then-j-kind-2 : goal.wrapper-same_sides-requires-then-j-kind-2
 wrapper-same_sides-requires-then-j-kind-2 t c =
-    omega (arith, c.requires.1.0.0.few)
+    omega (arith, c.requires.0.0.few)
 
 pub wrapper-copy_type-requires-then-same_sides-2 : goal.wrapper-copy_type-requires-then-same_sides-2
 wrapper-copy_type-requires-then-same_sides-2 t c =
-    c.requires.1.0
+    c.requires.0
 
 pub wrapper-returns-then-same_sides-2 : goal.wrapper-returns-then-same_sides-2
 wrapper-returns-then-same_sides-2 t c =
-    (way_merged (rules_of c.args.question c.args.mask) _ _ _ c.args.swap _ _ _ _ _ c.way-t.ensures _ _ (any_hint _ _ c.args.swap (any_known _ c.args.swap (wrapper-right-same _ _ _ c.args.swap _ _ _ _ _ c.kind_at-k.ensures c.kind_at-j.ensures (c.way-t.ensures.wrapper c.if-kind-eq0.false) _ _ c.if-k-kind.false c.if-j-kind-2.true c.value_at-b.ensures c.same_sides-then-j-kind-2.ensures c.if-same_sides-2.true c.copy_type-then-same_sides-2.ensures))), tabled_over c.requires.1.0.0 c.copy_type-then-same_sides-2.ensures.writes.kept c.requires.1.1)
+    (way_merged (rules_of c.args.question c.args.mask) _ _ _ c.args.swap _ _ _ _ _ c.way-t.ensures _ _ (any_hint _ _ c.args.swap (any_known _ c.args.swap (wrapper-right-same _ _ _ c.args.swap _ _ _ _ _ c.kind_at-k.ensures c.kind_at-j.ensures (c.way-t.ensures.wrapper c.if-kind-eq0.false) _ _ c.if-k-kind.false c.if-j-kind-2.true c.value_at-b.ensures c.same_sides-then-j-kind-2.ensures c.if-same_sides-2.true c.copy_type-then-same_sides-2.ensures))), tabled_over c.requires.0.0 c.copy_type-then-same_sides-2.ensures.writes.kept c.requires.1)
 
 pub wrapper-common-requires-then-j-kind-2 : goal.wrapper-common-requires-then-j-kind-2
 wrapper-common-requires-then-j-kind-2 t c =
-    (omega (arith, c.requires.0), (c.requires.1.0, c.requires.1.1))
+    (omega (arith, c.decreases), (c.requires.0, c.requires.1))
 
 pub wrapper-returns-then-j-kind-2 : goal.wrapper-returns-then-j-kind-2
 wrapper-returns-then-j-kind-2 t c =
@@ -595,4 +446,4 @@ wrapper-returns-then-j-kind-2 t c =
 
 pub wrapper-returns : goal.wrapper-returns
 wrapper-returns t c =
-    (way_merged (rules_of c.args.question c.args.mask) _ _ _ c.args.swap _ _ _ _ _ c.way-t.ensures _ _ (any_hint _ _ c.args.swap (any_known _ c.args.swap (wrapper_none _ _ _ c.args.swap _ _ _ _ _ c.kind_at-k.ensures c.kind_at-j.ensures (c.way-t.ensures.wrapper c.if-kind-eq0.false) c.if-k-kind.false c.if-j-kind-2.false))), c.requires.1.1)
+    (way_merged (rules_of c.args.question c.args.mask) _ _ _ c.args.swap _ _ _ _ _ c.way-t.ensures _ _ (any_hint _ _ c.args.swap (any_known _ c.args.swap (wrapper_none _ _ _ c.args.swap _ _ _ _ _ c.kind_at-k.ensures c.kind_at-j.ensures (c.way-t.ensures.wrapper c.if-kind-eq0.false) c.if-k-kind.false c.if-j-kind-2.false))), c.requires.1)

@@ -4,10 +4,6 @@ use lib.ListN.{get_or-eq_default}
 use borrow.Author.Rules.{rules}
 use Rattle.names.proofs.places.item_at.Goals as goal
 
-pub returns-then-i-xs : goal.returns-then-i-xs
-returns-then-i-xs c =
-    (refl, omega (arith, c.shared_slice_known-1.given c.args.i))
-
 pub returns-else-i-xs : goal.returns-else-i-xs
 returns-else-i-xs c =
     (sym (get_or-eq_default c.args.xs.now 0 {n = c.args.i} c.if-i-xs.false), omega arith)

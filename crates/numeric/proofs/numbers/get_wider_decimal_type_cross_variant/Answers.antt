@@ -3,8 +3,6 @@ use Rattle.coercion.specs.Numbers.{get_wider_decimal_type_cross_variant}
 use borrow.Author.Rules.{rules}
 use Rattle.numeric.proofs.numbers.get_wider_decimal_type_cross_variant.Goals as goal
 
-}
-
 pub returns-then-p-precision_cap : goal.returns-then-p-precision_cap
 unfolding get_wider_decimal_type_cross_variant
 returns-then-p-precision_cap c =

@@ -10,11 +10,3 @@ wider_integer-requires c =
 pub returns-then-both : goal.returns-then-both
 returns-then-both c =
     c.wider_integer.ensures ∙ sym (integers_alone c.args.l c.args.r (sym (rw (c.is_integer.ensures, c.is_integer-2.ensures) at c.both.ensures) ∙ c.if-both.true))
-
-pub returns-in-Of : goal.returns-in-Of
-returns-in-Of c =
-    rw (← c.decimal_coercion.ensures, c.f-1.given.1)
-
-pub returns-in-Nothing : goal.returns-in-Nothing
-returns-in-Nothing c =
-    rw (← c.decimal_coercion.ensures, c.enum_told-1.given.1) c.numerical_coercion.ensures

@@ -15,14 +15,6 @@ light_labels-labels-requires c =
     let l = sym c.is_light.ensures ∙ c.if-is_light.true in
     subst (λ (x : ℕ). light (by_quads c.quad_at-a.result x 0 0) ≡ true) (light_quad c.quad_at-a.result c.quad_at.result l) l
 
-pub returns-then-labels-lt511 : goal.returns-then-labels-lt511
-returns-then-labels-lt511 c =
-    let l = sym c.is_light.ensures ∙ c.if-is_light.true in
-    subst (λ (h : Head). Passed h c.args.up c.args.found (c.args.found + c.light_labels-labels.result))
-    (by_quads_lem c.args.s.now c.args.i (λ j. (c.shared_slice_known-1.given j).fits) _ _ (quad_at c.args.s.now (c.args.i + 8)) _ c.quad_at-a.ensures.0 c.quad_at.ensures.0 refl c.quad_at-then-is_light.ensures.0)
-    (right_passed _ c.args.up c.args.found _ c.requires.1.0
-    (passes_linked _ _ _ _ _ _ _ (light_quad c.quad_at-a.result c.quad_at.result l) c.light_labels-labels.ensures) c.if-labels-lt511.true c.requires.1.1)
-
 pub returns-then-is_light : goal.returns-then-is_light
 returns-then-is_light c =
     subst (λ (h : Head). Passed h c.args.up c.args.found c.pass_open.result) c.head_from.ensures.0 c.pass_open.ensures

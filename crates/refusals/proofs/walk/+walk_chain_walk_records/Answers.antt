@@ -20,11 +20,11 @@ walk-records-μ-loop s n up due found k link₀ due₀ found₀ k₀ link due' f
 
 pub walk_chain-row_walk-r-requires : goal.walk_chain-row_walk-r-requires
 walk_chain-row_walk-r-requires t c =
-    (c.requires.1.0, (c.requires.1.1.0, c.requires.1.1.1.0))
+    (c.requires.0, (c.requires.1.0, c.requires.1.1.0))
 
 pub walk_chain-returns-then-r-eq0 : goal.walk_chain-returns-then-r-eq0
 walk_chain-returns-then-r-eq0 t c =
-    tells_lost _ _ _ _ _ _ (walk_lost _ _ _ _ _ _ (omega (arith, c.requires.1.1.1.1)) (c.row_walk-r.ensures.lost c.if-r-eq0.true))
+    tells_lost _ _ _ _ _ _ (walk_lost _ _ _ _ _ _ (omega (arith, c.requires.1.1.1)) (c.row_walk-r.ensures.lost c.if-r-eq0.true))
 
 pub walk_chain-overflow_sub-r : goal.walk_chain-overflow_sub-r
 walk_chain-overflow_sub-r t c =
@@ -33,11 +33,11 @@ walk_chain-overflow_sub-r t c =
 pub walk_chain-walk_records-requires : goal.walk_chain-walk_records-requires
 walk_chain-walk_records-requires t c =
     let row = c.row_walk-r.ensures.row c.if-r-eq0.false c.if-r-lt65536.true in
-    (omega (arith, c.requires.0, row.some), (c.requires.1.0, (row_ready _ _ _ c.args.found c.requires.1.1.0 _ _ row, c.requires.1.1.1.0)))
+    (omega (arith, c.decreases, row.some), (c.requires.0, (row_ready _ _ _ c.args.found c.requires.1.0 _ _ row, c.requires.1.1.0)))
 
 pub walk_chain-returns-then-r-lt65536 : goal.walk_chain-returns-then-r-lt65536
 walk_chain-returns-then-r-lt65536 t c =
-    row_tells _ _ _ c.args.found c.requires.1.1.0 _ (c.row_walk-r.ensures.same c.if-r-eq0.false c.if-r-lt65536.true) c.args.up _ (c.row_walk-r.ensures.row c.if-r-eq0.false c.if-r-lt65536.true) _ c.walk_records.ensures
+    row_tells _ _ _ c.args.found c.requires.1.0 _ (c.row_walk-r.ensures.same c.if-r-eq0.false c.if-r-lt65536.true) c.args.up _ (c.row_walk-r.ensures.row c.if-r-eq0.false c.if-r-lt65536.true) _ c.walk_records.ensures
 
 pub walk_chain-returns : goal.walk_chain-returns
 walk_chain-returns t c =
@@ -45,7 +45,7 @@ walk_chain-returns t c =
 
 pub walk_records-loop-link-init : goal.walk_records-loop-link-init
 walk_records-loop-link-init t c =
-    (c.requires.1.1.0, (omega arith, (c.requires.1.1.1, λ o w. w)))
+    (c.requires.1.0, (omega arith, (c.requires.1.1, λ o w. w)))
 
 pub walk_records-returns-then-link-due : goal.walk_records-returns-then-link-due
 walk_records-returns-then-link-due t c =
@@ -57,15 +57,15 @@ walk_records-returns-then-n-due t c =
 
 pub walk_records-overflow_mul-i : goal.walk_records-overflow_mul-i
 walk_records-overflow_mul-i t c =
-    omega (arith, c.requires.1.0, c.if-n-due.false)
+    omega (arith, c.requires.0, c.if-n-due.false)
 
 pub walk_records-pass_record-found-requires : goal.walk_records-pass_record-found-requires
 walk_records-pass_record-found-requires t c =
-    (omega (arith, c.requires.1.0, c.if-n-due.false), (omega (arith, c.loop-link.invariant.0.short, c.loop-link.invariant.0.inside, c.loop-link.invariant.0.few), c.loop-link.invariant.1.1.0))
+    (omega (arith, c.requires.0, c.if-n-due.false), (omega (arith, c.loop-link.invariant.0.short, c.loop-link.invariant.0.inside, c.loop-link.invariant.0.few), c.loop-link.invariant.1.1.0))
 
 pub walk_records-head_from-h-requires : goal.walk_records-head_from-h-requires
 walk_records-head_from-h-requires t c =
-    omega (arith, c.requires.1.0, c.if-n-due.false)
+    omega (arith, c.requires.0, c.if-n-due.false)
 
 pub walk_records-overflow_add-due : goal.walk_records-overflow_add-due
 walk_records-overflow_add-due t c =
@@ -81,31 +81,31 @@ walk_records-loop-link-smaller-then-parts_right t c =
 
 pub walk_records-loop-link-preserved-then-parts_right : goal.walk_records-loop-link-preserved-then-parts_right
 walk_records-loop-link-preserved-then-parts_right t c =
-    (past_ready c.args.s.now _ _ _ _ _ _ c.requires.1.0 c.if-link-due.false c.if-n-due.false _ c.head_from-h.ensures.0 _ c.pass_record-found.ensures c.loop-link.invariant.0 _ (omega arith), (omega (arith, c.loop-link.invariant.1.0), (c.pass_record-found.ensures.small, λ o v. c.loop-link.invariant.1.1.1 o (leaf_on c.args.s.now _ _ _ _ _ _ c.requires.1.0 c.if-link-due.false c.if-n-due.false _ c.head_from-h.ensures.0 _ c.pass_record-found.ensures c.loop-link.invariant.0 c.if-h-eq0.true (sym c.parts_right.ensures ∙ c.if-parts_right.true) o v))))
+    (past_ready c.args.s.now _ _ _ _ _ _ c.requires.0 c.if-link-due.false c.if-n-due.false _ c.head_from-h.ensures.0 _ c.pass_record-found.ensures c.loop-link.invariant.0 _ (omega arith), (omega (arith, c.loop-link.invariant.1.0), (c.pass_record-found.ensures.small, λ o v. c.loop-link.invariant.1.1.1 o (leaf_on c.args.s.now _ _ _ _ _ _ c.requires.0 c.if-link-due.false c.if-n-due.false _ c.head_from-h.ensures.0 _ c.pass_record-found.ensures c.loop-link.invariant.0 c.if-h-eq0.true (sym c.parts_right.ensures ∙ c.if-parts_right.true) o v))))
 
 pub walk_records-returns-then-h-eq0 : goal.walk_records-returns-then-h-eq0
 walk_records-returns-then-h-eq0 t c =
-    tells_lost _ _ _ _ _ _ (c.loop-link.invariant.1.1.1 _ (leaf_wrong c.args.s.now _ _ _ _ _ _ c.requires.1.0 c.if-link-due.false c.if-n-due.false _ c.head_from-h.ensures.0 _ c.pass_record-found.ensures c.loop-link.invariant.0 c.if-h-eq0.true (sym c.parts_right.ensures ∙ c.if-parts_right.false)))
+    tells_lost _ _ _ _ _ _ (c.loop-link.invariant.1.1.1 _ (leaf_wrong c.args.s.now _ _ _ _ _ _ c.requires.0 c.if-link-due.false c.if-n-due.false _ c.head_from-h.ensures.0 _ c.pass_record-found.ensures c.loop-link.invariant.0 c.if-h-eq0.true (sym c.parts_right.ensures ∙ c.if-parts_right.false)))
 
 pub walk_records-walk_chain-inner-requires : goal.walk_records-walk_chain-inner-requires
 walk_records-walk_chain-inner-requires t c =
-    (omega (arith, c.requires.0, c.if-n-due.false, c.loop-link.invariant.1.0), (c.requires.1.0, (past_ready c.args.s.now _ _ _ _ _ _ c.requires.1.0 c.if-link-due.false c.if-n-due.false _ c.head_from-h.ensures.0 _ c.pass_record-found.ensures c.loop-link.invariant.0 0 (omega arith), (c.pass_record-found.ensures.small, omega (arith, c.if-h-eq0.false)))))
+    (omega (arith, c.decreases, c.if-n-due.false, c.loop-link.invariant.1.0), (c.requires.0, (past_ready c.args.s.now _ _ _ _ _ _ c.requires.0 c.if-link-due.false c.if-n-due.false _ c.head_from-h.ensures.0 _ c.pass_record-found.ensures c.loop-link.invariant.0 0 (omega arith), (c.pass_record-found.ensures.small, omega (arith, c.if-h-eq0.false)))))
 
 pub walk_records-returns-then-inner-eq0 : goal.walk_records-returns-then-inner-eq0
 walk_records-returns-then-inner-eq0 t c =
-    tells_lost _ _ _ _ _ _ (c.loop-link.invariant.1.1.1 _ (parts_lost c.args.s.now _ _ _ _ _ _ c.requires.1.0 c.if-link-due.false c.if-n-due.false _ c.head_from-h.ensures.0 _ c.pass_record-found.ensures c.loop-link.invariant.0 _ c.walk_chain-inner.ensures c.if-inner-eq0.true))
+    tells_lost _ _ _ _ _ _ (c.loop-link.invariant.1.1.1 _ (parts_lost c.args.s.now _ _ _ _ _ _ c.requires.0 c.if-link-due.false c.if-n-due.false _ c.head_from-h.ensures.0 _ c.pass_record-found.ensures c.loop-link.invariant.0 _ c.walk_chain-inner.ensures c.if-inner-eq0.true))
 
 pub walk_records-loop-link-smaller : goal.walk_records-loop-link-smaller
 walk_records-loop-link-smaller t c =
-    omega (arith, c.if-n-due.false, parts-farther c.args.s.now _ _ _ _ _ _ c.requires.1.0 c.if-link-due.false c.if-n-due.false _ c.head_from-h.ensures.0 _ c.pass_record-found.ensures c.loop-link.invariant.0 _ c.walk_chain-inner.ensures c.if-inner-eq0.false)
+    omega (arith, c.if-n-due.false, parts-farther c.args.s.now _ _ _ _ _ _ c.requires.0 c.if-link-due.false c.if-n-due.false _ c.head_from-h.ensures.0 _ c.pass_record-found.ensures c.loop-link.invariant.0 _ c.walk_chain-inner.ensures c.if-inner-eq0.false)
 
 pub walk_records-loop-link-preserved : goal.walk_records-loop-link-preserved
 walk_records-loop-link-preserved t c =
-    (parts-ready c.args.s.now _ _ _ _ _ _ c.requires.1.0 c.if-link-due.false c.if-n-due.false _ c.head_from-h.ensures.0 _ c.pass_record-found.ensures c.loop-link.invariant.0 _ c.walk_chain-inner.ensures c.if-inner-eq0.false, (omega (arith, c.loop-link.invariant.1.0, parts-farther c.args.s.now _ _ _ _ _ _ c.requires.1.0 c.if-link-due.false c.if-n-due.false _ c.head_from-h.ensures.0 _ c.pass_record-found.ensures c.loop-link.invariant.0 _ c.walk_chain-inner.ensures c.if-inner-eq0.false), (c.walk_chain-inner.ensures.small, λ o v. c.loop-link.invariant.1.1.1 o (parts-on c.args.s.now _ _ _ _ _ _ c.requires.1.0 c.if-link-due.false c.if-n-due.false _ c.head_from-h.ensures.0 _ c.pass_record-found.ensures c.loop-link.invariant.0 _ c.walk_chain-inner.ensures c.if-inner-eq0.false (sym c.parts_right-in-loop-link.ensures ∙ c.if-parts_right-2.true) o v))))
+    (parts-ready c.args.s.now _ _ _ _ _ _ c.requires.0 c.if-link-due.false c.if-n-due.false _ c.head_from-h.ensures.0 _ c.pass_record-found.ensures c.loop-link.invariant.0 _ c.walk_chain-inner.ensures c.if-inner-eq0.false, (omega (arith, c.loop-link.invariant.1.0, parts-farther c.args.s.now _ _ _ _ _ _ c.requires.0 c.if-link-due.false c.if-n-due.false _ c.head_from-h.ensures.0 _ c.pass_record-found.ensures c.loop-link.invariant.0 _ c.walk_chain-inner.ensures c.if-inner-eq0.false), (c.walk_chain-inner.ensures.small, λ o v. c.loop-link.invariant.1.1.1 o (parts-on c.args.s.now _ _ _ _ _ _ c.requires.0 c.if-link-due.false c.if-n-due.false _ c.head_from-h.ensures.0 _ c.pass_record-found.ensures c.loop-link.invariant.0 _ c.walk_chain-inner.ensures c.if-inner-eq0.false (sym c.parts_right-in-loop-link.ensures ∙ c.if-parts_right-2.true) o v))))
 
 pub walk_records-returns-else-parts_right-2 : goal.walk_records-returns-else-parts_right-2
 walk_records-returns-else-parts_right-2 t c =
-    tells_lost _ _ _ _ _ _ (c.loop-link.invariant.1.1.1 _ (parts-wrong c.args.s.now _ _ _ _ _ _ c.requires.1.0 c.if-link-due.false c.if-n-due.false _ c.head_from-h.ensures.0 _ c.pass_record-found.ensures c.loop-link.invariant.0 _ c.walk_chain-inner.ensures c.if-inner-eq0.false (sym c.parts_right-in-loop-link.ensures ∙ c.if-parts_right-2.false)))
+    tells_lost _ _ _ _ _ _ (c.loop-link.invariant.1.1.1 _ (parts-wrong c.args.s.now _ _ _ _ _ _ c.requires.0 c.if-link-due.false c.if-n-due.false _ c.head_from-h.ensures.0 _ c.pass_record-found.ensures c.loop-link.invariant.0 _ c.walk_chain-inner.ensures c.if-inner-eq0.false (sym c.parts_right-in-loop-link.ensures ∙ c.if-parts_right-2.false)))
 
 pub walk_records-overflow_mul-result : goal.walk_records-overflow_mul-result
 walk_records-overflow_mul-result t c =

@@ -27,24 +27,6 @@ pub meet-requires : goal.meet-requires
 meet-requires c =
     (c.loop-last.invariant.0, c.loop-last.invariant.1.1.1)
 
-pub fold_from-requires : goal.fold_from-requires
-fold_from-requires c =
-    let m = rw c.e-1.given.1 at c.meet.ensures in
-    (room_within m.within c.loop-last.invariant.0.0, (m.inside, c.loop-last.invariant.0.1))
-
-pub returns-in-Done : goal.returns-in-Done
-returns-in-Done c =
-    let m = rw c.e-1.given.1 at c.meet.ensures in
-    c.loop-last.invariant.1.1.0 _ _ (folds-on (rules_of Question.List _) _ _ c.loop-last-test.true _ c.head_at-h.ensures.0 c.if-h-ne1.true entry_right _ (steps_as entry_typed m) c.fold_from.ensures)
-
-pub returns-in-No : goal.returns-in-No
-returns-in-No c =
-    c.loop-last.invariant.1.1.0 _ _ (folds-no (rules_of Question.List _) _ _ c.loop-last-test.true _ c.head_at-h.ensures.0 c.if-h-ne1.true (steps_as entry_typed (rw c.enum_told-1.given.1 at c.meet.ensures)))
-
-pub returns-in-Full : goal.returns-in-Full
-returns-in-Full c =
-    c.loop-last.invariant.1.1.0 _ _ (folds-full (rules_of Question.List _) _ _ c.loop-last-test.true _ c.head_at-h.ensures.0 c.if-h-ne1.true (steps_as entry_typed (rw c.enum_told-in-Full-1.given.1 at c.meet.ensures)))
-
 pub loop-last-smaller : goal.loop-last-smaller
 loop-last-smaller c =
     omega arith

@@ -14,10 +14,6 @@ use Rattle.resolution.proofs.Shifting.{core_second, on_candidate}
 use Rattle.resolution.proofs.Folding.{FoldsOn, candidate_right, room_within, folds_end, folds_lost, folds_null, folds_kept, folds-on, folds-no, folds-full}
 use Rattle.resolution.proofs.fold.fold_from.Goals as goal
 
-)
-
-)
-
 pub loop-last-init : goal.loop-last-init
 loop-last-init c =
     (c.requires, (refl, ((λ v o g. g), λ n. absurd (n refl))))
@@ -46,34 +42,13 @@ pub shape_of-work-in-No : goal.shape_of-work-in-No
 shape_of-work-in-No c =
     c.step_list.ensures.within.long ∙ c.loop-last.invariant.1.0
 
-pub returns-in-No : goal.returns-in-No
-returns-in-No c =
-    c.loop-last.invariant.1.1.0 _ _ (folds-no (rules_of Question.List _) _ _ c.loop-last-test.true _ c.head_at-h.ensures.0 c.if-h-ne1.true (rw c.enum_told-1.given.1 at c.step_list.ensures))
-
 pub shape_of-work-in-Full : goal.shape_of-work-in-Full
 shape_of-work-in-Full c =
     c.step_list.ensures.within.long ∙ c.loop-last.invariant.1.0
 
-pub returns-in-Full : goal.returns-in-Full
-returns-in-Full c =
-    c.loop-last.invariant.1.1.0 _ _ (folds-full (rules_of Question.List _) _ _ c.loop-last-test.true _ c.head_at-h.ensures.0 c.if-h-ne1.true (rw c.enum_told-in-Full-1.given.1 at c.step_list.ensures))
-
 pub loop-last-smaller-in-Done : goal.loop-last-smaller-in-Done
 loop-last-smaller-in-Done c =
     omega arith
-
-pub loop-last-preserved-in-Done : goal.loop-last-preserved-in-Done
-loop-last-preserved-in-Done c =
-    let m = rw c.e-1.given.1 at c.step_list.ensures in (
-      (room_within m.within c.loop-last.invariant.0.0, (m.inside, c.loop-last.invariant.0.1.1)),
-      (
-        m.within.long ∙ c.loop-last.invariant.1.0,
-        (
-          (λ v o g. c.loop-last.invariant.1.1.0 v o (folds-on (rules_of Question.List _) _ _ c.loop-last-test.true _ c.head_at-h.ensures.0 c.if-h-ne1.true candidate_right o m g)),
-          λ n. absurd (n refl),
-        ),
-      ),
-    )
 
 pub loop-last-smaller-else-not-keeps : goal.loop-last-smaller-else-not-keeps
 loop-last-smaller-else-not-keeps c =
@@ -90,6 +65,7 @@ loop-last-preserved-else-not-keeps c =
       (λ n. core_second c.args.space c.loop-last.work c.core_of-core.ensures c.loop-last.invariant.1.1.1),
     ),
   ),
+)
 
 pub loop-last-smaller : goal.loop-last-smaller
 loop-last-smaller c =
@@ -103,6 +79,7 @@ loop-last-preserved c =
     c.loop-last.invariant.1.0,
     ((λ v o g. c.loop-last.invariant.1.1.0 v o (folds_null (rules_of Question.List _) _ _ c.loop-last-test.true _ c.head_at-h.ensures.0 o c.if-h-ne1.false g)), c.loop-last.invariant.1.1.1),
   ),
+)
 
 pub shape_of-work : goal.shape_of-work
 shape_of-work c =

@@ -50,19 +50,9 @@ pub taken_kinds-kinds-requires : goal.taken_kinds-kinds-requires
 taken_kinds-kinds-requires c =
     leaf_low c.head_at-h.result (sym c.is_plain.ensures ∙ unnot _ c.if-not-is_plain.false) c.leaf_of-x.ensures.0
 
-pub returns-in-Nothing : goal.returns-in-Nothing
-returns-in-Nothing c =
-    c.loop-last.invariant.1.1.1 _ _ (folds_apart (rules_of Question.List _) c.loop-last-test.true _ c.head_at-h.ensures.0 (not_null c.loop-last.kinds c.head_at-h.result c.leaf_of-x.ensures.0 (sym c.is_taken.ensures ∙ unnot _ c.if-not-is_taken.true)) (sym c.is_plain.ensures ∙ unnot _ c.if-not-is_plain.false) c.leaf_of-x.ensures.0 (rw c.enum_told-1.given.1 at c.common_type.ensures))
-
 pub loop-last-smaller-in-Of : goal.loop-last-smaller-in-Of
 loop-last-smaller-in-Of c =
     omega arith
-
-pub loop-last-preserved-in-Of : goal.loop-last-preserved-in-Of
-loop-last-preserved-in-Of c =
-    let j = rw c.c-1.given.1 at c.common_type.ensures in
-    let p = sym c.is_plain.ensures ∙ unnot _ c.if-not-is_plain.false in
-    ((c.loop-last.invariant.0.0, (c.loop-last.invariant.0.1.0, j.holdable)), (c.loop-last.invariant.1.0, (absorbs_next (rules_of Question.List _) c.loop-last.kinds c.leaf_of-x.result c.loop-last.candidate _ (leaf_low c.head_at-h.result p c.leaf_of-x.ensures.0) c.loop-last.invariant.1.1.0 j c.taken_kinds-kinds.ensures, λ v o g. c.loop-last.invariant.1.1.1 v o (folds_joined (rules_of Question.List _) c.loop-last-test.true _ c.head_at-h.ensures.0 (not_null c.loop-last.kinds c.head_at-h.result c.leaf_of-x.ensures.0 (sym c.is_taken.ensures ∙ unnot _ c.if-not-is_taken.true)) p c.leaf_of-x.ensures.0 o j g))))
 
 pub loop-last-smaller : goal.loop-last-smaller
 loop-last-smaller c =

@@ -10,8 +10,6 @@ use Rattle.resolution.proofs.Cores.{core_lost, core_short, core_stepped}
 use borrow.Author.Rules.{rules}
 use Rattle.resolution.proofs.wrapped.step_core.Goals as goal
 
-)
-
 pub returns-then-d-lt2 : goal.returns-then-d-lt2
 returns-then-d-lt2 c =
     core_lost (rules_of Question.List c.args.mask) _ c.requires.0.0 c.requires.0.1.0 c.requires.1 c.if-d-lt2.true
@@ -30,6 +28,7 @@ coerce-requires c =
     letters = omega (arith, c.requires.0.1.0.letters, c.label_bytes-own.ensures.0, c.if-d-own.false);
     short = omega (arith, c.head_at-h.ensures.1.nlen);
   },
+)
 
 pub returns : goal.returns
 returns c =

@@ -1,9 +1,0 @@
-use mathlib.Core.Path.{refl}
-use Rattle.coercion.specs.Data.{single}
-use Rattle.answers.proofs.Emitting.{emitted}
-use borrow.Author.Rules.{rules}
-use Rattle.answers.proofs.emit.write_type.Goals as goal
-
-pub returns : goal.returns
-returns c =
-    λ t h. emitted c.args.space c.args.d _ (λ i. ((c.shared_slice_known-1.given) i).fits) c.requires.0 c.requires.1.0 (single t) h _ _ _ _ _ _ _ _ c.requires.1.1 c.write_header.ensures refl refl c.copy.ensures.1 refl refl c.copy-2.ensures.1
