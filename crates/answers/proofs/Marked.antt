@@ -159,6 +159,7 @@ computed = refl
 
 -- what two functions say of a list alike, they say alike of each entry
 at_each : {A B : Type 0} (f g : A → B) (as' : List A) → map f as' ≡ map g as' → (a : A) → Memᴰ a as' → f a ≡ g a
+at_each f g [] e a x'' = elim x'' [ ]
 at_each f g (x ∷ xs) e a (Memᴰ.head p) = let q : f x ≡ g x = cc in cc
 at_each f g (x ∷ xs) e a (Memᴰ.tail m) = let q : map f xs ≡ map g xs = cc in at_each f g xs q a m
 

@@ -1,7 +1,7 @@
 -- What is shown of all families. Assumes nothing.
 use mathlib.Core.Path.{◌≡◌, refl}
 use mathlib.Core.Bool.{true}
-use mathlib.Core.List.{List, ◌∷◌}
+use mathlib.Core.List.{List, [], ◌∷◌}
 use mathlib.Core.Option.{some}
 use Prim.Native.Nat.{ℕ, max}
 use Rattle.sheet.specs.Kind.{is_decimal}
@@ -31,6 +31,7 @@ timestamps_joins : Joins timestamps
 timestamps_joins = ranked_joins timestamps timestamp_at max 4 dateTime timestamps_lawful timestamps_numbered
 
 width_of : (w : ℕ) (ts : List DataType) → SomeIn (decimals w) ts → is_decimal w ≡ true
+width_of w [] x' = elim x' [ ]
 width_of w (t ∷ ts) (here (decimal_of v p s h r b)) = h
 width_of w (t ∷ ts) (later s) = width_of w ts s
 

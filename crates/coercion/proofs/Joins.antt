@@ -65,6 +65,7 @@ module _ (f : Family) (laws : Joins f) where
 
   pub member_all : (ts : List DataType) → AllIn f ts → SomeIn f ts → Member f (all ts)
   unfolding all
+  member_all [] a x'' = elim x'' [ ]
   member_all (t ∷ ts) a (here b) = member_join t (all ts) b (in_all ts a.1)
   member_all (t ∷ ts) a (later s) = join_member t (all ts) a.0 (member_all ts a.1 s)
 

@@ -35,6 +35,7 @@ pub data Pairs : Question → Type 0 where
 alike_asked : (q : Question) → Pairs q → (rules : Rules) (coerce : DataType → DataType → Option DataType) (l r : DataType)
     → alike l r ≡ true → ask q rules coerce l r ≡ some l
 unfolding first_of
+alike_asked list x'' rules coerce l r h = elim x'' [ ]
 alike_asked union of_union rules coerce l r h = rw h
 alike_asked compare of_compare rules coerce l r h = rw h
 
@@ -92,6 +93,7 @@ clash e = let z : ◌≡◌ {A = ℕ} 0 1 = cc in absurd (omega arith)
 
 -- none is not one of types
 pub all_some : (ts : List DataType) → Memᴰ none (map some ts) → ⊥
+all_some [] x' = elim x' [ ]
 all_some (t ∷ ts) (Memᴰ.head e) = let z : ◌≡◌ {A = ℕ} 0 1 = cc in omega arith
 all_some (t ∷ ts) (Memᴰ.tail m) = all_some ts m
 
@@ -319,6 +321,7 @@ module _ (coerce : DataType → DataType → Option DataType) (mask : ℕ) where
   unfolding first_of between is_decimal Numbers.binary_numeric_coercion Times.temporal_coercion Times.temporal_coercion_nonstrict_timezone
       Strings.string_coercion Strings.binary_coercion Rules.null_coercion Rules.string_numeric_coercion Rules.string_numeric_union_coercion
       Rules.string_temporal_coercion Wrappers.wrapper_coercion list_coercion map_coercion
+  pair_structs list x'' s s' p p' h = elim x'' [ ]
   pair_structs union of_union s s' p p' h = rw h (or_none _)
   pair_structs compare of_compare s s' p p' h = rw h (or_none _)
 

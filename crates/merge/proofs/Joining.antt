@@ -198,7 +198,7 @@ module _ (known : ℕ) (named : Bool) (rules : Rules) (space : Space) (left : �
               let d = fed a q k f in
               let x : DataType = record { shape = shape; parts = parts } in
               rw (join_fed name nullable shape parts rest rf tf nf d)
-              (go _ _ _ _ (both x d.type) (join_fields both rest d.more d.nulls) name (m.means x d.type (first a) (feeder d.partner) (omega (arith, ap (λ (y : Fields). count y) d.types)) (differs name nullable shape parts rest pf a k d df))));
+              (go 0 0 0 0 (both x d.type) (join_fields both rest d.more d.nulls) name (m.means x d.type (first a) (feeder d.partner) (omega (arith, ap (λ (y : Fields). count y) d.types)) (differs name nullable shape parts rest pf a k d df))));
         }
       where
         go : (z₀ y₀ z₁ y₁ : ℕ) (o : Option DataType) (o' : Option Fields) (name : List ℕ) → Means space v u goal z₀ y₀ No o
@@ -285,7 +285,7 @@ module _ (known : ℕ) (named : Bool) (rules : Rules) (space : Space) (left : �
                 let ct = ap (λ (x : Fields). count x) i.types in
                 let one = first-type name i.type a i.partner (omega arith) (differs name nullable shape parts rest pf a c i df) in
                 rw (join_fed name nullable shape parts rest rf tf nf i)
-                (rw one.common (go (join_fields both rest i.more i.nulls) name one.type _ _ _ _ (rest-means y No k a q i (omega arith) (rest_known known named name nullable shape parts rest a h.next (next_at_lem a h eh) feed pf f i df)))));
+                (rw one.common (go (join_fields both rest i.more i.nulls) name one.type 0 0 0 0 (rest-means y No k a q i (omega arith) (rest_known known named name nullable shape parts rest a h.next (next_at_lem a h eh) feed pf f i df)))));
           }
         where
           go : (o : Option Fields) (name : List ℕ) (t : DataType) (z₀ y₀ z₁ y₁ : ℕ) → ChainIs space y d z₀ y₀ No o
@@ -325,7 +325,7 @@ module _ (known : ℕ) (named : Bool) (rules : Rules) (space : Space) (left : �
                 let ct = ap (λ (x : Fields). count x) i.types in
                 let one = first-type name i.type a i.partner (omega arith) (differs name nullable shape parts rest pf a c i df) in
                 rw (join_fed name nullable shape parts rest rf tf nf i)
-                (rw one.common (go (join_fields both rest i.more i.nulls) name one.type one.wrote _ _ _ _ (rest-means y (Done e') k a q i (omega arith) (rest_known known named name nullable shape parts rest a h.next (next_at_lem a h eh) feed pf f i df)))));
+                (rw one.common (go (join_fields both rest i.more i.nulls) name one.type one.wrote 0 0 0 0 (rest-means y (Done e') k a q i (omega arith) (rest_known known named name nullable shape parts rest a h.next (next_at_lem a h eh) feed pf f i df)))));
           }
         where
           past : to.at < space.n

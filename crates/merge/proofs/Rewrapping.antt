@@ -237,7 +237,7 @@ module _ (rules : Rules) (space : Space) (left : ℕ) (swap : Bool) (s w : List 
       value mf z i y t q = mf.means z.name₂ z.null₂ (value_of z) y z.rest (over₂ swap i.second) (other t) (omega arith) (λ pos le. absurd (omega arith))
 
       pub value_none : {named : Bool} (v₃ : List ℕ) → MergesField 0 named (coercion rules) space left swap s v₂ v₃ j.next r b No → Merges answer space (left + 1) swap s w v₃ l r g No
-      value_none v₃ mf = merged v₃ No (writes_on g No cp.kept cp.passes (wider mf.kept) tt) (λ z i y t q. go z _ _ _ _ (coercion rules (value_of z) y) (value mf z i y t q))
+      value_none v₃ mf = merged v₃ No (writes_on g No cp.kept cp.passes (wider mf.kept) tt) (λ z i y t q. go z 0 0 0 0 (coercion rules (value_of z) y) (value mf z i y t q))
         where
           go : (z : Two) (z₀ y₀ z₁ y₁ : ℕ) (m : Option DataType) → ChainIs space v₃ b z₀ y₀ No (field_of z.name₂ z.null₂ m)
               → Means space w v₃ g z₁ y₁ No (and_then m (λ t. rewrap k (wrapper_of z) t))
@@ -316,4 +316,4 @@ module _ (rules : Rules) (space : Space) (left : ℕ) (swap : Bool) (s w : List 
             merged v₅ o (written (is_view space v₄ k b.at) refl)
             (λ z i y t q.
             let right = t.chain.held.source.right in
-            both z i _ _ _ _ (omega arith) (coercion rules (value_of z) y) (coercion_sound rules (value_of z) y i.sound (own_right right.0, right.1.0)) (value mf z i y t q))
+            both z i 0 0 _ _ (omega arith) (coercion rules (value_of z) y) (coercion_sound rules (value_of z) y i.sound (own_right right.0, right.1.0)) (value mf z i y t q))

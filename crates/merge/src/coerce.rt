@@ -76,7 +76,7 @@ pub fn coerce(
 }
 
 // The common type of two types, of which something may be known, or none.
-#[cycle(both_parts_coerce_field_coerce_value_common_entry_list_rule_list_struct_map_rule_nested_resolve_resolve_wrapper_rewrapped_rows_struct_rule_under_unwrap_wrapper)]
+#[cycle(merging)]
 fn common(
     sheet: &[u8],
     work: &mut [u8],
@@ -160,7 +160,7 @@ fn common(
 }
 
 // The rules of a list, after the test for sameness.
-#[cycle(both_parts_coerce_field_coerce_value_common_entry_list_rule_list_struct_map_rule_nested_resolve_resolve_wrapper_rewrapped_rows_struct_rule_under_unwrap_wrapper)]
+#[cycle(merging)]
 fn resolve(
     sheet: &[u8],
     work: &mut [u8],
@@ -199,7 +199,7 @@ fn resolve(
 }
 
 // Two types of a list, of which one at least is a wrapper of a kind.
-#[cycle(both_parts_coerce_field_coerce_value_common_entry_list_rule_list_struct_map_rule_nested_resolve_resolve_wrapper_rewrapped_rows_struct_rule_under_unwrap_wrapper)]
+#[cycle(merging)]
 fn resolve_wrapper(
     sheet: &[u8],
     work: &mut [u8],
@@ -242,7 +242,7 @@ fn resolve_wrapper(
 }
 
 // Two wrappers: their parts are coerced one by one.
-#[cycle(both_parts_coerce_field_coerce_value_common_entry_list_rule_list_struct_map_rule_nested_resolve_resolve_wrapper_rewrapped_rows_struct_rule_under_unwrap_wrapper)]
+#[cycle(merging)]
 fn both_parts(
     sheet: &[u8],
     work: &mut [u8],
@@ -292,7 +292,7 @@ fn both_parts(
 }
 
 // A wrapper whose value is coerced with another type, the value on the left.
-#[cycle(both_parts_coerce_field_coerce_value_common_entry_list_rule_list_struct_map_rule_nested_resolve_resolve_wrapper_rewrapped_rows_struct_rule_under_unwrap_wrapper)]
+#[cycle(merging)]
 fn rewrapped(
     sheet: &[u8],
     work: &mut [u8],
@@ -341,7 +341,7 @@ fn rewrapped(
 }
 
 // The value of a wrapper, coerced with a type of the other side under its own name and nullability.
-#[cycle(both_parts_coerce_field_coerce_value_common_entry_list_rule_list_struct_map_rule_nested_resolve_resolve_wrapper_rewrapped_rows_struct_rule_under_unwrap_wrapper)]
+#[cycle(merging)]
 fn coerce_field(
     sheet: &[u8],
     work: &mut [u8],
@@ -380,7 +380,7 @@ fn coerce_field(
 
 // The common type of a value and another type, or none. A wrapper and a type that is none come to their rule at once, as do two types without parts whose
 // kinds differ.
-#[cycle(both_parts_coerce_field_coerce_value_common_entry_list_rule_list_struct_map_rule_nested_resolve_resolve_wrapper_rewrapped_rows_struct_rule_under_unwrap_wrapper)]
+#[cycle(merging)]
 fn coerce_value(
     sheet: &[u8],
     work: &mut [u8],
@@ -435,7 +435,7 @@ fn coerce_value(
 }
 
 // The rules of union and compare, after the test for alikeness. Of the two rules for wrappers one is asked, as the other has no answer that it lacks.
-#[cycle(both_parts_coerce_field_coerce_value_common_entry_list_rule_list_struct_map_rule_nested_resolve_resolve_wrapper_rewrapped_rows_struct_rule_under_unwrap_wrapper)]
+#[cycle(merging)]
 fn unwrap(
     sheet: &[u8],
     work: &mut [u8],
@@ -469,7 +469,7 @@ fn unwrap(
 }
 
 // The rule for wrappers that is asked of two types, where a wrapper of its kind is on either side, or on both.
-#[cycle(both_parts_coerce_field_coerce_value_common_entry_list_rule_list_struct_map_rule_nested_resolve_resolve_wrapper_rewrapped_rows_struct_rule_under_unwrap_wrapper)]
+#[cycle(merging)]
 fn wrapper(
     sheet: &[u8],
     work: &mut [u8],
@@ -536,7 +536,7 @@ fn wrapper(
 }
 
 // Two types that are no wrappers: lists, structs, maps, and types without parts.
-#[cycle(both_parts_coerce_field_coerce_value_common_entry_list_rule_list_struct_map_rule_nested_resolve_resolve_wrapper_rewrapped_rows_struct_rule_under_unwrap_wrapper)]
+#[cycle(merging)]
 fn nested(
     sheet: &[u8],
     work: &mut [u8],
@@ -582,7 +582,7 @@ fn nested(
 }
 
 // The record of a type with parts, and its parts after it.
-#[cycle(both_parts_coerce_field_coerce_value_common_entry_list_rule_list_struct_map_rule_nested_resolve_resolve_wrapper_rewrapped_rows_struct_rule_under_unwrap_wrapper)]
+#[cycle(merging)]
 fn under(
     sheet: &[u8],
     work: &mut [u8],
@@ -631,7 +631,7 @@ fn under(
 }
 
 // `list_coercion`, of two lists.
-#[cycle(both_parts_coerce_field_coerce_value_common_entry_list_rule_list_struct_map_rule_nested_resolve_resolve_wrapper_rewrapped_rows_struct_rule_under_unwrap_wrapper)]
+#[cycle(merging)]
 fn list_rule(
     sheet: &[u8],
     work: &mut [u8],
@@ -703,7 +703,7 @@ fn struct_feed(
 }
 
 // `struct_coercion`, of two types.
-#[cycle(both_parts_coerce_field_coerce_value_common_entry_list_rule_list_struct_map_rule_nested_resolve_resolve_wrapper_rewrapped_rows_struct_rule_under_unwrap_wrapper)]
+#[cycle(merging)]
 fn struct_rule(
     sheet: &[u8],
     work: &mut [u8],
@@ -740,7 +740,7 @@ fn struct_rule(
 }
 
 // Two structs of a list.
-#[cycle(both_parts_coerce_field_coerce_value_common_entry_list_rule_list_struct_map_rule_nested_resolve_resolve_wrapper_rewrapped_rows_struct_rule_under_unwrap_wrapper)]
+#[cycle(merging)]
 fn list_struct(
     sheet: &[u8],
     work: &mut [u8],
@@ -810,7 +810,7 @@ fn list_struct(
 }
 
 // `map_coercion`, of two maps.
-#[cycle(both_parts_coerce_field_coerce_value_common_entry_list_rule_list_struct_map_rule_nested_resolve_resolve_wrapper_rewrapped_rows_struct_rule_under_unwrap_wrapper)]
+#[cycle(merging)]
 fn map_rule(
     sheet: &[u8],
     work: &mut [u8],
@@ -864,7 +864,7 @@ fn map_rule(
 }
 
 // The entries of two maps under the left's name and nullability.
-#[cycle(both_parts_coerce_field_coerce_value_common_entry_list_rule_list_struct_map_rule_nested_resolve_resolve_wrapper_rewrapped_rows_struct_rule_under_unwrap_wrapper)]
+#[cycle(merging)]
 fn entry(
     sheet: &[u8],
     work: &mut [u8],
@@ -903,7 +903,7 @@ fn entry(
 }
 
 // The rows of two chains: each field of the left is coerced with the one that feeds it, and then come the rows behind it.
-#[cycle(both_parts_coerce_field_coerce_value_common_entry_list_rule_list_struct_map_rule_nested_resolve_resolve_wrapper_rewrapped_rows_struct_rule_under_unwrap_wrapper)]
+#[cycle(merging)]
 fn rows(
     sheet: &[u8],
     work: &mut [u8],

@@ -16,8 +16,7 @@ use Rattle.merge.proofs.Turning.{and_are, both_are, resolve_dictionary, resolve_
 use Rattle.buffers.specs.Plain.{rules_of}
 use Rattle.merge.proofs.Structs.{struct_none, struct_merged, listed_unlike, listed-none, listed-named, listed_ordered}
 use Prim.Native.Nat.{ℕ, ◌<◌}
-use Rattle.merge.proofs.coerce.+both_parts_coerce_field_coerce_value_common_entry_list_rule_list_struct_map_rule_nested_resolve_resolve_wrapper_rewrapped_rows_struct_rule_under_unwrap_wrapper.{
-use Rattle.merge.proofs.coerce.+both_parts_coerce_field_coerce_value_common_entry_list_rule_list_struct_map_rule_nested_resolve_resolve_wrapper_rewrapped_rows_struct_rule_under_unwrap_wrapper.Goals as goal
+use Rattle.merge.proofs.coerce.+merging.Goals as goal
 
 abbrev entry_at : ℕ → In 3 entry-kinds.ps
 entry_at t = and 3 entry-kinds.ps (is 3 entry-kinds.ps μ-entry t) entry.Pre
