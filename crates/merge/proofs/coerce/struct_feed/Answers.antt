@@ -8,7 +8,7 @@ in_order-requires c =
 
 pub returns-then-in_order : goal.returns-then-in_order
 returns-then-in_order c =
-    (fed_ordered c.in_order.ensures c.if-in_order.true, c.requires.tabled)
+    record { struct_fed = fed_ordered c.in_order.ensures c.if-in_order.true; tabled_2 = c.requires.tabled }
 
 pub have_same_names-requires : goal.have_same_names-requires
 have_same_names-requires c =
@@ -16,8 +16,8 @@ have_same_names-requires c =
 
 pub returns-then-have_same_names : goal.returns-then-have_same_names
 returns-then-have_same_names c =
-    (fed_named c.in_order.ensures c.have_same_names.ensures.0 c.if-in_order.false c.if-have_same_names.true, record { partners = c.have_same_names.ensures.1.1 c.requires.tabled.partners })
+    record { struct_fed = fed_named c.in_order.ensures c.have_same_names.ensures.by_index c.if-in_order.false c.if-have_same_names.true; tabled_2 = record { partners = c.have_same_names.ensures.table_len_unchanged.1 c.requires.tabled.partners } }
 
 pub returns : goal.returns
 returns c =
-    (fed_placed c.in_order.ensures c.have_same_names.ensures.0 c.if-in_order.false c.if-have_same_names.false, record { partners = c.have_same_names.ensures.1.1 c.requires.tabled.partners })
+    record { struct_fed = fed_placed c.in_order.ensures c.have_same_names.ensures.by_index c.if-in_order.false c.if-have_same_names.false; tabled_2 = record { partners = c.have_same_names.ensures.table_len_unchanged.1 c.requires.tabled.partners } }
