@@ -21,7 +21,7 @@
  *
  * From the repository's root, with the program in example.c:
  *
- *   rt staticlib pemzhulaq
+ *   tools/archive.sh
  *   cc -I include example.c target/staticlib/libpemzhulaq.a -o example
  *
  * The archive is for x86-64 Linux and needs nothing but the C library.

@@ -14,7 +14,7 @@ fn main() {
     println!("cargo::rerun-if-changed={}", archive.display());
     if !archive.is_file() {
         println!(
-            "cargo::error={} is missing: make it with `rt staticlib pemzhulaq` in the repository's root, or set PEMZHULAQ_LIB_DIR to its folder",
+            "cargo::error={} is missing: make it with `tools/archive.sh` in the repository's root, or set PEMZHULAQ_LIB_DIR to its folder",
             archive.display()
         );
         return;

@@ -1,4 +1,4 @@
-//! Finds the archive that `rt staticlib` builds, and links it.
+//! Finds the archive that `tools/archive.sh` builds, and links it.
 
 use std::path::PathBuf;
 use std::process::Command;
@@ -14,7 +14,7 @@ fn main() {
     println!("cargo::rerun-if-changed={}", archive.display());
     if !archive.is_file() {
         let wanted = archive.display();
-        println!("cargo::error=no {wanted}: run `rt staticlib pemzhulaq` in the root of the repository, or set PEMZHULAQ_LIB_DIR to the folder of {NAME}");
+        println!("cargo::error=no {wanted}: run `tools/archive.sh` in the root of the repository, or set PEMZHULAQ_LIB_DIR to the folder of {NAME}");
         return;
     }
     println!("cargo::rustc-link-search=native={}", folder.display());

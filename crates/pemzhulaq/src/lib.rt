@@ -1,4 +1,4 @@
-// The three calls for programs in other languages, which link the static library: a slice is a pointer and a length, an answer is one number.
+// The three calls with one number as the answer, as programs in other languages have them.
 #![tactic(auto)]
 
 ghost use Rattle.std.specs.Prelude.{◌≡◌};
@@ -21,8 +21,7 @@ fn number_of(answer: Answer) -> usize
 }
 
 // The common type of any number of listed types.
-#[unsafe(no_mangle)]
-pub extern "C" fn pemzhulaq_type_union_resolution(
+pub fn pemzhulaq_type_union_resolution(
     sheet: &[u8],
     mask: u64,
     output: &mut [u8],
@@ -34,8 +33,7 @@ pub extern "C" fn pemzhulaq_type_union_resolution(
 }
 
 // The common type of two listed types in a union.
-#[unsafe(no_mangle)]
-pub extern "C" fn pemzhulaq_type_union_coercion(
+pub fn pemzhulaq_type_union_coercion(
     sheet: &[u8],
     mask: u64,
     output: &mut [u8],
@@ -47,8 +45,7 @@ pub extern "C" fn pemzhulaq_type_union_coercion(
 }
 
 // The type that two listed types are compared as.
-#[unsafe(no_mangle)]
-pub extern "C" fn pemzhulaq_comparison_coercion(
+pub fn pemzhulaq_comparison_coercion(
     sheet: &[u8],
     mask: u64,
     output: &mut [u8],

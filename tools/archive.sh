@@ -1,0 +1,8 @@
+#!/usr/bin/env bash
+# Proves the exports, builds the static library, and puts it where rust/ and oracle/driver/ look for it.
+set -e
+cd "$(dirname "$0")/.."
+(cd crates/pemzhulaq_c && rt lib)
+mkdir -p target/staticlib
+cp crates/pemzhulaq_c/out/libpemzhulaq_c.a target/staticlib/libpemzhulaq.a
+echo target/staticlib/libpemzhulaq.a
