@@ -1,6 +1,6 @@
 use mathlib.Core.Path.{sym, ◌∙◌, ap}
+use Rattle.coercion.specs.Kinds.{is_string}
 use Rattle.rules.proofs.Moments.{left_string, right_string, no_string}
-use borrow.Author.Rules.{rules}
 use Rattle.rules.proofs.sides.string_temporal_coercion.Goals as goal
 
 pub returns-then-is_string : goal.returns-then-is_string
