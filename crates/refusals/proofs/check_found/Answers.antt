@@ -20,3 +20,15 @@ returns-then-p-2 c =
 pub returns-then-p-m : goal.returns-then-p-m
 returns-then-p-m c =
     found-end _ _ _ _ _ c.requires c.if-p-n.false c.if-p.false c.if-p-2.false c.if-p-m.true
+
+pub returns-then-n-lt4 : goal.returns-then-n-lt4
+returns-then-n-lt4 c =
+    found-sheet _ _ _ _ _ c.requires c.if-p-n.false c.if-p.false c.if-p-2.false c.if-p-m.false (λ j. (c.type_inv.s j).fits) (λ o t h e. ap not (sym (few_differ t (omega (arith, e, c.if-n-lt4.true))))) refl
+
+pub returns-then-twins : goal.returns-then-twins
+returns-then-twins c =
+    found-twins _ _ _ _ _ c.requires c.if-p-n.false c.if-p.false c.if-p-2.false c.if-p-m.false (λ j. (c.type_inv.s j).fits) c.twins.ensures c.if-twins.true
+
+pub returns : goal.returns
+returns c =
+    found-sheet _ _ _ _ _ c.requires c.if-p-n.false c.if-p.false c.if-p-2.false c.if-p-m.false (λ j. (c.type_inv.s j).fits) c.twins.ensures c.if-twins.false

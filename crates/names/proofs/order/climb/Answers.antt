@@ -3,7 +3,6 @@ use mathlib.Core.Path.{◌≡◌, sym, ◌∙◌}
 use mathlib.Core.Bool.{true}
 use native.Mathlib.Omega.{arith}
 use borrow.Author.Count.{below_more}
-use borrow.Author.Tests.{not-false}
 use borrow.Author.Rules.{rules}
 use lib.ListN.{get_or}
 use Rattle.names.specs.Twins.{name_at, less_bytes}
@@ -48,7 +47,7 @@ loop-i-smaller c =
 
 pub loop-i-preserved : goal.loop-i-preserved
 loop-i-preserved c =
-    (omega (arith, c.loop-i-test.true), below_more _ _ c.loop-i.invariant.1 (climb_next (name_at c.args.s.now c.args.n c.args.recs.now) c.args.ord.now c.loop-i.i _ _ _ c.item_at-a.ensures.0 c.item_at-b.ensures.0 c.comes_before.ensures (not-false _ c.if-not-comes_before.false)))
+    (omega (arith, c.loop-i-test.true), below_more _ _ c.loop-i.invariant.1 (climb_next (name_at c.args.s.now c.args.n c.args.recs.now) c.args.ord.now c.loop-i.i _ _ _ c.item_at-a.ensures.0 c.item_at-b.ensures.0 c.comes_before.ensures c.if-not-comes_before.false))
 
 pub returns : goal.returns
 returns c =

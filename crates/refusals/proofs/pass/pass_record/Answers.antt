@@ -28,3 +28,7 @@ returns-then-labels-lt511-2 c =
 pub returns : goal.returns
 returns c =
     subst (λ (h : Head). Passed h c.args.up c.args.found c.pass_open-2.result) c.head_from-2.ensures.0 c.pass_open-2.ensures
+
+pub returns-then-labels-lt511 : goal.returns-then-labels-lt511
+returns-then-labels-lt511 c =
+    let l = sym c.is_light.ensures ∙ c.if-is_light.true in     subst (λ (h : Head). Passed h c.args.up c.args.found (c.args.found + c.light_labels-labels.result))     (by_quads_lem c.args.s.now c.args.i (λ j. (c.type_inv.s j).fits) _ _ (quad_at c.args.s.now (c.args.i + 8)) _ c.quad_at-a.ensures.0 c.quad_at.ensures.0 refl c.quad_at-then-is_light.ensures.0)     (right_passed _ c.args.up c.args.found _ c.requires.1.0     (passes_linked _ _ _ _ _ _ _ (light_quad c.quad_at-a.result c.quad_at.result l) c.light_labels-labels.ensures) c.if-labels-lt511.true c.requires.1.1)

@@ -10,14 +10,6 @@ use Rattle.refusals.proofs.Packing.{tells_lost, tells_came, row_ready, row_tells
 use Prim.Native.Nat.{ℕ, ◌<◌}
 use Rattle.refusals.proofs.walk.+walk_chain_walk_records.Goals as goal
 
-abbrev walk-records-Inv-loop : walk-records-lts.invariant-loop
-walk-records-Inv-loop s n up due found k link₀ due₀ found₀ k₀ link due' found' k' =
-    Ready n (progress_of due' found') k' × ((due₀ ≤ due') × ((found' < 17179869184) × ((o : Walked) → Walks s n up link (progress_of due' found') k' o → Walks s n up link₀ (progress_of due₀ found₀) k₀ o)))
-
-abbrev walk-records-μ-loop : walk-records-lts.decreases-loop
-walk-records-μ-loop s n up due found k link₀ due₀ found₀ k₀ link due' found' k' =
-    n - due'
-
 pub walk_chain-row_walk-r-requires : goal.walk_chain-row_walk-r-requires
 walk_chain-row_walk-r-requires t c =
     (c.requires.0, (c.requires.1.0, c.requires.1.1.0))

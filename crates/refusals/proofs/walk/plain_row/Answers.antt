@@ -76,3 +76,11 @@ returns-else-is_plain c =
 pub returns : goal.returns
 returns c =
     row_stops _ _ _ _ c.requires.1.0 c.loop-r.invariant
+
+pub loop-r-preserved : goal.loop-r-preserved
+loop-r-preserved c =
+    row_more _ _ (λ j. (c.type_inv.s j).fits) c.requires.0 _ _ _ _ _ c.loop-r-test.true c.quad_at.ensures.0 c.quad_at-in-loop-r.ensures.0 c.quad_at-links.ensures.0 c.quad_at-in-loop-r-2.ensures.0 (sym c.is_plain.ensures ∙ c.if-is_plain.true) _ _ c.loop-r.invariant c.if-links-r.true
+
+pub returns-then-links-eq0 : goal.returns-then-links-eq0
+returns-then-links-eq0 c =
+    row_end _ _ _ _ (row_more _ _ (λ j. (c.type_inv.s j).fits) c.requires.0 _ _ _ _ _ c.loop-r-test.true c.quad_at.ensures.0 c.quad_at-in-loop-r.ensures.0 c.quad_at-links.ensures.0 c.quad_at-in-loop-r-2.ensures.0 (sym c.is_plain.ensures ∙ c.if-is_plain.true) _ 0 c.loop-r.invariant (omega (arith, c.if-links-eq0.true)))
