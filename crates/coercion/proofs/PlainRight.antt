@@ -14,7 +14,7 @@ use Rattle.sheet.specs.Types.{Zone, absent, present, Shape, Fields, arity, zone_
 use Rattle.sheet.specs.Refusals.{figure_right, size_right, figures_right}
 use Rattle.sheet.specs.Carried.{Label, is_named, is_zoned, FieldRight, FieldsRight}
 use Rattle.sheet.proofs.Tests.{all_at, all_cons, all_nil, and_fst, and_snd}
-use Rattle.coercion.specs.Data.{DataType, size, Question, list, union, compare, may_become, figures_of, plain, as_type, zoned, of_unit, of_kind}
+use Rattle.coercion.specs.Data.{DataType, Question, list, union, compare, may_become, figures_of, plain, as_type, zoned, of_unit, of_kind}
 use Rattle.coercion.specs.Kinds.{is_numeric, is_string, is_integer, is_date, is_time, is_span, one_is, with_kind}
 use Rattle.coercion.specs.Same.{alike}
 use Rattle.coercion.specs.Strings.{string_coercion, is_long_string, is_binary_or_string, binary_coercion}

@@ -15,7 +15,7 @@ use Rattle.coercion.specs.Rules.{is_null}
 use Rattle.coercion.specs.Same.{same_zone, same_shape, same_fields, same_type, equal}
 use Rattle.coercion.specs.Answers.{Category, array, boolean, numeric, dateTime, composite, unknown, notSupported, category_of, category_number, is_category, has_category, as_number, categories_in, all_equal, fold_from, fold_types, type_union_resolution}
 use Rattle.coercion.specs.Families.{Family, Member, integer, top, string, timestamp, decimal_of, InFamily, null, member, AllIn, null_type}
-use Rattle.coercion.proofs.Joins.{asking, join, all, Joins, null_join, join_null, member_join, in_all, comm, assoc, idem}
+use Rattle.coercion.proofs.Joins.{asking, join, all, Joins, null_join, join_null, member_join, in_all, assoc, idem}
 
 -- an equation between values that a test chooses
 pub by_test {ℓ} : {A : Type ℓ} (b : Bool) {x y z : A} → (b ≡ true → x ≡ z) → (b ≡ false → y ≡ z) → cond b x y ≡ z

@@ -8,13 +8,9 @@ use Rattle.coercion.specs.Times.{nanosecond}
 use Rattle.coercion.specs.Answers.{Category, array, boolean, numeric, dateTime, composite, unknown, notSupported, category_of}
 use Rattle.coercion.specs.declared.Figures.{Figures}
 use Rattle.coercion.specs.declared.Common.{Common}
-use Rattle.coercion.specs.declared.Common.TheVariants as Common
 use Rattle.coercion.specs.declared.Found.{Found}
-use Rattle.coercion.specs.declared.Found.TheVariants as Found
 use Rattle.coercion.specs.declared.Side.{Side}
-use Rattle.coercion.specs.declared.Side.TheVariants as Side
 use Rattle.coercion.specs.declared.Moment.{Moment}
-use Rattle.coercion.specs.declared.Moment.TheVariants as Moment
 
 abbrev pub figures_in : Common → Option Figures
 figures_in (Common.Of f) = some f

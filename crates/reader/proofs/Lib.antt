@@ -1,5 +1,2 @@
-mod Taking
-mod Asks
-mod Moves
 pub mod Stands
 pub mod Laying

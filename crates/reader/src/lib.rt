@@ -1,5 +1,5 @@
-// A thin reader of a sheet: it borrows the bytes and stands at a record. Each of its functions takes it apart and calls one of `record`, which
-// the prover covers; `look` serves callers that have a slice and a record number.
+// A thin reader of a sheet: it borrows the bytes and stands at a record. Each of its functions takes it apart and calls one of `record`; `look`
+// serves callers that have a slice and a record number.
 #![tactic(auto)]
 
 ghost use Rattle.std.specs.Prelude.{◌≡◌};

@@ -9,7 +9,7 @@ use Rattle.sheet.specs.Tests.{implies}
 use Rattle.sheet.specs.Kind.{names_parts, is_decimal, last_unit, sized}
 use Rattle.sheet.specs.Tests.{between}
 use Rattle.sheet.specs.Head.{sorted_in, zoned_in, zone_at, zone_len, labelled}
-use Rattle.sheet.specs.Refusals.{figure_right, size_right, figures_right, record_right, placed}
+use Rattle.sheet.specs.Refusals.{figure_right, size_right, figures_right, record_right}
 use Rattle.sheet.specs.declared.Head.{Head}
 use Rattle.refusals.specs.Packed.{Stamped, Passes}
 use Rattle.sheet.proofs.Tests.{all_nil, all_cons}

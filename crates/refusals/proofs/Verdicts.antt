@@ -19,7 +19,6 @@ use Rattle.refusals.specs.Limits.{Fits}
 use Rattle.refusals.specs.Found.{outset, Found}
 use Rattle.refusals.specs.declared.Progress.{Progress}
 use Rattle.sheet.specs.declared.Refusal.{Refusal}
-use Rattle.sheet.specs.declared.Refusal.TheVariants as Refusal
 use Rattle.refusals.specs.declared.Walked.{Walked}
 use Rattle.refusals.specs.declared.Walked.TheVariants.{Came, Lost}
 use Rattle.sheet.proofs.Tests.{all_not, all_cons, all_nil, one_is_lem, one_cons, one_nil, not_of}

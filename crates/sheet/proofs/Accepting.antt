@@ -2,7 +2,7 @@
 use mathlib.Core.Path.{◌≡◌, refl, ap, ap₂, sym, ◌∙◌}
 use mathlib.Core.Bool.{Bool, true, false, cond, not}
 use mathlib.Core.List.{List, [], ◌∷◌}
-use Prim.Native.Nat.{ℕ, zero, suc, ◌+◌, ◌*◌, ◌-◌, ◌/◌, ◌%◌, ◌<◌, ◌≤◌}
+use Prim.Native.Nat.{ℕ, zero, suc, ◌+◌, ◌*◌, ◌/◌, ◌%◌, ◌<◌, ◌≤◌}
 use native.Mathlib.Omega.{arith}
 use native.Mathlib.Decide.{dec_lt, ℕ_discrete}
 use lib.ListN.{length, get_or, take, drop, length-append, length-take, get_or-eq_default}
@@ -11,7 +11,7 @@ use lib.Dec.{eqb, ltb}
 use borrow.Author.Tests.{eq-eqb, ne_eqb, ltb-true, eqb-true}
 use Rattle.sheet.specs.Tests.{implies}
 use Rattle.sheet.specs.Kind.{is_kind, parts_right}
-use Rattle.sheet.specs.Types.{absent, present, Fields, arity, zone_bytes, own_labels, labels}
+use Rattle.sheet.specs.Types.{absent, present, Fields, arity, zone_bytes, own_labels}
 use Rattle.sheet.specs.Head.{nullable_in, zoned_in, size_in, zone_at, zone_len, labelled}
 use Rattle.sheet.specs.Encode.{offset, flags_of, quad_of, head_of}
 use Rattle.sheet.specs.Read.{labels_of, label_at, zone_of, shape_of}

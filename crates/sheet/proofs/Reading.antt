@@ -7,7 +7,6 @@ use native.Mathlib.Omega.{arith}
 use lib.ListN.{length, length-append}
 use lib.Dec.{eqb, ltb}
 use borrow.Author.Tests.{eq-eqb, ne_eqb, lt-ltb, le-ltb, eqb-true}
-use Rattle.sheet.specs.Kind as Kind
 use Rattle.sheet.specs.Kind.{sized}
 use Rattle.sheet.specs.Types.{Zone, absent, present, Shape, Fields, end, field, count, zone_bytes, own_labels, labels}
 use Rattle.sheet.specs.Head.{head_at}

@@ -1,6 +1,5 @@
 use mathlib.Core.Path.{sym, ◌∙◌}
 use Rattle.refusals.proofs.Verdicts.{says_torn}
-use borrow.Author.Rules.{rules}
 use Rattle.refusals.proofs.check.Goals as goal
 
 pub returns-then-is_torn : goal.returns-then-is_torn

@@ -2,7 +2,6 @@ use native.Mathlib.Omega.{arith}
 use mathlib.Core.Path.{refl, sym, ap}
 use mathlib.Core.Bool.{not}
 use Rattle.refusals.proofs.Verdicts.{few_differ, found_short, found_figure, found-label, found-end, found-twins, found-sheet}
-use borrow.Author.Rules.{rules}
 use Rattle.refusals.proofs.check_found.Goals as goal
 
 pub returns-then-p-n : goal.returns-then-p-n

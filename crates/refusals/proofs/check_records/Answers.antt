@@ -1,7 +1,4 @@
-use borrow.Author.Rules.{rules}
-use Prim.Native.Nat.{◌-◌}
 use Rattle.refusals.proofs.Verdicts.{says_kind, chain_lost, chain_found, odd_kinds}
-use borrow.Author.Rules.{rules}
 use Rattle.refusals.proofs.check_records.Goals as goal
 
 pub returns-then-odd_kind : goal.returns-then-odd_kind

@@ -1,6 +1,5 @@
 use native.Mathlib.Omega.{arith}
 use Rattle.refusals.proofs.Scans.{whole_long, whole_fits}
-use borrow.Author.Rules.{rules}
 use Rattle.refusals.proofs.check_whole.Goals as goal
 
 pub word_at-requires : goal.word_at-requires

@@ -1,4 +1,3 @@
-use borrow.Author.Rules.{rules}
 use Rattle.kinds.proofs.tests.paired.Goals as goal
 
 pub returns : goal.returns

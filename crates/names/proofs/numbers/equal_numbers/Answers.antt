@@ -1,11 +1,7 @@
-use Prim.Native.Nat.{◌-◌, ◌≤◌}
-use mathlib.Core.Path.{◌≡◌, refl, ◌∙◌}
+use mathlib.Core.Path.{refl, ◌∙◌}
 use native.Mathlib.Omega.{arith}
-use borrow.Author.Rules.{rules}
-use lib.ListN.{length, length-set, get_or}
-use Rattle.names.specs.declared.Pair.TheVariants.{Nothing}
-use Rattle.names.specs.Twins.{Tells}
-use Rattle.names.proofs.Marking.{Marked, marked_more, first_here, first_none, differ_more}
+use lib.ListN.{length-set, get_or}
+use Rattle.names.proofs.Marking.{marked_more, first_here, first_none, differ_more}
 use Rattle.names.proofs.numbers.equal_numbers.Goals as goal
 
 pub loop-i-init : goal.loop-i-init

@@ -1,11 +1,9 @@
 use Prim.Native.Nat.{◌-◌, ◌≤◌}
-use mathlib.Core.Path.{◌≡◌, refl, ◌∙◌}
-use native.Mathlib.Omega.{arith}
-use borrow.Author.Rules.{rules}
-use lib.ListN.{length, length-set, get_or}
+use mathlib.Core.Path.{◌≡◌}
+use lib.ListN.{length, get_or}
 use Rattle.names.specs.declared.Pair.TheVariants.{Nothing}
 use Rattle.names.specs.Twins.{Tells}
-use Rattle.names.proofs.Marking.{Marked, marked_more, first_here, first_none, differ_more}
+use Rattle.names.proofs.Marking.{Marked}
 use Rattle.names.proofs.numbers.equal_numbers.Given as goal
 
 abbrev pub invariant-loop-i : goal.invariant-loop-i

@@ -1,6 +1,5 @@
 use mathlib.Core.Path.{◌∙◌}
 use borrow.Author.Tests.{lt-ltb, le-ltb}
-use borrow.Author.Rules.{rules}
 use Rattle.names.proofs.order.are_twins.Goals as goal
 
 pub returns-then-b-k : goal.returns-then-b-k

@@ -1,6 +1,5 @@
 use Rattle.names.specs.Twins.{name_at}
 use Rattle.names.proofs.Ordering.{ordered}
-use borrow.Author.Rules.{rules}
 use Rattle.names.proofs.order.by_order.Goals as goal
 
 pub returns-then-has_all : goal.returns-then-has_all

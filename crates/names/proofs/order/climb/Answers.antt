@@ -1,11 +1,7 @@
-use Prim.Native.Nat.{ℕ, ◌+◌, ◌-◌, ◌<◌, ◌≤◌}
-use mathlib.Core.Path.{◌≡◌, sym, ◌∙◌}
-use mathlib.Core.Bool.{true}
+use mathlib.Core.Path.{sym, ◌∙◌}
 use native.Mathlib.Omega.{arith}
 use borrow.Author.Count.{below_more}
-use borrow.Author.Rules.{rules}
-use lib.ListN.{get_or}
-use Rattle.names.specs.Twins.{name_at, less_bytes}
+use Rattle.names.specs.Twins.{name_at}
 use Rattle.names.proofs.Ordering.{twins_at, climb_next}
 use Rattle.names.proofs.order.climb.Goals as goal
 

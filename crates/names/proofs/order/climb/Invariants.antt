@@ -1,13 +1,8 @@
 use Prim.Native.Nat.{ℕ, ◌+◌, ◌-◌, ◌<◌, ◌≤◌}
-use mathlib.Core.Path.{◌≡◌, sym, ◌∙◌}
+use mathlib.Core.Path.{◌≡◌}
 use mathlib.Core.Bool.{true}
-use native.Mathlib.Omega.{arith}
-use borrow.Author.Count.{below_more}
-use borrow.Author.Tests.{not-false}
-use borrow.Author.Rules.{rules}
 use lib.ListN.{get_or}
 use Rattle.names.specs.Twins.{name_at, less_bytes}
-use Rattle.names.proofs.Ordering.{twins_at, climb_next}
 use Rattle.names.proofs.order.climb.Given as goal
 
 abbrev pub invariant-loop-i : goal.invariant-loop-i

@@ -1,6 +1,5 @@
 use mathlib.Core.Path.{ap₂, ◌∙◌}
 use Rattle.names.specs.Twins.{less_bytes}
-use borrow.Author.Rules.{rules}
 use Rattle.names.proofs.order.comes_before.Goals as goal
 
 pub returns : goal.returns

@@ -1,8 +1,5 @@
-use Prim.Native.Nat.{◌-◌, ◌≤◌}
-use mathlib.Core.Path.{◌≡◌, refl}
+use mathlib.Core.Path.{refl}
 use native.Mathlib.Omega.{arith}
-use lib.ListN.{length, drop}
-use Rattle.names.specs.Twins.{less_bytes}
 use Rattle.names.proofs.Ordering.{less_short, less_done, less_next, less_differ}
 use Rattle.names.proofs.order.is_less.Goals as goal
 

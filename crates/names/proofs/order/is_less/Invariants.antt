@@ -1,9 +1,7 @@
 use Prim.Native.Nat.{◌-◌, ◌≤◌}
-use mathlib.Core.Path.{◌≡◌, refl}
-use native.Mathlib.Omega.{arith}
+use mathlib.Core.Path.{◌≡◌}
 use lib.ListN.{length, drop}
 use Rattle.names.specs.Twins.{less_bytes}
-use Rattle.names.proofs.Ordering.{less_short, less_done, less_next, less_differ}
 use Rattle.names.proofs.order.is_less.Given as goal
 
 abbrev pub invariant-loop-i : goal.invariant-loop-i

@@ -1,7 +1,6 @@
-use mathlib.Core.Path.{refl, sym}
+use mathlib.Core.Path.{sym}
 use native.Mathlib.Omega.{arith}
 use lib.ListN.{get_or-eq_default}
-use borrow.Author.Rules.{rules}
 use Rattle.names.proofs.places.item_at.Goals as goal
 
 pub returns-else-i-xs : goal.returns-else-i-xs

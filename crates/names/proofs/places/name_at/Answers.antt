@@ -1,6 +1,5 @@
 use mathlib.Core.Path.{◌∙◌}
 use Rattle.names.proofs.Naming.{name_of_lem}
-use borrow.Author.Rules.{rules}
 use Rattle.names.proofs.places.name_at.Goals as goal
 
 pub returns : goal.returns

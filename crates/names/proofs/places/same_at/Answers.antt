@@ -1,7 +1,6 @@
 use mathlib.Core.Path.{ap₂, ◌∙◌}
 use Rattle.sheet.specs.Names.{same_bytes}
 use Rattle.names.proofs.Naming.{name_of_lem}
-use borrow.Author.Rules.{rules}
 use Rattle.names.proofs.places.same_at.Goals as goal
 
 pub returns : goal.returns

@@ -1,11 +1,7 @@
-use Prim.Native.Nat.{ℕ, ◌-◌}
-use mathlib.Core.Path.{◌≡◌}
-use native.Mathlib.Omega.{arith}
-use borrow.Author.Rules.{rules}
+use Prim.Native.Nat.{◌-◌}
 use Rattle.names.specs.declared.Pair.TheVariants.{Nothing}
 use Rattle.names.specs.Twins.{Tells}
-use Rattle.names.proofs.Naming.{names, name_here, Passed, passed_none, passed-high, passed-next, known_at, known_none}
-use Rattle.names.proofs.Marking.{differ_more}
+use Rattle.names.proofs.Naming.{names, Passed}
 use Rattle.names.proofs.twins.compared.Given as goal
 
 abbrev pub invariant-loop-low : goal.invariant-loop-low

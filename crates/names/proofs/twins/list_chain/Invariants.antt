@@ -1,9 +1,5 @@
 use Prim.Native.Nat.{◌-◌}
-use mathlib.Core.Path.{refl, ap, ◌∙◌}
-use native.Mathlib.Omega.{arith}
-use borrow.Author.Rules.{rules}
-use Rattle.names.specs.Twins.{number_of}
-use Rattle.names.proofs.Naming.{Passed, passed_none, passed_low, passed-high, passed-next, name_here, Kept, listed, numbered, kept_more}
+use Rattle.names.proofs.Naming.{Passed, Kept}
 use Rattle.names.proofs.twins.list_chain.Given as goal
 
 abbrev pub invariant-loop-low : goal.invariant-loop-low

@@ -1,12 +1,9 @@
-use Prim.Native.Nat.{ℕ, ◌-◌, ◌<◌, ◌≤◌}
-use mathlib.Core.Path.{◌≡◌, refl, sym, ◌∙◌}
+use mathlib.Core.Path.{refl, sym, ◌∙◌}
 use native.Mathlib.Omega.{arith}
 use borrow.Author.Count.{below_more}
-use borrow.Author.Rules.{rules}
-use Rattle.sheet.specs.Read.{label_at}
 use Rattle.names.specs.Twins.{placed}
 use Rattle.sheet.proofs.Bytewise.{same_equal}
-use Rattle.names.proofs.Naming.{names, not_same, name_here, next_here}
+use Rattle.names.proofs.Naming.{not_same, name_here, next_here}
 use Rattle.names.proofs.twins.named.Goals as goal
 
 pub loop-i-init : goal.loop-i-init

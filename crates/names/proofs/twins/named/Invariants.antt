@@ -1,12 +1,8 @@
 use Prim.Native.Nat.{ℕ, ◌-◌, ◌<◌, ◌≤◌}
-use mathlib.Core.Path.{◌≡◌, refl, sym, ◌∙◌}
-use native.Mathlib.Omega.{arith}
-use borrow.Author.Count.{below_more}
-use borrow.Author.Rules.{rules}
+use mathlib.Core.Path.{◌≡◌}
 use Rattle.sheet.specs.Read.{label_at}
 use Rattle.names.specs.Twins.{placed}
-use Rattle.sheet.proofs.Bytewise.{same_equal}
-use Rattle.names.proofs.Naming.{names, not_same, name_here, next_here}
+use Rattle.names.proofs.Naming.{names}
 use Rattle.names.proofs.twins.named.Given as goal
 
 abbrev pub invariant-loop-i : goal.invariant-loop-i

@@ -1,7 +1,6 @@
 use native.Mathlib.Omega.{arith}
 use Rattle.names.specs.declared.Pair.TheVariants.{At, Nothing}
 use Rattle.names.proofs.Naming.{told}
-use borrow.Author.Rules.{rules}
 use Rattle.names.proofs.twins.repeated_long.Goals as goal
 
 pub equal_names-requires : goal.equal_names-requires

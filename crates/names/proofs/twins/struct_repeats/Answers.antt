@@ -1,5 +1,4 @@
 use Rattle.names.proofs.Rows.{found_struct, found_plain}
-use borrow.Author.Rules.{rules}
 use Rattle.names.proofs.twins.struct_repeats.Goals as goal
 
 pub returns-then-k-eq35 : goal.returns-then-k-eq35

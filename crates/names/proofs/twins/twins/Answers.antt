@@ -1,8 +1,6 @@
-use Prim.Native.Nat.{ℕ, ◌-◌, ◌<◌, ◌≤◌}
 use mathlib.Core.Path.{sym, ap, ◌∙◌}
-use mathlib.Core.Bool.{false, not}
+use mathlib.Core.Bool.{not}
 use native.Mathlib.Omega.{arith}
-use Rattle.names.specs.Twins.{Finds}
 use Rattle.names.proofs.Rows.{none_found, one_found, found_more}
 use Rattle.names.proofs.twins.twins.Goals as goal
 

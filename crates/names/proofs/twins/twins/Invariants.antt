@@ -1,9 +1,6 @@
 use Prim.Native.Nat.{ℕ, ◌-◌, ◌<◌, ◌≤◌}
-use mathlib.Core.Path.{sym, ap, ◌∙◌}
-use mathlib.Core.Bool.{false, not}
-use native.Mathlib.Omega.{arith}
+use mathlib.Core.Bool.{false}
 use Rattle.names.specs.Twins.{Finds}
-use Rattle.names.proofs.Rows.{none_found, one_found, found_more}
 use Rattle.names.proofs.twins.twins.Given as goal
 
 abbrev pub invariant-loop-r : goal.invariant-loop-r

@@ -1,6 +1,5 @@
 use mathlib.Core.Path.{sym, ◌∙◌}
 use Rattle.coercion.specs.Numbers.{binary_numeric_coercion}
-use borrow.Author.Rules.{rules}
 use Rattle.numeric.proofs.numbers.binary_numeric_coercion.Goals as goal
 
 pub returns-then-same_figures : goal.returns-then-same_figures

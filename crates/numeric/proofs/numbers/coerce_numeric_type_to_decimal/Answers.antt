@@ -1,6 +1,5 @@
 use mathlib.Core.Path.{sym, ◌∙◌}
 use Rattle.coercion.specs.Numbers.{coerce_numeric_type_to_decimal}
-use borrow.Author.Rules.{rules}
 use Rattle.numeric.proofs.numbers.coerce_numeric_type_to_decimal.Goals as goal
 
 pub returns-then-takes_number : goal.returns-then-takes_number

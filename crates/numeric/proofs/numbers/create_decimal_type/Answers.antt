@@ -1,4 +1,3 @@
-use borrow.Author.Rules.{rules}
 use Rattle.numeric.proofs.numbers.create_decimal_type.Goals as goal
 
 pub returns : goal.returns

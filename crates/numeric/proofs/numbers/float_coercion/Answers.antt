@@ -1,5 +1,4 @@
 use mathlib.Core.Path.{sym, ◌∙◌}
-use borrow.Author.Rules.{rules}
 use Rattle.numeric.proofs.numbers.float_coercion.Goals as goal
 
 pub returns-then-one_is : goal.returns-then-one_is

@@ -1,5 +1,4 @@
 use Rattle.coercion.specs.Numbers.{get_wider_decimal_type}
-use borrow.Author.Rules.{rules}
 use Rattle.numeric.proofs.numbers.get_wider_decimal_type.Goals as goal
 
 pub returns : goal.returns

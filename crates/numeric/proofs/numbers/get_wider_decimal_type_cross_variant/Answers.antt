@@ -1,6 +1,5 @@
 use borrow.Author.Tests.{le-leb, lt-leb}
 use Rattle.coercion.specs.Numbers.{get_wider_decimal_type_cross_variant}
-use borrow.Author.Rules.{rules}
 use Rattle.numeric.proofs.numbers.get_wider_decimal_type_cross_variant.Goals as goal
 
 pub returns-then-p-precision_cap : goal.returns-then-p-precision_cap

@@ -1,6 +1,5 @@
 use mathlib.Core.Path.{sym, ◌∙◌}
 use Rattle.numeric.proofs.Integers.{integers_alone}
-use borrow.Author.Rules.{rules}
 use Rattle.numeric.proofs.numbers.other_figures.Goals as goal
 
 pub wider_integer-requires : goal.wider_integer-requires

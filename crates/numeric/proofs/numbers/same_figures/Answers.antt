@@ -1,4 +1,3 @@
-use borrow.Author.Rules.{rules}
 use Rattle.numeric.proofs.numbers.same_figures.Goals as goal
 
 pub returns : goal.returns

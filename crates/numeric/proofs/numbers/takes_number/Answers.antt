@@ -1,5 +1,4 @@
 use borrow.Author.Tests.{eq-eqb, ne_eqb}
-use borrow.Author.Rules.{rules}
 use Rattle.numeric.proofs.numbers.takes_number.Goals as goal
 
 pub returns-then-w-eq14 : goal.returns-then-w-eq14

@@ -1,6 +1,5 @@
 use mathlib.Core.Path.{sym}
 use Rattle.numeric.proofs.Integers.{signed, unsigned, beyond, mixed}
-use borrow.Author.Rules.{rules}
 use Rattle.numeric.proofs.numbers.wider_integer.Goals as goal
 
 pub returns-then-high-le6 : goal.returns-then-high-le6

@@ -1,5 +1,4 @@
 use native.Mathlib.Omega.{arith}
-use borrow.Author.Rules.{rules}
 use Rattle.numeric.proofs.numbers.wider_precision.Goals as goal
 
 pub returns : goal.returns

@@ -1,7 +1,6 @@
 use mathlib.Core.Path.{sym, ◌∙◌}
 use Rattle.sheet.proofs.Tests.{all_not, all_nil}
 use Rattle.sheet.proofs.Figures.{all_skip, all_first}
-use borrow.Author.Rules.{rules}
 use Rattle.refusals.proofs.header.are_kinds.Goals as goal
 
 pub returns-then-is_kind-3 : goal.returns-then-is_kind-3

@@ -1,5 +1,4 @@
 use Rattle.refusals.proofs.Scans.{rest_zero}
-use borrow.Author.Rules.{rules}
 use Rattle.refusals.proofs.header.is_rest_zero.Goals as goal
 
 pub returns : goal.returns

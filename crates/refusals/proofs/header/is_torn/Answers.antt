@@ -1,6 +1,5 @@
 use mathlib.Core.Path.{sym}
 use Rattle.refusals.proofs.Scans.{torn_short, torn_none, torn_many, torn_labels, torn_length, torn_rest, not_torn}
-use borrow.Author.Rules.{rules}
 use Rattle.refusals.proofs.header.is_torn.Goals as goal
 
 pub returns-then-s-lt16 : goal.returns-then-s-lt16

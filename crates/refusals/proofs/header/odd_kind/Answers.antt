@@ -1,10 +1,5 @@
 use native.Mathlib.Omega.{arith}
-use Prim.Native.Nat.{◌+◌, ◌-◌, ◌≤◌}
-use mathlib.Core.Path.{◌≡◌, refl, ◌∙◌}
-use mathlib.Core.Bool.{not}
-use Rattle.sheet.specs.Kind.{is_kind}
-use Rattle.sheet.specs.Head.{head_at}
-use Rattle.sheet.specs.Refusals.{any_from}
+use mathlib.Core.Path.{refl, ◌∙◌}
 use Rattle.refusals.proofs.Scans.{any_four}
 use Rattle.refusals.proofs.header.odd_kind.Goals as goal
 

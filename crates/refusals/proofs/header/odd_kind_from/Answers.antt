@@ -1,11 +1,8 @@
 use native.Mathlib.Omega.{arith}
-use borrow.Author.Rules.{rules}
-use Prim.Native.Nat.{◌-◌}
-use mathlib.Core.Path.{◌≡◌, refl}
+use mathlib.Core.Path.{refl}
 use mathlib.Core.Bool.{not}
 use Rattle.sheet.specs.Kind.{is_kind}
 use Rattle.sheet.specs.Head.{head_at}
-use Rattle.sheet.specs.Refusals.{any_from}
 use Rattle.refusals.proofs.Scans.{any_next, any_here, any_done, odd_at}
 use Rattle.refusals.proofs.header.odd_kind_from.Goals as goal
 

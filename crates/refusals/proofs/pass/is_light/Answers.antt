@@ -2,7 +2,6 @@ use mathlib.Core.Path.{sym, ◌∙◌}
 use borrow.Author.Tests.{eq-eqb, ne_eqb, lt-ltb, le-ltb}
 use Rattle.refusals.specs.Packed.{light}
 use Rattle.refusals.proofs.Light.{light_decimal, light_few}
-use borrow.Author.Rules.{rules}
 use Rattle.refusals.proofs.pass.is_light.Goals as goal
 
 pub returns-then-b-ne0 : goal.returns-then-b-ne0

@@ -1,5 +1,4 @@
 use Rattle.sheet.proofs.Tests.{never}
-use borrow.Author.Rules.{rules}
 use Rattle.refusals.proofs.pass.is_stamped.Goals as goal
 
 pub returns-then-h-ne22 : goal.returns-then-h-ne22

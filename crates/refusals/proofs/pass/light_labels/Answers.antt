@@ -1,5 +1,4 @@
 use Rattle.refusals.proofs.Light.{passes_open, light_bare, light_nullable, light_named}
-use borrow.Author.Rules.{rules}
 use Rattle.refusals.proofs.pass.light_labels.Goals as goal
 
 pub returns-then-a-eq0 : goal.returns-then-a-eq0

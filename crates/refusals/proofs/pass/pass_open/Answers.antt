@@ -3,7 +3,6 @@ use mathlib.Core.Bool.{Bool, not, ◌||◌}
 use Prim.Native.Nat.{◌/◌, ◌%◌}
 use lib.Dec.{eqb}
 use Rattle.refusals.proofs.Passing.{tested}
-use borrow.Author.Rules.{rules}
 use Rattle.refusals.proofs.pass.pass_open.Goals as goal
 
 pub returns : goal.returns

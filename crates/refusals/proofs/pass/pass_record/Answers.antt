@@ -7,7 +7,6 @@ use Rattle.sheet.proofs.Heads.{by_quads_lem}
 use Rattle.refusals.specs.Packed.{light, Passed}
 use Rattle.refusals.proofs.Light.{light_quad, passes_linked}
 use Rattle.refusals.proofs.Passing.{right_passed}
-use borrow.Author.Rules.{rules}
 use Rattle.refusals.proofs.pass.pass_record.Goals as goal
 
 pub light_labels-labels-requires : goal.light_labels-labels-requires
@@ -31,4 +30,4 @@ returns c =
 
 pub returns-then-labels-lt511 : goal.returns-then-labels-lt511
 returns-then-labels-lt511 c =
-    let l = sym c.is_light.ensures ∙ c.if-is_light.true in     subst (λ (h : Head). Passed h c.args.up c.args.found (c.args.found + c.light_labels-labels.result))     (by_quads_lem c.args.s.now c.args.i (λ j. (c.type_inv.s j).fits) _ _ (quad_at c.args.s.now (c.args.i + 8)) _ c.quad_at-a.ensures.0 c.quad_at.ensures.0 refl c.quad_at-then-is_light.ensures.0)     (right_passed _ c.args.up c.args.found _ c.requires.1.0     (passes_linked _ _ _ _ _ _ _ (light_quad c.quad_at-a.result c.quad_at.result l) c.light_labels-labels.ensures) c.if-labels-lt511.true c.requires.1.1)
+    let l = sym c.is_light.ensures ∙ c.if-is_light.true in subst (λ (h : Head). Passed h c.args.up c.args.found (c.args.found + c.light_labels-labels.result)) (by_quads_lem c.args.s.now c.args.i (λ j. (c.type_inv.s j).fits) _ _ (quad_at c.args.s.now (c.args.i + 8)) _ c.quad_at-a.ensures.0 c.quad_at.ensures.0 refl c.quad_at-then-is_light.ensures.0) (right_passed _ c.args.up c.args.found _ c.requires.1.0 (passes_linked _ _ _ _ _ _ _ (light_quad c.quad_at-a.result c.quad_at.result l) c.light_labels-labels.ensures) c.if-labels-lt511.true c.requires.1.1)

@@ -1,13 +1,7 @@
 use native.Mathlib.Omega.{arith}
-use borrow.Author.Rules.{rules}
-use Prim.Native.Nat.{◌-◌, ◌+◌, ◌*◌, ◌≤◌}
 use mathlib.Core.Path.{sym, ◌∙◌}
-use Rattle.refusals.specs.Walk.{Ready, Walks}
-use Rattle.refusals.specs.Packed.{progress_of}
-use Rattle.refusals.specs.declared.Walked.{Walked}
 use Rattle.refusals.proofs.Walking.{walk_none, walk_lost, walk_past}
 use Rattle.refusals.proofs.Packing.{tells_lost, tells_came, row_ready, row_tells, past_ready, leaf_on, leaf_wrong, parts_lost, parts-ready, parts-farther, parts-wrong, parts-on}
-use Prim.Native.Nat.{ℕ, ◌<◌}
 use Rattle.refusals.proofs.walk.+walk_chain_walk_records.Goals as goal
 
 pub walk_chain-row_walk-r-requires : goal.walk_chain-row_walk-r-requires

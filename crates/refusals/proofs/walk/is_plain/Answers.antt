@@ -1,5 +1,4 @@
 use borrow.Author.Tests.{eq-eqb, ne_eqb, lt-ltb, le-ltb}
-use borrow.Author.Rules.{rules}
 use Rattle.refusals.proofs.walk.is_plain.Goals as goal
 
 pub returns-then-b-d-ne0 : goal.returns-then-b-d-ne0

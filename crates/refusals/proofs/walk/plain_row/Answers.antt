@@ -1,7 +1,5 @@
 use mathlib.Core.Path.{sym, ◌∙◌}
-use Prim.Native.Nat.{◌-◌}
 use native.Mathlib.Omega.{arith}
-use Rattle.refusals.specs.Packed.{Row}
 use Rattle.refusals.proofs.Packing.{row_none, row_more, row_stops, row_end}
 use Rattle.refusals.proofs.walk.plain_row.Goals as goal
 

@@ -1,6 +1,5 @@
 use native.Mathlib.Omega.{arith}
 use Rattle.refusals.proofs.Packing.{begun_lost, begun_row, begun_end}
-use borrow.Author.Rules.{rules}
 use Rattle.refusals.proofs.walk.row_walk.Goals as goal
 
 pub returns-then-row-lt65536 : goal.returns-then-row-lt65536

@@ -1,5 +1,4 @@
 use Rattle.refusals.proofs.Packing.{told_lost, told_came}
-use borrow.Author.Rules.{rules}
 use Rattle.refusals.proofs.walk.walk_all.Goals as goal
 
 pub returns-then-r-eq0 : goal.returns-then-r-eq0

@@ -1,7 +1,6 @@
 use native.Mathlib.Omega.{arith}
 use Rattle.refusals.proofs.Walking.{walk_none, walk_lost}
 use Rattle.refusals.proofs.Packing.{tells_came, tells_lost, row_ready, row_tells}
-use borrow.Author.Rules.{rules}
 use Rattle.refusals.proofs.walk.walk_types.Goals as goal
 
 pub returns-then-link-eq0 : goal.returns-then-link-eq0

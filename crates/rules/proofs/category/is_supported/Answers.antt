@@ -1,6 +1,5 @@
 use mathlib.Core.Path.{◌∙◌}
 use Rattle.rules.proofs.Categories.{supported}
-use borrow.Author.Rules.{rules}
 use Rattle.rules.proofs.category.is_supported.Goals as goal
 
 pub returns : goal.returns

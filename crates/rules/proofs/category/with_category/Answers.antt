@@ -1,4 +1,3 @@
-use borrow.Author.Rules.{rules}
 use Rattle.rules.proofs.category.with_category.Goals as goal
 
 pub returns : goal.returns

@@ -1,7 +1,6 @@
 use mathlib.Core.Path.{sym, ◌∙◌}
 use borrow.Author.Tests.{eq-eqb, ne_eqb}
 use Rattle.coercion.specs.Rules.{null_coercion}
-use borrow.Author.Rules.{rules}
 use Rattle.rules.proofs.sides.null_coercion.Goals as goal
 
 pub returns-then-may_become : goal.returns-then-may_become

@@ -1,6 +1,5 @@
 use mathlib.Core.Path.{sym, ◌∙◌}
 use Rattle.coercion.specs.Rules.{string_numeric_union_coercion}
-use borrow.Author.Rules.{rules}
 use Rattle.rules.proofs.sides.string_numeric_union_coercion.Goals as goal
 
 pub returns-then-both : goal.returns-then-both

@@ -1,6 +1,5 @@
 use mathlib.Core.Path.{sym, ◌∙◌}
 use borrow.Author.Tests.{eq-eqb, ne_eqb}
-use borrow.Author.Rules.{rules}
 use Rattle.rules.proofs.sides.time_of_string.Goals as goal
 
 pub returns-then-is_date : goal.returns-then-is_date

@@ -1,4 +1,3 @@
-use borrow.Author.Rules.{rules}
 use Rattle.rules.proofs.strings.is_binary_or_string.Goals as goal
 
 pub returns : goal.returns

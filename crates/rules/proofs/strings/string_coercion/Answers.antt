@@ -1,6 +1,5 @@
 use mathlib.Core.Path.{sym, ◌∙◌}
 use Rattle.coercion.specs.Strings.{string_coercion}
-use borrow.Author.Rules.{rules}
 use Rattle.rules.proofs.strings.string_coercion.Goals as goal
 
 pub returns-then-one_is : goal.returns-then-one_is

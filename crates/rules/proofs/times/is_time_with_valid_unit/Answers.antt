@@ -1,5 +1,4 @@
 use Rattle.coercion.specs.Times.{is_time_with_valid_unit}
-use borrow.Author.Rules.{rules}
 use Rattle.rules.proofs.times.is_time_with_valid_unit.Goals as goal
 
 pub returns : goal.returns

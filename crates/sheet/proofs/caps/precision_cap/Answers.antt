@@ -1,7 +1,5 @@
 use native.Mathlib.Omega.{arith}
-use Rattle.sheet.specs.Kind.{cap}
 use Rattle.sheet.proofs.Capped.{cap_is, cap_most}
-use borrow.Author.Rules.{rules}
 use Rattle.sheet.proofs.caps.precision_cap.Goals as goal
 
 pub returns : goal.returns

@@ -1,5 +1,4 @@
 use mathlib.Core.Path.{sym}
-use Prim.Native.Nat.{◌-◌, ◌/◌}
 use Rattle.sheet.specs.Tests.{all_of}
 use Rattle.sheet.proofs.Tests.{and_true}
 use Rattle.sheet.proofs.figure.all.Goals as goal

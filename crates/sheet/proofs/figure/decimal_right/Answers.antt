@@ -1,7 +1,5 @@
-use Prim.Native.Nat.{◌-◌, ◌/◌}
 use Rattle.sheet.specs.Tests.{all_of}
 use Rattle.sheet.specs.Refusals.{decimal_right}
-use borrow.Author.Rules.{rules}
 use Rattle.sheet.proofs.figure.decimal_right.Goals as goal
 
 pub returns : goal.returns

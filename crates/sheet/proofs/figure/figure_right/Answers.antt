@@ -3,7 +3,6 @@ use borrow.Author.Tests.{eq-eqb, ne_eqb}
 use Rattle.sheet.specs.Refusals.{figure_right}
 use Rattle.sheet.proofs.Tests.{all_nil, all_cons, all_not}
 use Rattle.sheet.proofs.Figures.{all_first, figure_none}
-use borrow.Author.Rules.{rules}
 use Rattle.sheet.proofs.figure.figure_right.Goals as goal
 
 pub returns-then-is_decimal : goal.returns-then-is_decimal

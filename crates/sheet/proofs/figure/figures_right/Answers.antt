@@ -2,7 +2,6 @@ use mathlib.Core.Path.{sym, ◌∙◌}
 use Rattle.sheet.specs.Refusals.{figures_right}
 use Rattle.sheet.proofs.Tests.{all_nil, all_cons, all_not}
 use Rattle.sheet.proofs.Figures.{all_first}
-use borrow.Author.Rules.{rules}
 use Rattle.sheet.proofs.figure.figures_right.Goals as goal
 
 pub returns-then-size_right : goal.returns-then-size_right

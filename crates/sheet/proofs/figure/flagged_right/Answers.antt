@@ -1,6 +1,4 @@
-use Prim.Native.Nat.{◌-◌, ◌/◌}
 use Rattle.sheet.proofs.Figures.{record_made}
-use borrow.Author.Rules.{rules}
 use Rattle.sheet.proofs.figure.flagged_right.Goals as goal
 
 pub returns : goal.returns

@@ -1,6 +1,4 @@
-use Prim.Native.Nat.{◌-◌, ◌/◌}
 use Rattle.sheet.specs.Kind.{is_decimal}
-use borrow.Author.Rules.{rules}
 use Rattle.sheet.proofs.figure.is_decimal.Goals as goal
 
 pub returns : goal.returns

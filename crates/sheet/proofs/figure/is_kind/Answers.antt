@@ -1,6 +1,4 @@
-use Prim.Native.Nat.{◌-◌, ◌/◌}
 use Rattle.sheet.specs.Kind.{is_kind}
-use borrow.Author.Rules.{rules}
 use Rattle.sheet.proofs.figure.is_kind.Goals as goal
 
 pub returns : goal.returns

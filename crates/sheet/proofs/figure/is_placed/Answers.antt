@@ -1,4 +1,3 @@
-use Prim.Native.Nat.{◌-◌, ◌/◌}
 use borrow.Author.Tests.{eq-eqb, ne_eqb}
 use Rattle.sheet.proofs.figure.is_placed.Goals as goal
 

@@ -1,7 +1,5 @@
-use Prim.Native.Nat.{◌-◌, ◌/◌}
 use native.Mathlib.Omega.{arith}
 use borrow.Author.Tests.{eq-eqb, ne_eqb}
-use borrow.Author.Rules.{rules}
 use Rattle.sheet.proofs.figure.label_bytes.Goals as goal
 
 pub returns-then-flags-eq1 : goal.returns-then-flags-eq1

@@ -6,7 +6,6 @@ use Rattle.sheet.specs.Tests.{implies}
 use Rattle.sheet.specs.Refusals.{label_right}
 use Rattle.sheet.proofs.Tests.{all_not}
 use Rattle.sheet.proofs.Figures.{labels_named}
-use borrow.Author.Rules.{rules}
 use Rattle.sheet.proofs.figure.label_right.Goals as goal
 
 pub returns-then-h-eq1 : goal.returns-then-h-eq1

@@ -1,8 +1,6 @@
 use mathlib.Core.Path.{sym, ◌∙◌}
-use Prim.Native.Nat.{◌-◌, ◌/◌}
 use borrow.Author.Tests.{eq-eqb, ne_eqb}
 use Rattle.sheet.specs.Kind.{last_unit}
-use borrow.Author.Rules.{rules}
 use Rattle.sheet.proofs.figure.last_unit.Goals as goal
 
 pub returns-then-within : goal.returns-then-within

@@ -1,7 +1,5 @@
 use mathlib.Core.Path.{sym, ◌∙◌}
-use Prim.Native.Nat.{◌-◌, ◌/◌}
 use Rattle.sheet.specs.Kind.{names_parts}
-use borrow.Author.Rules.{rules}
 use Rattle.sheet.proofs.figure.names_parts.Goals as goal
 
 pub returns-then-within : goal.returns-then-within

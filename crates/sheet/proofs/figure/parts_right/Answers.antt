@@ -2,7 +2,6 @@ use mathlib.Core.Path.{sym, ◌∙◌}
 use borrow.Author.Tests.{eq-eqb, ne_eqb}
 use Rattle.sheet.specs.Kind.{parts_right}
 use Rattle.sheet.proofs.Figures.{parts_none}
-use borrow.Author.Rules.{rules}
 use Rattle.sheet.proofs.figure.parts_right.Goals as goal
 
 pub returns-then-k-lt32 : goal.returns-then-k-lt32

@@ -5,7 +5,6 @@ use Rattle.sheet.specs.Head.{nullable_in}
 use Rattle.sheet.specs.Refusals.{record_right}
 use Rattle.sheet.proofs.Tests.{all_not}
 use Rattle.sheet.proofs.Figures.{record_plain}
-use borrow.Author.Rules.{rules}
 use Rattle.sheet.proofs.figure.record_right.Goals as goal
 
 pub returns-then-h-ne0 : goal.returns-then-h-ne0

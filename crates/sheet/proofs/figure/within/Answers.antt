@@ -1,4 +1,3 @@
-use Prim.Native.Nat.{◌-◌, ◌/◌}
 use borrow.Author.Tests.{le-leb, lt-leb}
 use Rattle.sheet.specs.Tests.{between}
 use Rattle.sheet.proofs.figure.within.Goals as goal

@@ -1,11 +1,9 @@
 use mathlib.Core.Path.{◌≡◌, sym, ◌∙◌, ap}
-use Prim.Native.Nat.{ℕ, ◌+◌, ◌-◌, ◌/◌}
+use Prim.Native.Nat.{ℕ, ◌+◌, ◌-◌}
 use native.Mathlib.Omega.{arith}
-use borrow.Author.Rules.{rules}
 use lib.ListN.{length, take, drop, length-drop, length-take}
 use lib.Seq.{take_all}
 use Rattle.sheet.proofs.Bytewise.{fill_none, fill_all}
-use borrow.Author.Rules.{rules}
 use Rattle.sheet.proofs.label.fill.Goals as goal
 
 pub returns-then-n-a : goal.returns-then-n-a

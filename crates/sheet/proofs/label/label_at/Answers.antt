@@ -1,9 +1,7 @@
 use mathlib.Core.Path.{◌∙◌, ap, ap₂}
-use Prim.Native.Nat.{ℕ, ◌+◌, ◌*◌, ◌-◌, ◌/◌, min}
-use borrow.Author.Rules.{rules}
+use Prim.Native.Nat.{ℕ, ◌+◌, ◌*◌, ◌-◌, min}
 use lib.ListN.{length, take, drop}
 use Rattle.sheet.proofs.Bytewise.{cut_part}
-use borrow.Author.Rules.{rules}
 use Rattle.sheet.proofs.label.label_at.Goals as goal
 
 pub returns : goal.returns

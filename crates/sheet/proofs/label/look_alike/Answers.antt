@@ -4,7 +4,6 @@ use native.Mathlib.Omega.{arith}
 use borrow.Author.Tests.{eqb-false}
 use Rattle.sheet.proofs.Tests.{never}
 use Rattle.sheet.proofs.Agreeing.{quads_apart, eights_apart}
-use borrow.Author.Rules.{rules}
 use Rattle.sheet.proofs.label.look_alike.Goals as goal
 
 pub returns-then-eight_at : goal.returns-then-eight_at

@@ -1,10 +1,9 @@
 use mathlib.Core.Path.{◌≡◌, refl, sym, ◌∙◌, ap, subst}
-use Prim.Native.Nat.{ℕ, ◌+◌, ◌-◌, ◌<◌, ◌≤◌}
+use Prim.Native.Nat.{ℕ, ◌+◌}
 use native.Mathlib.Omega.{arith}
-use lib.ListN.{length, drop}
+use lib.ListN.{drop}
 use Rattle.sheet.specs.Names.{stir, mixed}
 use Rattle.sheet.proofs.Mixing.{mixed_four, mixed_one, mixed_done}
-use borrow.Author.Rules.{rules}
 use Rattle.sheet.proofs.label.mix.Goals as goal
 
 pub loop-i-init : goal.loop-i-init

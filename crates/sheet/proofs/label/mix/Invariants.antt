@@ -1,10 +1,7 @@
-use mathlib.Core.Path.{◌≡◌, refl, sym, ◌∙◌, ap, subst}
-use Prim.Native.Nat.{ℕ, ◌+◌, ◌-◌, ◌<◌, ◌≤◌}
-use native.Mathlib.Omega.{arith}
+use mathlib.Core.Path.{◌≡◌}
+use Prim.Native.Nat.{◌-◌, ◌<◌, ◌≤◌}
 use lib.ListN.{length, drop}
-use Rattle.sheet.specs.Names.{stir, mixed}
-use Rattle.sheet.proofs.Mixing.{mixed_four, mixed_one, mixed_done}
-use borrow.Author.Rules.{rules}
+use Rattle.sheet.specs.Names.{mixed}
 use Rattle.sheet.proofs.label.mix.Given as goal
 
 abbrev pub invariant-loop-i : goal.invariant-loop-i

@@ -1,13 +1,12 @@
 use mathlib.Core.Path.{sym, ◌∙◌, ap₂}
 use mathlib.Core.List.{List}
-use Prim.Native.Nat.{ℕ, ◌+◌, ◌-◌, ◌≤◌}
+use Prim.Native.Nat.{ℕ, ◌+◌, ◌-◌}
 use native.Mathlib.Omega.{arith}
 use lib.Dec.{eqb}
 use lib.ListN.{length}
 use Rattle.sheet.specs.Head.{eight_at}
-use Rattle.sheet.proofs.Agreeing.{Agree, same_unlike, agree_none, agree_eight, eight_decides}
+use Rattle.sheet.proofs.Agreeing.{same_unlike, agree_none, agree_eight, eight_decides}
 use Rattle.sheet.proofs.Bytewise.{same_lengths}
-use borrow.Author.Rules.{rules}
 use Rattle.sheet.proofs.label.same.Goals as goal
 
 pub returns-then-n-b : goal.returns-then-n-b

@@ -1,7 +1,6 @@
 use mathlib.Core.Path.{◌∙◌, ap₂}
 use Rattle.sheet.specs.Names.{same_bytes}
 use Rattle.sheet.proofs.Agreeing.{part_whole}
-use borrow.Author.Rules.{rules}
 use Rattle.sheet.proofs.label.same_close.Goals as goal
 
 pub returns-else-look_alike : goal.returns-else-look_alike

@@ -1,9 +1,6 @@
 use mathlib.Core.Path.{sym, ◌∙◌, ap₂}
-use Prim.Native.Nat.{◌-◌}
-use borrow.Author.Rules.{rules}
 use lib.Seq.{length-take-le}
 use Rattle.sheet.specs.Names.{same_bytes}
-use borrow.Author.Rules.{rules}
 use Rattle.sheet.proofs.label.same_held.Goals as goal
 
 pub slice_bounds-same-end : goal.slice_bounds-same-end

@@ -3,7 +3,6 @@ use Prim.Native.Nat.{ℕ, ◌-◌}
 use lib.ListN.{get_or}
 use native.Mathlib.Omega.{arith}
 use Rattle.sheet.proofs.Bytewise.{parts_lengths, parts_empty, parts_apart, last_inside, last_within, last_at}
-use borrow.Author.Rules.{rules}
 use Rattle.sheet.proofs.label.same_label.Goals as goal
 
 pub returns-then-i-reach : goal.returns-then-i-reach

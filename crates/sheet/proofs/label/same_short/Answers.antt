@@ -7,7 +7,6 @@ use lib.ListN.{length}
 use Rattle.sheet.specs.Head.{word, quad_at}
 use Rattle.sheet.proofs.Bytewise.{same_done}
 use Rattle.sheet.proofs.Agreeing.{same_unlike, agree_none, agree_word, agree_quad, byte_decides, word_decides, quad_decides}
-use borrow.Author.Rules.{rules}
 use Rattle.sheet.proofs.label.same_short.Goals as goal
 
 pub returns-then-quad_at : goal.returns-then-quad_at

@@ -1,11 +1,8 @@
 use mathlib.Core.Path.{sym, ◌∙◌}
-use Prim.Native.Nat.{◌-◌, ◌/◌}
 use native.Mathlib.Omega.{arith}
-use borrow.Author.Rules.{rules}
 use borrow.Author.Tests.{le-ltb}
 use Rattle.sheet.specs.Head.{head_at}
 use Rattle.sheet.proofs.Heads.{head_inside}
-use borrow.Author.Rules.{rules}
 use Rattle.sheet.proofs.record.head_at.Goals as goal
 
 pub returns-then-r-s : goal.returns-then-r-s

@@ -1,6 +1,5 @@
 use native.Mathlib.Omega.{arith}
 use Rattle.sheet.proofs.Heads.{by_quads_lem}
-use borrow.Author.Rules.{rules}
 use Rattle.sheet.proofs.record.head_from.Goals as goal
 
 pub returns : goal.returns

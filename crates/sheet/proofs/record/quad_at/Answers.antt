@@ -2,7 +2,6 @@ use mathlib.Core.Path.{◌≡◌}
 use Prim.Native.Nat.{◌+◌}
 use native.Mathlib.Omega.{arith}
 use Rattle.sheet.proofs.Spans.{at_eq}
-use borrow.Author.Rules.{rules}
 use Rattle.sheet.proofs.record.quad_at.Goals as goal
 
 pub returns : goal.returns
