@@ -1,12 +1,10 @@
 -- A chain that was copied, record by record. Assumes nothing.
 use mathlib.Core.Path.{◌≡◌, refl, ap, sym, subst, subst₂, ◌∙◌}
 use mathlib.Core.Bool.{Bool}
-use mathlib.Core.List.{List, [], ◌∷◌, ◌++◌}
+use mathlib.Core.List.{List, ◌++◌}
 use mathlib.Core.Logic.{◌⊎◌, inl, inr, ⊎_elim}
 use Prim.Native.Nat.{ℕ, ◌+◌, ◌-◌, ◌≤◌}
 use native.Mathlib.Omega.{arith}
-use types.Run.{OneOf, miss}
-use denote.Enum.Declared.{tag_of}
 use lib.ListN.{length, length-append}
 use Rattle.sheet.specs.Types.{Shape, Fields, end, field, count, own_labels, labels}
 use Rattle.sheet.specs.Names.{names_differ}
@@ -20,7 +18,6 @@ use Rattle.buffers.specs.declared.Space.{Space}
 use Rattle.buffers.specs.declared.Spot.{Spot}
 use Rattle.buffers.specs.declared.Out.{Out}
 use Rattle.buffers.specs.declared.Out.TheVariants.{Done, No, Full}
-use Rattle.buffers.specs.contracts.Out.{the_type}
 use Rattle.buffers.proofs.Sources.{source_first, source_next}
 use Rattle.buffers.proofs.Frames.{stands_frame, wrote_frame, kept_trans, kept_wider, kept_self}
 use Rattle.buffers.proofs.Copying.{held_side}
@@ -185,15 +182,15 @@ module _ (space : Space) (s : List ℕ) (swap : Bool) (link : ℕ) (to : Spot) w
 
 -- the same, as the loop over a chain has it
 module _ (space : Space) (s : List ℕ) (swap : Bool) (link : ℕ) (to : Spot) (w : List ℕ) (room : Room w space) (h : Head) (eh : h ≡ head_at (side swap s w) link) (z : ¬ (link ≡ 0)) where
-  pub chain_stop : (v : List ℕ) (o : Out) → OneOf (1 ∷ 2 ∷ []) (tag_of the_type o) → CopiedRecord space (side swap s w) w v link to o → CopiedChain space (side swap s w) w v link to Full
-  chain_stop v (Done d) k c = absurd (miss (1 ∷ 2 ∷ []) 0 tt k)
+  pub chain_stop : (v : List ℕ) (o : Out) → ((d : Spot) → o ≡ Done d → ⊥) → CopiedRecord space (side swap s w) w v link to o → CopiedChain space (side swap s w) w v link to Full
+  chain_stop v (Done d) k c = absurd (k d refl)
   chain_stop v No k c = absurd c.means
   chain_stop v Full k c = chain_full space s swap link to w room h eh z v c
 
   module _ (v : List ℕ) (d : Spot) (c : CopiedRecord space (side swap s w) w v link to (Done d)) where
-    pub chain_parts_stop : (u : List ℕ) (o : Out) → OneOf (1 ∷ 2 ∷ []) (tag_of the_type o) → CopiedChain space (side swap s v) v u h.first d o
+    pub chain_parts_stop : (u : List ℕ) (o : Out) → ((e : Spot) → o ≡ Done e → ⊥) → CopiedChain space (side swap s v) v u h.first d o
         → CopiedChain space (side swap s w) w u link to Full
-    chain_parts_stop u (Done e) k b = absurd (miss (1 ∷ 2 ∷ []) 0 tt k)
+    chain_parts_stop u (Done e) k b = absurd (k e refl)
     chain_parts_stop u No k b = absurd b.means
     chain_parts_stop u Full k b = chain-parts-full space s swap link to w room h eh z v d c u b
 

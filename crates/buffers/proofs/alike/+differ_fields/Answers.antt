@@ -1,19 +1,10 @@
 use Prim.Native.Nat.{◌-◌, ◌≤◌}
 use native.Mathlib.Omega.{arith}
 use borrow.Author.Rules.{rules}
-use borrow.Author.Tests.{not-true, not-false}
 use Rattle.buffers.specs.Differ.{DifferChains}
 use Rattle.buffers.proofs.Sameness.{fields_none, fields_longer, fields_past, fields_short, fields_own, fields_parts, fields_rest, fields_plain}
 use Prim.Native.Nat.{ℕ, ◌<◌}
 use Rattle.buffers.proofs.alike.+differ_fields.Goals as goal
-
-abbrev differ-fields-Inv-loop : differ-fields-lts.invariant-loop
-differ-fields-Inv-loop a n floor i b m j named low₀ x₀ y₀ low x y =
-    (floor ≤ low) × ((v : ℕ) → DifferChains a n low x b m y named floor v → DifferChains a n floor i b m j named floor v)
-
-abbrev differ-fields-μ-loop : differ-fields-lts.decreases-loop
-differ-fields-μ-loop a n floor i b m j named low₀ x₀ y₀ low x y =
-    n - low
 
 pub loop-low-init : goal.loop-low-init
 loop-low-init t c =
@@ -33,7 +24,7 @@ same_record-requires t c =
 
 pub returns-then-not-same_record : goal.returns-then-not-same_record
 returns-then-not-same_record t c =
-    c.loop-low.invariant.1 _ (fields_own _ _ _ _ _ _ _ _ _ (c.loop-low-test.true) (c.if-y-eq0.false) _ _ (c.head_at-g.ensures.0) (c.head_at-h.ensures.0) (c.same_record.ensures) (not-true _ (c.if-not-same_record.true)))
+    c.loop-low.invariant.1 _ (fields_own _ _ _ _ _ _ _ _ _ (c.loop-low-test.true) (c.if-y-eq0.false) _ _ (c.head_at-g.ensures.0) (c.head_at-h.ensures.0) (c.same_record.ensures) c.if-not-same_record.true)
 
 pub overflow_add-g : goal.overflow_add-g
 overflow_add-g t c =
@@ -45,7 +36,7 @@ loop-low-smaller-then-g-h-eq0 t c =
 
 pub loop-low-preserved-then-g-h-eq0 : goal.loop-low-preserved-then-g-h-eq0
 loop-low-preserved-then-g-h-eq0 t c =
-    (omega (arith, c.loop-low.invariant.0, c.loop-low-test.true), λ v f. c.loop-low.invariant.1 v (fields_plain _ _ _ _ _ _ _ _ _ (c.loop-low-test.true) (c.if-y-eq0.false) _ _ (c.head_at-g.ensures.0) (c.head_at-h.ensures.0) (c.same_record.ensures) (not-false _ (c.if-not-same_record.false)) (c.if-g-h-eq0.true) f))
+    (omega (arith, c.loop-low.invariant.0, c.loop-low-test.true), λ v f. c.loop-low.invariant.1 v (fields_plain _ _ _ _ _ _ _ _ _ (c.loop-low-test.true) (c.if-y-eq0.false) _ _ (c.head_at-g.ensures.0) (c.head_at-h.ensures.0) (c.same_record.ensures) c.if-not-same_record.false (c.if-g-h-eq0.true) f))
 
 pub differ_fields-d-requires : goal.differ_fields-d-requires
 differ_fields-d-requires t c =
@@ -53,7 +44,7 @@ differ_fields-d-requires t c =
 
 pub returns-then-d-ne0 : goal.returns-then-d-ne0
 returns-then-d-ne0 t c =
-    c.loop-low.invariant.1 _ (fields_parts _ _ _ _ _ _ _ _ _ (c.loop-low-test.true) (c.if-y-eq0.false) _ _ (c.head_at-g.ensures.0) (c.head_at-h.ensures.0) (c.same_record.ensures) (not-false _ (c.if-not-same_record.false)) (c.differ_fields-d.ensures) c.if-d-ne0.true)
+    c.loop-low.invariant.1 _ (fields_parts _ _ _ _ _ _ _ _ _ (c.loop-low-test.true) (c.if-y-eq0.false) _ _ (c.head_at-g.ensures.0) (c.head_at-h.ensures.0) (c.same_record.ensures) c.if-not-same_record.false (c.differ_fields-d.ensures) c.if-d-ne0.true)
 
 pub loop-low-smaller : goal.loop-low-smaller
 loop-low-smaller t c =
@@ -61,7 +52,7 @@ loop-low-smaller t c =
 
 pub loop-low-preserved : goal.loop-low-preserved
 loop-low-preserved t c =
-    (omega (arith, c.loop-low.invariant.0, c.loop-low-test.true), λ v f. c.loop-low.invariant.1 v (fields_rest _ _ _ _ _ _ _ _ _ (c.loop-low-test.true) (c.if-y-eq0.false) _ _ (c.head_at-g.ensures.0) (c.head_at-h.ensures.0) (c.same_record.ensures) (not-false _ (c.if-not-same_record.false)) (c.differ_fields-d.ensures) c.if-d-ne0.false f))
+    (omega (arith, c.loop-low.invariant.0, c.loop-low-test.true), λ v f. c.loop-low.invariant.1 v (fields_rest _ _ _ _ _ _ _ _ _ (c.loop-low-test.true) (c.if-y-eq0.false) _ _ (c.head_at-g.ensures.0) (c.head_at-h.ensures.0) (c.same_record.ensures) c.if-not-same_record.false (c.differ_fields-d.ensures) c.if-d-ne0.false f))
 
 pub returns-then-y-eq0-2 : goal.returns-then-y-eq0-2
 returns-then-y-eq0-2 t c =

@@ -6,7 +6,10 @@ use Rattle.buffers.proofs.stamp.zone_into.Goals as goal
 
 pub zone_coercion-z-requires : goal.zone_coercion-z-requires
 zone_coercion-z-requires c =
-    (place_fits c.args.swap c.args.sheet.now c.args.work.now c.args.x c.args.n _ c.zone_place-p.result c.zone_place-p.ensures c.side_length.ensures, place_fits (not c.args.swap) c.args.sheet.now c.args.work.now c.args.y c.args.n _ c.zone_place-q.result c.zone_place-q.ensures c.side_length-2.ensures)
+    record {
+      from_le_upto = place_fits c.args.swap c.args.sheet.now c.args.work.now c.args.x c.args.n _ c.zone_place-p.result c.zone_place-p.ensures c.side_length.ensures;
+      from_le_upto_2 = place_fits (not c.args.swap) c.args.sheet.now c.args.work.now c.args.y c.args.n _ c.zone_place-q.result c.zone_place-q.ensures c.side_length-2.ensures;
+    }
 
 pub fill-requires : goal.fill-requires
 fill-requires c =
