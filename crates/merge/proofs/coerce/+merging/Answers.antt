@@ -157,7 +157,7 @@ list_rule-returns t c =
 
 pub list_struct-returns-then-not-same_arity : goal.list_struct-returns-then-not-same_arity
 list_struct-returns-then-not-same_arity t c =
-    record { merges_known = listed_unlike _ _ _ c.args.swap _ _ _ _ _ _ _ c.look-a.ensures.0 c.look-b.ensures.0 c.same_arity.ensures (not-true _ c.if-not-same_arity.true); tabled_2 = c.requires.tabled }
+    record { merges_known = listed_unlike _ _ _ c.args.swap _ _ _ _ _ _ _ c.look-a.ensures.0 c.look-b.ensures.0 c.same_arity.ensures c.if-not-same_arity.true; tabled_2 = c.requires.tabled }
 
 pub list_struct-in_order-requires : goal.list_struct-in_order-requires
 list_struct-in_order-requires t c =
@@ -169,7 +169,7 @@ list_struct-under-requires t c =
 
 pub list_struct-returns-then-in_order : goal.list_struct-returns-then-in_order
 list_struct-returns-then-in_order t c =
-    record { merges_known = listed_ordered _ _ _ c.args.swap _ _ _ _ _ _ _ c.look-a.ensures.0 c.look-b.ensures.0 c.same_arity.ensures (not-false _ c.if-not-same_arity.false) c.in_order.ensures c.args.known _ c.if-in_order.true c.requires.l_value.1 _ _ c.under.ensures.under; tabled_2 = c.under.ensures.tabled_2 }
+    record { merges_known = listed_ordered _ _ _ c.args.swap _ _ _ _ _ _ _ c.look-a.ensures.0 c.look-b.ensures.0 c.same_arity.ensures c.if-not-same_arity.false c.in_order.ensures c.args.known _ c.if-in_order.true c.requires.l_value.1 _ _ c.under.ensures.under; tabled_2 = c.under.ensures.tabled_2 }
 
 pub list_struct-have_same_names-requires : goal.list_struct-have_same_names-requires
 list_struct-have_same_names-requires t c =
@@ -181,11 +181,11 @@ list_struct-under-requires-then-have_same_names t c =
 
 pub list_struct-returns-then-have_same_names : goal.list_struct-returns-then-have_same_names
 list_struct-returns-then-have_same_names t c =
-    record { merges_known = listed-named _ _ _ c.args.swap _ _ _ _ _ _ _ c.look-a.ensures.0 c.look-b.ensures.0 c.same_arity.ensures (not-false _ c.if-not-same_arity.false) c.have_same_names.ensures.by_index c.args.known _ c.if-have_same_names.true c.requires.l_value.0 c.requires.l_value.1 _ _ c.under-then-have_same_names.ensures.under; tabled_2 = c.under-then-have_same_names.ensures.tabled_2 }
+    record { merges_known = listed-named _ _ _ c.args.swap _ _ _ _ _ _ _ c.look-a.ensures.0 c.look-b.ensures.0 c.same_arity.ensures c.if-not-same_arity.false c.have_same_names.ensures.by_index c.args.known _ c.if-have_same_names.true c.requires.l_value.0 c.requires.l_value.1 _ _ c.under-then-have_same_names.ensures.under; tabled_2 = c.under-then-have_same_names.ensures.tabled_2 }
 
 pub list_struct-returns : goal.list_struct-returns
 list_struct-returns t c =
-    record { merges_known = listed-none _ _ _ c.args.swap _ _ _ _ _ _ _ c.look-a.ensures.0 c.look-b.ensures.0 c.same_arity.ensures (not-false _ c.if-not-same_arity.false) c.have_same_names.ensures.by_index c.if-have_same_names.false; tabled_2 = record { partners = c.have_same_names.ensures.table_len_unchanged.1 c.requires.tabled.partners } }
+    record { merges_known = listed-none _ _ _ c.args.swap _ _ _ _ _ _ _ c.look-a.ensures.0 c.look-b.ensures.0 c.same_arity.ensures c.if-not-same_arity.false c.have_same_names.ensures.by_index c.if-have_same_names.false; tabled_2 = record { partners = c.have_same_names.ensures.table_len_unchanged.1 c.requires.tabled.partners } }
 
 pub map_rule-returns-then-space-at : goal.map_rule-returns-then-space-at
 map_rule-returns-then-space-at t c =
@@ -341,11 +341,11 @@ rows-name_field-requires t c =
 
 pub rows-returns-then-not-name_field : goal.rows-returns-then-not-name_field
 rows-returns-then-not-name_field t c =
-    record { rowed = rows_crowded c.args.known _ _ c.args.space c.args.left c.args.swap _ _ c.args.feed _ _ _ _ c.requires.room.0 c.requires.room.1 _ c.look-x.ensures.0 c.if-l-eq0.false _ (c.row-row.ensures c.requires.tabled.partners) c.if-partner-eq0.false _ _ c.name_field.ensures (not-true _ c.if-not-name_field.true); tabled_2 = tabled_over c.requires.room.0 c.name_field.ensures.kept c.requires.tabled }
+    record { rowed = rows_crowded c.args.known _ _ c.args.space c.args.left c.args.swap _ _ c.args.feed _ _ _ _ c.requires.room.0 c.requires.room.1 _ c.look-x.ensures.0 c.if-l-eq0.false _ (c.row-row.ensures c.requires.tabled.partners) c.if-partner-eq0.false _ _ c.name_field.ensures c.if-not-name_field.true; tabled_2 = tabled_over c.requires.room.0 c.name_field.ensures.kept c.requires.tabled }
 
 pub rows-common-requires : goal.rows-common-requires
 rows-common-requires t c =
-    (omega (arith, c.decreases), record { room = (room_kept c.name_field.ensures.kept c.requires.room.0, field_ready _ c.requires.room.1 c.look-x.ensures.1 (not-false _ c.if-not-name_field.false) c.name_field.ensures); tabled = tabled_over c.requires.room.0 c.name_field.ensures.kept c.requires.tabled })
+    (omega (arith, c.decreases), record { room = (room_kept c.name_field.ensures.kept c.requires.room.0, field_ready _ c.requires.room.1 c.look-x.ensures.1 c.if-not-name_field.false c.name_field.ensures); tabled = tabled_over c.requires.room.0 c.name_field.ensures.kept c.requires.tabled })
 
 pub rows-overflow_sub-left : goal.rows-overflow_sub-left
 rows-overflow_sub-left t c =

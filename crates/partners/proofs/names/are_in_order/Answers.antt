@@ -28,7 +28,7 @@ is_named-requires c =
 
 pub returns-then-not-is_named : goal.returns-then-not-is_named
 returns-then-not-is_named c =
-    λ space en. c.loop-low.invariant space en _ (order_other _ _ _ _ _ _ c.loop-low-test.true _ en _ _ c.if-j-eq0.false c.head_at-g.ensures.0 c.head_at-h.ensures.0 _ c.label_at.ensures c.is_named.ensures (not-true _ c.if-not-is_named.true))
+    λ space en. c.loop-low.invariant space en _ (order_other _ _ _ _ _ _ c.loop-low-test.true _ en _ _ c.if-j-eq0.false c.head_at-g.ensures.0 c.head_at-h.ensures.0 _ c.label_at.ensures c.is_named.ensures c.if-not-is_named.true)
 
 pub loop-low-smaller : goal.loop-low-smaller
 loop-low-smaller c =
@@ -36,7 +36,7 @@ loop-low-smaller c =
 
 pub loop-low-preserved : goal.loop-low-preserved
 loop-low-preserved c =
-    λ space en b k. c.loop-low.invariant space en b (order-on _ _ _ _ _ _ c.loop-low-test.true _ en _ _ c.if-j-eq0.false c.head_at-g.ensures.0 c.head_at-h.ensures.0 _ c.label_at.ensures c.is_named.ensures (not-false _ c.if-not-is_named.false) b k)
+    λ space en b k. c.loop-low.invariant space en b (order-on _ _ _ _ _ _ c.loop-low-test.true _ en _ _ c.if-j-eq0.false c.head_at-g.ensures.0 c.head_at-h.ensures.0 _ c.label_at.ensures c.is_named.ensures c.if-not-is_named.false b k)
 
 pub returns : goal.returns
 returns c =

@@ -12,11 +12,11 @@ loop-at-init c =
 
 pub returns-then-not-either : goal.returns-then-not-either
 returns-then-not-either c =
-    c.loop-at.invariant _ (core_here _ c.head_at-h.ensures.0 c.either.ensures (not-true _ c.if-not-either.true))
+    c.loop-at.invariant _ (core_here _ c.head_at-h.ensures.0 c.either.ensures c.if-not-either.true)
 
 pub returns-then-value-at : goal.returns-then-value-at
 returns-then-value-at c =
-    c.loop-at.invariant _ (core_lost _ c.head_at-h.ensures.0 c.either.ensures (not-false _ c.if-not-either.false) _ c.head_at-value.ensures.0 c.if-value-at.true)
+    c.loop-at.invariant _ (core_lost _ c.head_at-h.ensures.0 c.either.ensures c.if-not-either.false _ c.head_at-value.ensures.0 c.if-value-at.true)
 
 pub loop-at-smaller : goal.loop-at-smaller
 loop-at-smaller c =
@@ -24,7 +24,7 @@ loop-at-smaller c =
 
 pub loop-at-preserved : goal.loop-at-preserved
 loop-at-preserved c =
-    λ k g. c.loop-at.invariant k (core_down _ c.head_at-h.ensures.0 c.either.ensures (not-false _ c.if-not-either.false) _ c.head_at-value.ensures.0 g)
+    λ k g. c.loop-at.invariant k (core_down _ c.head_at-h.ensures.0 c.either.ensures c.if-not-either.false _ c.head_at-value.ensures.0 g)
 
 pub returns : goal.returns
 returns c =

@@ -6,16 +6,13 @@ use Rattle.wrappers.proofs.Walking.{meets_spent, meets_alone, meets_bare, meets_
 use Prim.Native.Nat.{ℕ, ◌<◌}
 use Rattle.wrappers.proofs.walk.+meets.Goals as goal
 
-abbrev meets_at : ℕ → In 2 meets-kinds.ps
-meets_at t = and 2 meets-kinds.ps (is 2 meets-kinds.ps μ-meets t) meets.Pre
-
 pub returns-then-left-eq0 : goal.returns-then-left-eq0
 returns-then-left-eq0 t c =
     meets_spent _ _ _ _ _ _ _ c.if-left-eq0.true
 
 pub returns-then-not-is_wrapper : goal.returns-then-not-is_wrapper
 returns-then-not-is_wrapper t c =
-    meets_alone _ _ c.args.swap _ _ c.kind_at-k.ensures c.kind_at-j.ensures refl c.is_wrapper.ensures (not-true _ c.if-not-is_wrapper.true) c.allows.ensures
+    meets_alone _ _ c.args.swap _ _ c.kind_at-k.ensures c.kind_at-j.ensures refl c.is_wrapper.ensures c.if-not-is_wrapper.true c.allows.ensures
 
 pub overflow_sub-left : goal.overflow_sub-left
 overflow_sub-left t c =
@@ -27,7 +24,7 @@ meets-requires t c =
 
 pub returns-then-k-j : goal.returns-then-k-j
 returns-then-k-j t c =
-    meets_both _ _ c.args.swap _ _ c.kind_at-k.ensures c.kind_at-j.ensures refl c.is_wrapper.ensures (not-false _ c.if-not-is_wrapper.false) c.value_at-b.ensures c.value_at.ensures c.if-k-j.true c.if-left-eq0.false c.meets.ensures
+    meets_both _ _ c.args.swap _ _ c.kind_at-k.ensures c.kind_at-j.ensures refl c.is_wrapper.ensures c.if-not-is_wrapper.false c.value_at-b.ensures c.value_at.ensures c.if-k-j.true c.if-left-eq0.false c.meets.ensures
 
 pub overflow_sub-left-then-is_wrapper : goal.overflow_sub-left-then-is_wrapper
 overflow_sub-left-then-is_wrapper t c =
@@ -39,8 +36,8 @@ meets-requires-then-is_wrapper t c =
 
 pub returns-then-is_wrapper : goal.returns-then-is_wrapper
 returns-then-is_wrapper t c =
-    meets_off _ _ c.args.swap _ _ c.kind_at-k.ensures c.kind_at-j.ensures c.is_wrapper-2.ensures c.is_wrapper.ensures (not-false _ c.if-not-is_wrapper.false) c.value_at-b.ensures c.if-is_wrapper.true c.if-k-j.false c.if-left-eq0.false c.meets-then-is_wrapper.ensures
+    meets_off _ _ c.args.swap _ _ c.kind_at-k.ensures c.kind_at-j.ensures c.is_wrapper-2.ensures c.is_wrapper.ensures c.if-not-is_wrapper.false c.value_at-b.ensures c.if-is_wrapper.true c.if-k-j.false c.if-left-eq0.false c.meets-then-is_wrapper.ensures
 
 pub returns : goal.returns
 returns t c =
-    meets_bare _ _ c.args.swap _ _ c.kind_at-k.ensures c.kind_at-j.ensures c.is_wrapper-2.ensures c.is_wrapper.ensures (not-false _ c.if-not-is_wrapper.false) c.value_at-b.ensures c.if-is_wrapper.false
+    meets_bare _ _ c.args.swap _ _ c.kind_at-k.ensures c.kind_at-j.ensures c.is_wrapper-2.ensures c.is_wrapper.ensures c.if-not-is_wrapper.false c.value_at-b.ensures c.if-is_wrapper.false
