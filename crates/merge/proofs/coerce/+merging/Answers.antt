@@ -18,15 +18,6 @@ use Rattle.merge.proofs.Structs.{struct_none, struct_merged, listed_unlike, list
 use Prim.Native.Nat.{ℕ, ◌<◌}
 use Rattle.merge.proofs.coerce.+merging.Goals as goal
 
-abbrev entry_at : ℕ → In 3 entry-kinds.ps
-entry_at t = and 3 entry-kinds.ps (is 3 entry-kinds.ps μ-entry t) entry.Pre
-
-abbrev rows_at : ℕ → In 3 rows_kinds.ps
-rows_at t = and 3 rows_kinds.ps (is 3 rows_kinds.ps μ-rows t) rows.Pre
-
-abbrev under_at : ℕ → In 3 under-kinds.ps
-under_at t = and 3 under-kinds.ps (is 3 under-kinds.ps μ-under t) under.Pre
-
 pub both_parts-returns-then-space-g : goal.both_parts-returns-then-space-g
 both_parts-returns-then-space-g t c =
     record { merges_known = any_known _ c.args.swap (merges_full _ _ _ _ _ _ _ _ _ c.if-space-g.true); tabled_2 = c.requires.tabled }
@@ -41,7 +32,7 @@ coerce_field-name_field-requires t c =
 
 pub coerce_field-coerce_value-requires : goal.coerce_field-coerce_value-requires
 coerce_field-coerce_value-requires t c =
-    (omega (arith, c.decreases), record { room = (room_kept c.name_field.ensures.kept c.requires.room.0, field_ready _ c.requires.room.1 c.look-x.ensures.1 c.if-name_field.true c.name_field.ensures); question_value = c.requires.question_value; tabled = tabled_over c.requires.room.0 c.name_field.ensures.kept c.requires.tabled })
+    (omega (arith, c.decreases), ((room_kept c.name_field.ensures.kept c.requires.room.0, field_ready _ c.requires.room.1 c.look-x.ensures.1 c.if-name_field.true c.name_field.ensures), (c.requires.question_value, tabled_over c.requires.room.0 c.name_field.ensures.kept c.requires.tabled)))
 
 pub coerce_field-returns-then-name_field : goal.coerce_field-returns-then-name_field
 coerce_field-returns-then-name_field t c =
@@ -57,7 +48,7 @@ coerce_value-returns-then-left-eq0 t c =
 
 pub coerce_value-rewrapped-requires : goal.coerce_value-rewrapped-requires
 coerce_value-rewrapped-requires t c =
-    (omega (arith, c.decreases, c.if-left-eq0.false), record { room = c.requires.room; kind_value = ((sym c.either.ensures ∙ and_fst _ _ (sym c.both.ensures ∙ c.if-both.true)), (sym c.kind_at-k.ensures, c.requires.question_value)); tabled = c.requires.tabled })
+    (omega (arith, c.decreases, c.if-left-eq0.false), (c.requires.room, (((sym c.either.ensures ∙ and_fst _ _ (sym c.both.ensures ∙ c.if-both.true)), (sym c.kind_at-k.ensures, c.requires.question_value)), c.requires.tabled)))
 
 pub coerce_value-returns-then-both : goal.coerce_value-returns-then-both
 coerce_value-returns-then-both t c =
@@ -65,7 +56,7 @@ coerce_value-returns-then-both t c =
 
 pub coerce_value-common-requires : goal.coerce_value-common-requires
 coerce_value-common-requires t c =
-    (omega (arith, c.decreases), record { room = c.requires.room; tabled = c.requires.tabled })
+    (omega (arith, c.decreases), (c.requires.room, c.requires.tabled))
 
 pub coerce_value-returns-then-k-j : goal.coerce_value-returns-then-k-j
 coerce_value-returns-then-k-j t c =
@@ -81,7 +72,7 @@ coerce_value-returns-then-both-2 t c =
 
 pub coerce_value-common-requires-2 : goal.coerce_value-common-requires-2
 coerce_value-common-requires-2 t c =
-    (omega (arith, c.decreases), record { room = c.requires.room; tabled = c.requires.tabled })
+    (omega (arith, c.decreases), (c.requires.room, c.requires.tabled))
 
 pub coerce_value-returns : goal.coerce_value-returns
 coerce_value-returns t c =
@@ -109,7 +100,7 @@ common-returns-then-both t c =
 
 pub common-nested-requires : goal.common-nested-requires
 common-nested-requires t c =
-    (omega (arith, c.decreases, c.if-left-eq0.false), record { room = c.requires.room; tabled = c.requires.tabled })
+    (omega (arith, c.decreases, c.if-left-eq0.false), (c.requires.room, c.requires.tabled))
 
 pub common-returns-then-both-2 : goal.common-returns-then-both-2
 common-returns-then-both-2 t c =
@@ -117,7 +108,7 @@ common-returns-then-both-2 t c =
 
 pub common-resolve-requires : goal.common-resolve-requires
 common-resolve-requires t c =
-    (omega (arith, c.decreases, c.if-left-eq0.false), record { room = c.requires.room; question_value = sym c.is_list_question-list.ensures ∙ c.if-list.true; tabled = c.requires.tabled })
+    (omega (arith, c.decreases, c.if-left-eq0.false), (c.requires.room, (sym c.is_list_question-list.ensures ∙ c.if-list.true, c.requires.tabled)))
 
 pub common-returns-then-list : goal.common-returns-then-list
 common-returns-then-list t c =
@@ -125,7 +116,7 @@ common-returns-then-list t c =
 
 pub common-unwrap-requires : goal.common-unwrap-requires
 common-unwrap-requires t c =
-    (omega (arith, c.decreases, c.if-left-eq0.false), record { room = c.requires.room; question_value = sym c.is_list_question-list.ensures ∙ c.if-list.false; tabled = c.requires.tabled })
+    (omega (arith, c.decreases, c.if-left-eq0.false), (c.requires.room, (sym c.is_list_question-list.ensures ∙ c.if-list.false, c.requires.tabled)))
 
 pub common-returns : goal.common-returns
 common-returns t c =
@@ -137,7 +128,7 @@ entry-name_field-requires t c =
 
 pub entry-struct_rule-requires : goal.entry-struct_rule-requires
 entry-struct_rule-requires t c =
-    (omega (arith, c.decreases), record { room = (room_kept c.name_field.ensures.kept c.requires.room.0, field_ready _ c.requires.room.1 c.look-x.ensures.1 c.if-name_field.true c.name_field.ensures); tabled = tabled_over c.requires.room.0 c.name_field.ensures.kept c.requires.tabled })
+    (omega (arith, c.decreases), ((room_kept c.name_field.ensures.kept c.requires.room.0, field_ready _ c.requires.room.1 c.look-x.ensures.1 c.if-name_field.true c.name_field.ensures), tabled_over c.requires.room.0 c.name_field.ensures.kept c.requires.tabled))
 
 pub entry-returns-then-name_field : goal.entry-returns-then-name_field
 entry-returns-then-name_field t c =
@@ -149,7 +140,7 @@ entry-returns t c =
 
 pub list_rule-under-requires : goal.list_rule-under-requires
 list_rule-under-requires t c =
-    (omega (arith, c.decreases), record { room = (c.requires.room, c.list_size-size.ensures.1); tabled = c.requires.tabled })
+    (omega (arith, c.decreases), ((c.requires.room, c.list_size-size.ensures.1), c.requires.tabled))
 
 pub list_rule-returns : goal.list_rule-returns
 list_rule-returns t c =
@@ -165,7 +156,7 @@ list_struct-in_order-requires t c =
 
 pub list_struct-under-requires : goal.list_struct-under-requires
 list_struct-under-requires t c =
-    (omega (arith, c.decreases), record { room = (c.requires.room, omega arith); tabled = c.requires.tabled })
+    (omega (arith, c.decreases), ((c.requires.room, omega arith), c.requires.tabled))
 
 pub list_struct-returns-then-in_order : goal.list_struct-returns-then-in_order
 list_struct-returns-then-in_order t c =
@@ -177,7 +168,7 @@ list_struct-have_same_names-requires t c =
 
 pub list_struct-under-requires-then-have_same_names : goal.list_struct-under-requires-then-have_same_names
 list_struct-under-requires-then-have_same_names t c =
-    (omega (arith, c.decreases), record { room = (c.requires.room, omega arith); tabled = record { partners = c.have_same_names.ensures.table_len_unchanged.1 c.requires.tabled.partners } })
+    (omega (arith, c.decreases), ((c.requires.room, omega arith), record { partners = c.have_same_names.ensures.table_len_unchanged.1 c.requires.tabled.partners }))
 
 pub list_struct-returns-then-have_same_names : goal.list_struct-returns-then-have_same_names
 list_struct-returns-then-have_same_names t c =
@@ -213,7 +204,7 @@ map_rule-overflow_add-at-2 t c =
 
 pub map_rule-entry-requires : goal.map_rule-entry-requires
 map_rule-entry-requires t c =
-    (omega (arith, c.decreases), record { room = (room_kept c.lay.ensures.kept c.requires.room.0, (after_passes _ c.requires.room.1 c.if-space-at.false).0); tabled = tabled_over c.requires.room.0 c.lay.ensures.kept c.requires.tabled })
+    (omega (arith, c.decreases), ((room_kept c.lay.ensures.kept c.requires.room.0, (after_passes _ c.requires.room.1 c.if-space-at.false).0), tabled_over c.requires.room.0 c.lay.ensures.kept c.requires.tabled))
 
 pub map_rule-returns : goal.map_rule-returns
 map_rule-returns t c =
@@ -221,7 +212,7 @@ map_rule-returns t c =
 
 pub nested-list_rule-requires : goal.nested-list_rule-requires
 nested-list_rule-requires t c =
-    (omega (arith, c.decreases), record { room = c.requires.room; tabled = c.requires.tabled })
+    (omega (arith, c.decreases), (c.requires.room, c.requires.tabled))
 
 pub nested-returns-then-both : goal.nested-returns-then-both
 nested-returns-then-both t c =
@@ -229,7 +220,7 @@ nested-returns-then-both t c =
 
 pub nested-list_struct-requires : goal.nested-list_struct-requires
 nested-list_struct-requires t c =
-    (omega (arith, c.decreases), record { room = c.requires.room; l_value = both_are _ _ _ _ _ _ c.kind_at-k.ensures c.kind_at-j.ensures (sym c.both-2.ensures ∙ c.if-both-2.true); tabled = c.requires.tabled })
+    (omega (arith, c.decreases), (c.requires.room, (both_are _ _ _ _ _ _ c.kind_at-k.ensures c.kind_at-j.ensures (sym c.both-2.ensures ∙ c.if-both-2.true), c.requires.tabled)))
 
 pub nested-returns-then-is_list_question : goal.nested-returns-then-is_list_question
 nested-returns-then-is_list_question t c =
@@ -237,7 +228,7 @@ nested-returns-then-is_list_question t c =
 
 pub nested-struct_rule-requires : goal.nested-struct_rule-requires
 nested-struct_rule-requires t c =
-    (omega (arith, c.decreases), record { room = c.requires.room; tabled = c.requires.tabled })
+    (omega (arith, c.decreases), (c.requires.room, c.requires.tabled))
 
 pub nested-returns-then-both-2 : goal.nested-returns-then-both-2
 nested-returns-then-both-2 t c =
@@ -245,7 +236,7 @@ nested-returns-then-both-2 t c =
 
 pub nested-map_rule-requires : goal.nested-map_rule-requires
 nested-map_rule-requires t c =
-    (omega (arith, c.decreases), record { room = c.requires.room; tabled = c.requires.tabled })
+    (omega (arith, c.decreases), (c.requires.room, c.requires.tabled))
 
 pub nested-returns-then-both-3 : goal.nested-returns-then-both-3
 nested-returns-then-both-3 t c =
@@ -261,7 +252,7 @@ nested-returns t c =
 
 pub resolve-resolve_wrapper-requires : goal.resolve-resolve_wrapper-requires
 resolve-resolve_wrapper-requires t c =
-    (omega (arith, c.decreases), record { room = c.requires.room; kind_value = (refl, c.requires.question_value); tabled = c.requires.tabled })
+    (omega (arith, c.decreases), (c.requires.room, ((refl, c.requires.question_value), c.requires.tabled)))
 
 pub resolve-returns-then-either : goal.resolve-returns-then-either
 resolve-returns-then-either t c =
@@ -269,7 +260,7 @@ resolve-returns-then-either t c =
 
 pub resolve-resolve_wrapper-requires-then-either-2 : goal.resolve-resolve_wrapper-requires-then-either-2
 resolve-resolve_wrapper-requires-then-either-2 t c =
-    (omega (arith, c.decreases), record { room = c.requires.room; kind_value = (refl, c.requires.question_value); tabled = c.requires.tabled })
+    (omega (arith, c.decreases), (c.requires.room, ((refl, c.requires.question_value), c.requires.tabled)))
 
 pub resolve-returns-then-either-2 : goal.resolve-returns-then-either-2
 resolve-returns-then-either-2 t c =
@@ -277,7 +268,7 @@ resolve-returns-then-either-2 t c =
 
 pub resolve-nested-requires : goal.resolve-nested-requires
 resolve-nested-requires t c =
-    (omega (arith, c.decreases), record { room = c.requires.room; tabled = c.requires.tabled })
+    (omega (arith, c.decreases), (c.requires.room, c.requires.tabled))
 
 pub resolve-returns : goal.resolve-returns
 resolve-returns t c =
@@ -285,7 +276,7 @@ resolve-returns t c =
 
 pub resolve_wrapper-both_parts-requires : goal.resolve_wrapper-both_parts-requires
 resolve_wrapper-both_parts-requires t c =
-    (omega (arith, c.decreases), record { room = c.requires.room; tabled = c.requires.tabled })
+    (omega (arith, c.decreases), (c.requires.room, c.requires.tabled))
 
 pub resolve_wrapper-returns-then-j-kind : goal.resolve_wrapper-returns-then-j-kind
 resolve_wrapper-returns-then-j-kind t c =
@@ -293,7 +284,7 @@ resolve_wrapper-returns-then-j-kind t c =
 
 pub resolve_wrapper-rewrapped-requires : goal.resolve_wrapper-rewrapped-requires
 resolve_wrapper-rewrapped-requires t c =
-    (omega (arith, c.decreases), record { room = c.requires.room; kind_value = (c.requires.kind_value.0, (sym c.kind_at-k.ensures ∙ c.if-k-kind.true, c.requires.kind_value.1)); tabled = c.requires.tabled })
+    (omega (arith, c.decreases), (c.requires.room, ((c.requires.kind_value.0, (sym c.kind_at-k.ensures ∙ c.if-k-kind.true, c.requires.kind_value.1)), c.requires.tabled)))
 
 pub resolve_wrapper-returns-then-k-kind : goal.resolve_wrapper-returns-then-k-kind
 resolve_wrapper-returns-then-k-kind t c =
@@ -301,7 +292,7 @@ resolve_wrapper-returns-then-k-kind t c =
 
 pub resolve_wrapper-rewrapped-requires-then-j-kind-2 : goal.resolve_wrapper-rewrapped-requires-then-j-kind-2
 resolve_wrapper-rewrapped-requires-then-j-kind-2 t c =
-    (omega (arith, c.decreases), record { room = c.requires.room; kind_value = (c.requires.kind_value.0, (sym c.kind_at-j.ensures ∙ c.if-j-kind-2.true, c.requires.kind_value.1)); tabled = c.requires.tabled })
+    (omega (arith, c.decreases), (c.requires.room, ((c.requires.kind_value.0, (sym c.kind_at-j.ensures ∙ c.if-j-kind-2.true, c.requires.kind_value.1)), c.requires.tabled)))
 
 pub resolve_wrapper-returns-then-j-kind-2 : goal.resolve_wrapper-returns-then-j-kind-2
 resolve_wrapper-returns-then-j-kind-2 t c =
@@ -345,7 +336,7 @@ rows-returns-then-not-name_field t c =
 
 pub rows-common-requires : goal.rows-common-requires
 rows-common-requires t c =
-    (omega (arith, c.decreases), record { room = (room_kept c.name_field.ensures.kept c.requires.room.0, field_ready _ c.requires.room.1 c.look-x.ensures.1 c.if-not-name_field.false c.name_field.ensures); tabled = tabled_over c.requires.room.0 c.name_field.ensures.kept c.requires.tabled })
+    (omega (arith, c.decreases), ((room_kept c.name_field.ensures.kept c.requires.room.0, field_ready _ c.requires.room.1 c.look-x.ensures.1 c.if-not-name_field.false c.name_field.ensures), tabled_over c.requires.room.0 c.name_field.ensures.kept c.requires.tabled))
 
 pub rows-overflow_sub-left : goal.rows-overflow_sub-left
 rows-overflow_sub-left t c =
@@ -357,7 +348,7 @@ struct_rule-struct_feed-feed-requires t c =
 
 pub struct_rule-under-requires : goal.struct_rule-under-requires
 struct_rule-under-requires t c =
-    (omega (arith, c.decreases), record { room = (c.requires.room, omega arith); tabled = c.struct_feed-feed.ensures.tabled_2 })
+    (omega (arith, c.decreases), ((c.requires.room, omega arith), c.struct_feed-feed.ensures.tabled_2))
 
 pub struct_rule-returns-then-both : goal.struct_rule-returns-then-both
 struct_rule-returns-then-both t c =
@@ -377,7 +368,7 @@ under-lay-requires t c =
 
 pub under-rows-requires : goal.under-rows-requires
 under-rows-requires t c =
-    (omega (arith, c.decreases), record { room = (room_kept c.lay.ensures.kept c.requires.room.0.0, (after_passes _ c.requires.room.0.1 c.if-space-at.false).0); tabled = tabled_over c.requires.room.0.0 c.lay.ensures.kept c.requires.tabled })
+    (omega (arith, c.decreases), ((room_kept c.lay.ensures.kept c.requires.room.0.0, (after_passes _ c.requires.room.0.1 c.if-space-at.false).0), tabled_over c.requires.room.0.0 c.lay.ensures.kept c.requires.tabled))
 
 pub under-returns : goal.under-returns
 under-returns t c =
@@ -385,11 +376,11 @@ under-returns t c =
 
 pub unwrap-wrapper-requires : goal.unwrap-wrapper-requires
 unwrap-wrapper-requires t c =
-    (omega (arith, c.decreases), record { room = c.requires.room; tabled = c.requires.tabled })
+    (omega (arith, c.decreases), (c.requires.room, c.requires.tabled))
 
 pub unwrap-nested-requires : goal.unwrap-nested-requires
 unwrap-nested-requires t c =
-    (omega (arith, c.decreases), record { room = (room_kept c.wrapper.ensures.merges_hinted.writes.kept c.requires.room.0, c.requires.room.1); tabled = c.wrapper.ensures.tabled_2 })
+    (omega (arith, c.decreases), ((room_kept c.wrapper.ensures.merges_hinted.writes.kept c.requires.room.0, c.requires.room.1), c.wrapper.ensures.tabled_2))
 
 pub wrapper-returns-then-kind-eq0 : goal.wrapper-returns-then-kind-eq0
 wrapper-returns-then-kind-eq0 t c =
@@ -397,7 +388,7 @@ wrapper-returns-then-kind-eq0 t c =
 
 pub wrapper-common-requires : goal.wrapper-common-requires
 wrapper-common-requires t c =
-    (omega (arith, c.decreases), record { room = c.requires.room; tabled = c.requires.tabled })
+    (omega (arith, c.decreases), (c.requires.room, c.requires.tabled))
 
 pub wrapper-returns-then-j-kind : goal.wrapper-returns-then-j-kind
 wrapper-returns-then-j-kind t c =
@@ -417,7 +408,7 @@ wrapper-returns-then-same_sides t c =
 
 pub wrapper-common-requires-then-k-kind : goal.wrapper-common-requires-then-k-kind
 wrapper-common-requires-then-k-kind t c =
-    (omega (arith, c.decreases), record { room = c.requires.room; tabled = c.requires.tabled })
+    (omega (arith, c.decreases), (c.requires.room, c.requires.tabled))
 
 pub wrapper-returns-then-k-kind : goal.wrapper-returns-then-k-kind
 wrapper-returns-then-k-kind t c =
@@ -437,7 +428,7 @@ wrapper-returns-then-same_sides-2 t c =
 
 pub wrapper-common-requires-then-j-kind-2 : goal.wrapper-common-requires-then-j-kind-2
 wrapper-common-requires-then-j-kind-2 t c =
-    (omega (arith, c.decreases), record { room = c.requires.room; tabled = c.requires.tabled })
+    (omega (arith, c.decreases), (c.requires.room, c.requires.tabled))
 
 pub wrapper-returns-then-j-kind-2 : goal.wrapper-returns-then-j-kind-2
 wrapper-returns-then-j-kind-2 t c =
@@ -446,3 +437,137 @@ wrapper-returns-then-j-kind-2 t c =
 pub wrapper-returns : goal.wrapper-returns
 wrapper-returns t c =
     record { merges_hinted = way_merged (rules_of c.args.question c.args.mask) _ _ _ c.args.swap _ _ _ _ _ c.way-t.ensures _ _ (any_hint _ _ c.args.swap (any_known _ c.args.swap (wrapper_none _ _ _ c.args.swap _ _ _ _ _ c.kind_at-k.ensures c.kind_at-j.ensures (c.way-t.ensures.wrapper c.if-kind-eq0.false) c.if-k-kind.false c.if-j-kind-2.false))); tabled_2 = c.requires.tabled }
+
+pub both_parts-rows-requires : goal.both_parts-rows-requires
+both_parts-rows-requires t c =
+    let h = c.in-Done.ensures in
+    (omega (arith, c.decreases), ((room_kept h.kept c.requires.room.0, h.passes.0), tabled_over c.requires.room.0 h.kept c.requires.tabled))
+
+pub both_parts-returns-in-Done : goal.both_parts-returns-in-Done
+both_parts-returns-in-Done t c =
+    let h = c.in-Done.ensures in
+    record { merges_known = both_on c.args.known _ _ _ _ _ _ _ _ _ c.requires.room.0 _ _ c.look-x.ensures.0 c.look-y.ensures.0 _ _ _ _ h c.rows.ensures.rowed; tabled_2 = c.rows.ensures.tabled_2 }
+
+pub both_parts-returns-in-No : goal.both_parts-returns-in-No
+both_parts-returns-in-No t c =
+    absurd c.in-No.ensures.means
+
+pub both_parts-returns-in-Full : goal.both_parts-returns-in-Full
+both_parts-returns-in-Full t c =
+    record { merges_known = any_known _ c.args.swap (head_crowded _ _ _ _ _ _ _ _ _ _ c.look-x.ensures.0 _ c.in-Full.ensures); tabled_2 = tabled_over c.requires.room.0 c.in-Full.ensures.kept c.requires.tabled }
+
+pub rewrapped-copy_index-requires : goal.rewrapped-copy_index-requires
+rewrapped-copy_index-requires t c =
+    let cp = c.in-Done.ensures in
+    (room_kept cp.kept c.requires.room.0, cp.passes.0)
+
+pub rewrapped-coerce_field-requires : goal.rewrapped-coerce_field-requires
+rewrapped-coerce_field-requires t c =
+    let cp = c.in-Done.ensures in
+    let cf = c.in-Done-copy_index.ensures in
+    (omega (arith, c.decreases), ((room_kept cf.kept (room_kept cp.kept c.requires.room.0), cf.grows.0), (c.requires.kind_value.1.1, tabled_over c.requires.room.0 cf.kept (tabled_over c.requires.room.0 cp.kept c.requires.tabled))))
+
+pub rewrapped-tie-requires : goal.rewrapped-tie-requires
+rewrapped-tie-requires t c =
+    let cp = c.in-Done.ensures in
+    let cf = c.in-Done-copy_index.ensures in
+    let mf = c.in-Done-coerce_field.ensures.merges_field in
+    ((room_kept mf.kept (room_kept cf.kept (room_kept cp.kept c.requires.room.0))), (omega (arith, cf.further, cf.grows.0.records), omega (arith, cf.grows.0.records, c.requires.room.0.few)))
+
+pub rewrapped-keep_wrapper-requires : goal.rewrapped-keep_wrapper-requires
+rewrapped-keep_wrapper-requires t c =
+    let cp = c.in-Done.ensures in
+    let cf = c.in-Done-copy_index.ensures in
+    let mf = c.in-Done-coerce_field.ensures.merges_field in
+    (room_kept (tied_kept _ _ _ _ _ c.tie.ensures 0 (omega (arith, cf.further, cf.grows.0.records))) (room_kept mf.kept (room_kept cf.kept (room_kept cp.kept c.requires.room.0))), c.requires.room.1)
+
+pub rewrapped-returns-in-Done-coerce_field : goal.rewrapped-returns-in-Done-coerce_field
+rewrapped-returns-in-Done-coerce_field t c =
+    let cp = c.in-Done.ensures in
+    let cf = c.in-Done-copy_index.ensures in
+    let mf = c.in-Done-coerce_field.ensures.merges_field in
+    record { merges = wrapper-on _ _ _ _ _ _ _ _ _ _ c.requires.room.0 c.requires.kind_value.0 _ c.look-x.ensures.0 c.requires.kind_value.1.0 _ c.look-second.ensures.0 _ _ cp _ _ cf _ _ mf _ c.tie.ensures _ _ c.keep_wrapper.ensures; tabled_2 = viewed_tabled c.requires.room.0 c.keep_wrapper.ensures (tabled_over c.requires.room.0 (tied_kept _ _ _ _ _ c.tie.ensures 0 (omega (arith, cf.further, cf.grows.0.records))) c.coerce_field.ensures.tabled_2) }
+
+pub rewrapped-returns-in-No-coerce_field : goal.rewrapped-returns-in-No-coerce_field
+rewrapped-returns-in-No-coerce_field t c =
+    let cp = c.in-Done.ensures in
+    let cf = c.in-Done-copy_index.ensures in
+    record { merges = value_none _ _ _ _ _ _ _ _ _ _ c.requires.room.0 c.requires.kind_value.0 _ c.look-x.ensures.0 c.requires.kind_value.1.0 _ c.look-second.ensures.0 _ _ cp _ _ cf _ c.in-No-coerce_field.ensures.merges_field; tabled_2 = c.coerce_field.ensures.tabled_2 }
+
+pub rewrapped-returns-in-Full-coerce_field : goal.rewrapped-returns-in-Full-coerce_field
+rewrapped-returns-in-Full-coerce_field t c =
+    let cp = c.in-Done.ensures in
+    let cf = c.in-Done-copy_index.ensures in
+    record { merges = value-full _ _ _ _ _ _ _ _ _ _ c.requires.room.0 c.requires.kind_value.0 _ c.look-x.ensures.0 c.requires.kind_value.1.0 _ c.look-second.ensures.0 _ _ cp _ _ cf _ c.in-Full-coerce_field.ensures.merges_field; tabled_2 = c.coerce_field.ensures.tabled_2 }
+
+pub rewrapped-returns-in-No-copy_index : goal.rewrapped-returns-in-No-copy_index
+rewrapped-returns-in-No-copy_index t c =
+    let cp = c.in-Done.ensures in
+    record { merges = index_none _ _ _ _ _ _ _ _ _ _ c.requires.room.0 c.requires.kind_value.0 _ c.look-x.ensures.0 c.requires.kind_value.1.0 _ c.look-second.ensures.0 _ _ cp _ c.in-No-copy_index.ensures; tabled_2 = tabled_over c.requires.room.0 c.in-No-copy_index.ensures.kept (tabled_over c.requires.room.0 cp.kept c.requires.tabled) }
+
+pub rewrapped-returns-in-Full-copy_index : goal.rewrapped-returns-in-Full-copy_index
+rewrapped-returns-in-Full-copy_index t c =
+    let cp = c.in-Done.ensures in
+    record { merges = index_full _ _ _ _ _ _ _ _ _ _ c.requires.room.0 c.requires.kind_value.0 _ c.look-x.ensures.0 c.requires.kind_value.1.0 _ c.look-second.ensures.0 _ _ cp _ c.in-Full-copy_index.ensures; tabled_2 = tabled_over c.requires.room.0 c.in-Full-copy_index.ensures.kept (tabled_over c.requires.room.0 cp.kept c.requires.tabled) }
+
+pub rewrapped-returns-in-No : goal.rewrapped-returns-in-No
+rewrapped-returns-in-No t c =
+    absurd c.in-No.ensures.means
+
+pub rewrapped-returns-in-Full : goal.rewrapped-returns-in-Full
+rewrapped-returns-in-Full t c =
+    record { merges = head_crowded _ _ _ _ _ _ _ _ _ _ c.look-x.ensures.0 _ c.in-Full.ensures; tabled_2 = tabled_over c.requires.room.0 c.in-Full.ensures.kept c.requires.tabled }
+
+pub rows-rows-requires : goal.rows-rows-requires
+rows-rows-requires t c =
+    let done = none_hint c.args.swap c.in-Done.ensures.merges_hinted in
+    (omega (arith, c.decreases, c.if-left-eq0.false), ((room_kept done.writes.kept (room_kept c.name_field.ensures.kept c.requires.room.0), done.writes.passes.0), c.common.ensures.tabled_2))
+
+pub rows-tie-requires : goal.rows-tie-requires
+rows-tie-requires t c =
+    let done = none_hint c.args.swap c.in-Done.ensures.merges_hinted in
+    let more = c.in-Done-rows.ensures.rowed in
+    let room = room_kept more.kept (room_kept done.writes.kept (room_kept c.name_field.ensures.kept c.requires.room.0)) in
+    (room, (omega (arith, done.writes.passes.1.0, done.writes.passes.0.records), omega (arith, c.next_link.ensures.1, done.writes.passes.0.records, room.few)))
+
+pub rows-returns-in-Done-rows : goal.rows-returns-in-Done-rows
+rows-returns-in-Done-rows t c =
+    let done = none_hint c.args.swap c.in-Done.ensures.merges_hinted in
+    let more = c.in-Done-rows.ensures.rowed in
+    record { rowed = rows-done c.args.known _ _ c.args.space c.args.left c.args.swap _ _ c.args.feed _ _ _ _ c.requires.room.0 c.requires.room.1 _ c.look-x.ensures.0 c.if-l-eq0.false _ (c.row-row.ensures c.requires.tabled.partners) c.if-partner-eq0.false _ _ c.name_field.ensures _ c.row_known-own.ensures c.if-not-name_field.false _ _ done _ _ _ _ more c.next_link.ensures.0 c.tie.ensures; tabled_2 = tabled_over c.requires.room.0 (tied_kept _ _ _ _ _ c.tie.ensures 0 (omega (arith, done.writes.passes.1.0, done.writes.passes.0.records))) c.rows.ensures.tabled_2 }
+
+pub rows-returns-in-No-rows : goal.rows-returns-in-No-rows
+rows-returns-in-No-rows t c =
+    let done = none_hint c.args.swap c.in-Done.ensures.merges_hinted in
+    let more = c.in-No-rows.ensures.rowed in
+    record { rowed = rows-rest-none c.args.known _ _ c.args.space c.args.left c.args.swap _ _ c.args.feed _ _ _ _ c.requires.room.0 c.requires.room.1 _ c.look-x.ensures.0 c.if-l-eq0.false _ (c.row-row.ensures c.requires.tabled.partners) c.if-partner-eq0.false _ _ c.name_field.ensures _ c.row_known-own.ensures c.if-not-name_field.false _ _ done _ more; tabled_2 = c.rows.ensures.tabled_2 }
+
+pub rows-returns-in-Full-rows : goal.rows-returns-in-Full-rows
+rows-returns-in-Full-rows t c =
+    let done = none_hint c.args.swap c.in-Done.ensures.merges_hinted in
+    let more = c.in-Full-rows.ensures.rowed in
+    record { rowed = rows-rest-full c.args.known _ _ c.args.space c.args.left c.args.swap _ _ c.args.feed _ _ _ _ c.requires.room.0 c.requires.room.1 _ c.look-x.ensures.0 c.if-l-eq0.false _ (c.row-row.ensures c.requires.tabled.partners) c.if-partner-eq0.false _ _ c.name_field.ensures _ c.row_known-own.ensures c.if-not-name_field.false _ _ done _ more; tabled_2 = c.rows.ensures.tabled_2 }
+
+pub rows-returns-in-No : goal.rows-returns-in-No
+rows-returns-in-No t c =
+    let one = none_hint c.args.swap c.in-No.ensures.merges_hinted in
+    record { rowed = rows_none c.args.known _ _ c.args.space c.args.left c.args.swap _ _ c.args.feed _ _ _ _ c.requires.room.0 c.requires.room.1 _ c.look-x.ensures.0 c.if-l-eq0.false _ (c.row-row.ensures c.requires.tabled.partners) c.if-partner-eq0.false _ _ c.name_field.ensures _ c.row_known-own.ensures c.if-not-name_field.false _ one; tabled_2 = c.common.ensures.tabled_2 }
+
+pub rows-returns-in-Full : goal.rows-returns-in-Full
+rows-returns-in-Full t c =
+    let one = none_hint c.args.swap c.in-Full.ensures.merges_hinted in
+    record { rowed = rows_full c.args.known _ _ c.args.space c.args.left c.args.swap _ _ c.args.feed _ _ _ _ c.requires.room.0 c.requires.room.1 _ c.look-x.ensures.0 c.if-l-eq0.false _ (c.row-row.ensures c.requires.tabled.partners) c.if-partner-eq0.false _ _ c.name_field.ensures _ c.row_known-own.ensures c.if-not-name_field.false _ one; tabled_2 = c.common.ensures.tabled_2 }
+
+pub unwrap-returns-in-Done : goal.unwrap-returns-in-Done
+unwrap-returns-in-Done t c =
+    record { merges_hinted = unwrap_done c.args.known _ _ c.requires.question_value _ _ c.args.swap _ _ _ _ _ _ _ c.in-Done.ensures.merges_hinted; tabled_2 = c.wrapper.ensures.tabled_2 }
+
+pub unwrap-returns-in-No : goal.unwrap-returns-in-No
+unwrap-returns-in-No t c =
+    record { merges_hinted = unwrap_nested c.args.known _ _ c.requires.question_value _ _ c.args.swap _ _ _ _ _ _ c.requires.room.0 _ _ c.in-No.ensures.merges_hinted c.nested.ensures.merges_known; tabled_2 = c.nested.ensures.tabled_2 }
+
+pub unwrap-returns-in-Full : goal.unwrap-returns-in-Full
+unwrap-returns-in-Full t c =
+    record { merges_hinted = unwrap_full c.args.known _ _ c.requires.question_value _ _ c.args.swap _ _ _ _ _ _ c.in-Full.ensures.merges_hinted; tabled_2 = c.wrapper.ensures.tabled_2 }
+
+
