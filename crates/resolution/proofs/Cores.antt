@@ -169,7 +169,7 @@ module _ (rules : Rules) (space : Space) {s w : List ℕ} {link : ℕ} {d : Spot
     core_stepped {v} {u} {at} {label} {nullable} o p q z a m =
         record {
           within = shifted_within room a m.writes.kept;
-          inside = enclosed space _ o m.writes.passes;
+          inside = enclosed space (record { at = at; label = label; nlen = h.nlen; nullable = nullable }) o m.writes.passes;
           means = means;
         }
       where

@@ -17,7 +17,7 @@ use Rattle.resolution.proofs.fold.fold_first.Goals as goal
 
 pub loop-last-init : goal.loop-last-init
 loop-last-init c =
-    (c.requires.0, (refl, ((λ v o g. g), c.requires.1)))
+    (c.requires.room, (refl, ((λ v o g. g), c.requires.compared)))
 
 pub returns-then-space-link : goal.returns-then-space-link
 returns-then-space-link c =
@@ -25,7 +25,7 @@ returns-then-space-link c =
 
 pub meet-requires : goal.meet-requires
 meet-requires c =
-    (c.loop-last.invariant.0, c.loop-last.invariant.1.1.1)
+    record { room = c.loop-last.invariant.0; compared = c.loop-last.invariant.1.1.1 }
 
 pub loop-last-smaller : goal.loop-last-smaller
 loop-last-smaller c =
@@ -42,3 +42,21 @@ copy_field-requires c =
 pub returns : goal.returns
 returns c =
     c.loop-last.invariant.1.1.0 _ _ (folds_alone (rules_of Question.List _) _ _ c.loop-last.invariant.0.0 c.loop-last-test.false c.copy_field.ensures)
+
+pub fold_from-requires : goal.fold_from-requires
+fold_from-requires c =
+    let m = c.in-Done.ensures in
+    (room_within m.within c.loop-last.invariant.0.0, (m.inside, c.loop-last.invariant.0.1))
+
+pub returns-in-Done : goal.returns-in-Done
+returns-in-Done c =
+    let m = c.in-Done.ensures in
+    c.loop-last.invariant.1.1.0 _ _ (folds-on (rules_of Question.List _) _ _ c.loop-last-test.true _ c.head_at-h.ensures.0 c.if-h-ne1.true entry_right _ (steps_as entry_typed m) c.fold_from.ensures)
+
+pub returns-in-No : goal.returns-in-No
+returns-in-No c =
+    c.loop-last.invariant.1.1.0 _ _ (folds-no (rules_of Question.List _) _ _ c.loop-last-test.true _ c.head_at-h.ensures.0 c.if-h-ne1.true (steps_as entry_typed c.in-No.ensures))
+
+pub returns-in-Full : goal.returns-in-Full
+returns-in-Full c =
+    c.loop-last.invariant.1.1.0 _ _ (folds-full (rules_of Question.List _) _ _ c.loop-last-test.true _ c.head_at-h.ensures.0 c.if-h-ne1.true (steps_as entry_typed c.in-Full.ensures))

@@ -1,3 +1,4 @@
+use Rattle.resolution.proofs.Listing.{unnot}
 use native.Mathlib.Omega.{arith}
 use mathlib.Core.Path.{◌≡◌, refl, ◌∙◌}
 use mathlib.Core.List.{List}
@@ -9,7 +10,6 @@ use Rattle.buffers.specs.Region.{Room, region, Inside}
 use Rattle.buffers.specs.Plain.{rules_of}
 use Rattle.buffers.specs.declared.Question.TheVariants as Question
 use Rattle.values.specs.Keeps.{CoreIf}
-use Rattle.resolution.proofs.Listing.{unnot}
 use Rattle.resolution.proofs.Shifting.{core_second, on_candidate}
 use Rattle.resolution.proofs.Folding.{FoldsOn, candidate_right, room_within, folds_end, folds_lost, folds_null, folds_kept, folds-on, folds-no, folds-full}
 use Rattle.resolution.proofs.fold.fold_from.Goals as goal
@@ -36,7 +36,7 @@ slice_bounds-keeps-count c =
 
 pub step_list-requires : goal.step_list-requires
 step_list-requires c =
-    (c.loop-last.invariant.0, core_second c.args.space c.loop-last.work c.core_of-core.ensures c.loop-last.invariant.1.1.1)
+    record { room = c.loop-last.invariant.0; core_at = core_second c.args.space c.loop-last.work c.core_of-core.ensures c.loop-last.invariant.1.1.1 }
 
 pub shape_of-work-in-No : goal.shape_of-work-in-No
 shape_of-work-in-No c =
@@ -61,7 +61,7 @@ loop-last-preserved-else-not-keeps c =
   (
     c.loop-last.invariant.1.0,
     (
-      (λ v o g. c.loop-last.invariant.1.1.0 v o (folds_kept (rules_of Question.List _) _ _ c.loop-last-test.true _ c.head_at-h.ensures.0 o c.if-h-ne1.true (on_candidate c.args.space c.loop-last.work c.loop-last.invariant.0.0 c.loop-last.invariant.0.1.0 (core_second c.args.space c.loop-last.work c.core_of-core.ensures c.loop-last.invariant.1.1.1) (c.keeps.ensures (unnot _ c.if-not-keeps.false))) g)),
+      (λ v o g. c.loop-last.invariant.1.1.0 v o (folds_kept (rules_of Question.List _) _ _ c.loop-last-test.true _ c.head_at-h.ensures.0 o c.if-h-ne1.true (on_candidate c.args.space c.loop-last.work c.loop-last.invariant.0.0 c.loop-last.invariant.0.1.0 (core_second c.args.space c.loop-last.work c.core_of-core.ensures c.loop-last.invariant.1.1.1) (c.keeps.ensures c.if-not-keeps.false)) g)),
       (λ n. core_second c.args.space c.loop-last.work c.core_of-core.ensures c.loop-last.invariant.1.1.1),
     ),
   ),
@@ -88,3 +88,24 @@ shape_of-work c =
 pub returns : goal.returns
 returns c =
     c.loop-last.invariant.1.1.0 _ _ (folds_end (rules_of Question.List _) _ c.loop-last-test.false)
+
+pub returns-in-No : goal.returns-in-No
+returns-in-No c =
+    c.loop-last.invariant.1.1.0 _ _ (folds-no (rules_of Question.List _) _ _ c.loop-last-test.true _ c.head_at-h.ensures.0 c.if-h-ne1.true c.in-No.ensures)
+
+pub returns-in-Full : goal.returns-in-Full
+returns-in-Full c =
+    c.loop-last.invariant.1.1.0 _ _ (folds-full (rules_of Question.List _) _ _ c.loop-last-test.true _ c.head_at-h.ensures.0 c.if-h-ne1.true c.in-Full.ensures)
+
+pub loop-last-preserved-in-Done : goal.loop-last-preserved-in-Done
+loop-last-preserved-in-Done c =
+    let m = c.in-Done.ensures in (
+      (room_within m.within c.loop-last.invariant.0.0, (m.inside, c.loop-last.invariant.0.1.1)),
+      (
+        m.within.long ∙ c.loop-last.invariant.1.0,
+        (
+          (λ v o g. c.loop-last.invariant.1.1.0 v o (folds-on (rules_of Question.List _) _ _ c.loop-last-test.true _ c.head_at-h.ensures.0 c.if-h-ne1.true candidate_right o m g)),
+          λ n. absurd (n refl),
+        ),
+      ),
+    )

@@ -9,7 +9,6 @@ use Rattle.buffers.specs.Region.{Room, region, Inside}
 use Rattle.buffers.specs.Plain.{rules_of}
 use Rattle.buffers.specs.declared.Question.TheVariants as Question
 use Rattle.values.specs.Keeps.{CoreIf}
-use Rattle.resolution.proofs.Listing.{unnot}
 use Rattle.resolution.proofs.Shifting.{core_second, on_candidate}
 use Rattle.resolution.proofs.Folding.{FoldsOn, candidate_right, room_within, folds_end, folds_lost, folds_null, folds_kept, folds-on, folds-no, folds-full}
 use Rattle.resolution.proofs.fold.fold_from.Given as goal

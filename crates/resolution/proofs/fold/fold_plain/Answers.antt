@@ -1,3 +1,4 @@
+use Rattle.resolution.proofs.Listing.{unnot}
 use native.Mathlib.Omega.{arith}
 use borrow.Author.Rules.{rules}
 use mathlib.Core.Path.{◌≡◌, refl, sym, ◌∙◌}
@@ -11,7 +12,6 @@ use Rattle.buffers.specs.declared.Out.{Out}
 use Rattle.buffers.specs.declared.Question.TheVariants as Question
 use Rattle.resolution.specs.Reached.{Folds}
 use Rattle.values.specs.Value.{Valued}
-use Rattle.resolution.proofs.Listing.{unnot}
 use Rattle.resolution.proofs.Folding.{folds_lost}
 use Rattle.values.proofs.Valuing.{leaf_low}
 use Rattle.values.proofs.Taking.{Absorbs, absorbs_none, absorbs_next}
@@ -40,7 +40,7 @@ leaf_of-x-requires c =
 
 pub is_taken-requires : goal.is_taken-requires
 is_taken-requires c =
-    leaf_low c.head_at-h.result (sym c.is_plain.ensures ∙ unnot _ c.if-not-is_plain.false) c.leaf_of-x.ensures.0
+    leaf_low c.head_at-h.result (sym c.is_plain.ensures ∙ c.if-not-is_plain.false) c.leaf_of-x.ensures.0
 
 pub common_type-requires : goal.common_type-requires
 common_type-requires c =
@@ -48,7 +48,7 @@ common_type-requires c =
 
 pub taken_kinds-kinds-requires : goal.taken_kinds-kinds-requires
 taken_kinds-kinds-requires c =
-    leaf_low c.head_at-h.result (sym c.is_plain.ensures ∙ unnot _ c.if-not-is_plain.false) c.leaf_of-x.ensures.0
+    leaf_low c.head_at-h.result (sym c.is_plain.ensures ∙ c.if-not-is_plain.false) c.leaf_of-x.ensures.0
 
 pub loop-last-smaller-in-Of : goal.loop-last-smaller-in-Of
 loop-last-smaller-in-Of c =
@@ -60,8 +60,8 @@ loop-last-smaller c =
 
 pub loop-last-preserved : goal.loop-last-preserved
 loop-last-preserved c =
-    let p = sym c.is_plain.ensures ∙ unnot _ c.if-not-is_plain.false in
-    (c.loop-last.invariant.0, (c.loop-last.invariant.1.0, (c.loop-last.invariant.1.1.0, λ v o g. c.loop-last.invariant.1.1.1 v o (folds_taken (rules_of Question.List _) c.loop-last-test.true _ c.head_at-h.ensures.0 p c.leaf_of-x.ensures.0 c.loop-last.kinds (sym c.is_taken.ensures ∙ unnot _ c.if-not-is_taken.false) (leaf_low c.head_at-h.result p c.leaf_of-x.ensures.0) c.loop-last.invariant.1.1.0 o g))))
+    let p = sym c.is_plain.ensures ∙ c.if-not-is_plain.false in
+    (c.loop-last.invariant.0, (c.loop-last.invariant.1.0, (c.loop-last.invariant.1.1.0, λ v o g. c.loop-last.invariant.1.1.1 v o (folds_taken (rules_of Question.List _) c.loop-last-test.true _ c.head_at-h.ensures.0 p c.leaf_of-x.ensures.0 c.loop-last.kinds (sym c.is_taken.ensures ∙ c.if-not-is_taken.false) (leaf_low c.head_at-h.result p c.leaf_of-x.ensures.0) c.loop-last.invariant.1.1.0 o g))))
 
 pub fold_written-requires-2 : goal.fold_written-requires-2
 fold_written-requires-2 c =
@@ -70,3 +70,13 @@ fold_written-requires-2 c =
 pub returns : goal.returns
 returns c =
     c.loop-last.invariant.1.1.1 _ _ c.fold_written-2.ensures
+
+pub returns-in-Nothing : goal.returns-in-Nothing
+returns-in-Nothing c =
+    c.loop-last.invariant.1.1.1 _ _ (folds_apart (rules_of Question.List _) c.loop-last-test.true _ c.head_at-h.ensures.0 (not_null c.loop-last.kinds c.head_at-h.result c.leaf_of-x.ensures.0 (sym c.is_taken.ensures ∙ unnot _ c.if-not-is_taken.true)) (sym c.is_plain.ensures ∙ unnot _ c.if-not-is_plain.false) c.leaf_of-x.ensures.0 c.in-Nothing.ensures)
+
+pub loop-last-preserved-in-Of : goal.loop-last-preserved-in-Of
+loop-last-preserved-in-Of c =
+    let j = c.in-Of.ensures in
+    let p = sym c.is_plain.ensures ∙ unnot _ c.if-not-is_plain.false in
+    ((c.loop-last.invariant.0.0, (c.loop-last.invariant.0.1.0, j.holdable)), (c.loop-last.invariant.1.0, (absorbs_next (rules_of Question.List _) c.loop-last.kinds c.leaf_of-x.result c.loop-last.candidate _ (leaf_low c.head_at-h.result p c.leaf_of-x.ensures.0) c.loop-last.invariant.1.1.0 j c.taken_kinds-kinds.ensures, λ v o g. c.loop-last.invariant.1.1.1 v o (folds_joined (rules_of Question.List _) c.loop-last-test.true _ c.head_at-h.ensures.0 (not_null c.loop-last.kinds c.head_at-h.result c.leaf_of-x.ensures.0 (sym c.is_taken.ensures ∙ unnot _ c.if-not-is_taken.true)) p c.leaf_of-x.ensures.0 o j g))))

@@ -11,7 +11,6 @@ use Rattle.buffers.specs.declared.Out.{Out}
 use Rattle.buffers.specs.declared.Question.TheVariants as Question
 use Rattle.resolution.specs.Reached.{Folds}
 use Rattle.values.specs.Value.{Valued}
-use Rattle.resolution.proofs.Listing.{unnot}
 use Rattle.resolution.proofs.Folding.{folds_lost}
 use Rattle.values.proofs.Valuing.{leaf_low}
 use Rattle.values.proofs.Taking.{Absorbs, absorbs_none, absorbs_next}

@@ -23,7 +23,7 @@ returns-then-space-at c =
 
 pub fold_entry-requires : goal.fold_entry-requires
 fold_entry-requires c =
-    (c.loop-last.invariant.0, not_compared)
+    record { room = c.loop-last.invariant.0; compared = not_compared }
 
 pub returns-then-h-ne1 : goal.returns-then-h-ne1
 returns-then-h-ne1 c =

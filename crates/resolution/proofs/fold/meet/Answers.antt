@@ -4,4 +4,4 @@ use Rattle.resolution.proofs.fold.meet.Goals as goal
 
 pub returns : goal.returns
 returns c =
-    met _ _ c.requires.0.0 c.requires.1 c.mirror.ensures c.coerce.ensures
+    met _ _ c.requires.room.0 c.requires.compared c.mirror.ensures c.coerce.ensures

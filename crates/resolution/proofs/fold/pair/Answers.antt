@@ -33,7 +33,7 @@ returns-then-is_plain-2 c =
 
 pub meet-requires : goal.meet-requires
 meet-requires c =
-    ((c.requires, omega arith), not_compared)
+    record { room = (c.requires, omega arith); compared = not_compared }
 
 pub returns : goal.returns
 returns c =

@@ -4,4 +4,4 @@ use Rattle.resolution.proofs.fold.step.Goals as goal
 
 pub returns : goal.returns
 returns c =
-    stepped _ _ c.requires.0.0 c.requires.0.1.0 c.requires.1 c.shift.ensures c.coerce.ensures
+    stepped _ _ c.requires.room.0 c.requires.room.1.0 c.requires.compared c.shift.ensures c.coerce.ensures

@@ -39,7 +39,7 @@ is_fitting-requires c =
 
 pub fold_behind-requires : goal.fold_behind-requires
 fold_behind-requires c =
-    ((c.loop-last.invariant.0, omega arith), compared c.differ_type-d.ensures)
+    record { room = (c.loop-last.invariant.0, omega arith); compared = compared c.differ_type-d.ensures }
 
 pub returns-then-is_fitting : goal.returns-then-is_fitting
 returns-then-is_fitting c =

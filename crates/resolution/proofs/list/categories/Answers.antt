@@ -2,7 +2,7 @@ use native.Mathlib.Omega.{arith}
 use borrow.Author.Rules.{rules}
 use Prim.Native.Nat.{◌-◌}
 use Rattle.resolution.specs.Reached.{seen_bits}
-use Rattle.resolution.proofs.Listing.{unnot, Onward, tells_past, seen_none, seen_on, seen_here}
+use Rattle.resolution.proofs.Listing.{Onward, tells_past, seen_none, seen_on, seen_here}
 use Rattle.resolution.proofs.list.categories.Goals as goal
 
 pub loop-last-init : goal.loop-last-init
@@ -15,7 +15,7 @@ returns-then-space-at c =
 
 pub returns-then-not-is_supported : goal.returns-then-not-is_supported
 returns-then-not-is_supported c =
-    c.loop-last.invariant _ (seen_here _ _ _ _ c.loop-last-test.true _ c.value_kind-kind.ensures c.is_supported.ensures _ (unnot _ c.if-not-is_supported.true))
+    c.loop-last.invariant _ (seen_here _ _ _ _ c.loop-last-test.true _ c.value_kind-kind.ensures c.is_supported.ensures _ c.if-not-is_supported.true)
 
 pub loop-last-smaller : goal.loop-last-smaller
 loop-last-smaller c =
@@ -23,7 +23,7 @@ loop-last-smaller c =
 
 pub loop-last-preserved : goal.loop-last-preserved
 loop-last-preserved c =
-    λ a g. c.loop-last.invariant a (seen_on _ _ _ _ c.loop-last-test.true _ c.value_kind-kind.ensures c.is_supported.ensures _ _ c.head_at-next.ensures.0 _ c.with_category-bits.ensures (unnot _ c.if-not-is_supported.false) a g)
+    λ a g. c.loop-last.invariant a (seen_on _ _ _ _ c.loop-last-test.true _ c.value_kind-kind.ensures c.is_supported.ensures _ _ c.head_at-next.ensures.0 _ c.with_category-bits.ensures c.if-not-is_supported.false a g)
 
 pub returns : goal.returns
 returns c =

@@ -1,7 +1,7 @@
 use mathlib.Core.Path.{ap₂, sym, ◌∙◌}
 use mathlib.Core.Bool.{◌&&◌}
 use lib.Dec.{leb}
-use borrow.Author.Tests.{not-true, not-false, leb-true, leb-false}
+use borrow.Author.Tests.{leb-true}
 use Rattle.sheet.proofs.Tests.{never, and_fst, and_snd}
 use Rattle.values.proofs.Keeping.{keeps-alone, keeps-under, keeps_zoned}
 use borrow.Author.Rules.{rules}
@@ -9,7 +9,7 @@ use Rattle.values.proofs.keep.keeps.Goals as goal
 
 pub returns-then-not-wrapped : goal.returns-then-not-wrapped
 returns-then-not-wrapped c =
-    λ z at t y a d. keeps-alone c.args.mask _ _ _ c.head_at-x.ensures.0 c.head_at-v.ensures.0 c.head_at-wrapped.ensures.0 at t y a d (sym (c.both.ensures ∙ ap₂ ◌&&◌ c.is_plain.ensures c.is_plain-2.ensures) ∙ c.if-both.true) c.leaf_of-new.ensures.0 c.leaf_of-old.ensures.0 (leb-false 32 _ c.if-not-wrapped.true) (c.is_common.ensures z)
+    λ z at t y a d. keeps-alone c.args.mask _ _ _ c.head_at-x.ensures.0 c.head_at-v.ensures.0 c.head_at-wrapped.ensures.0 at t y a d (sym (c.both.ensures ∙ ap₂ ◌&&◌ c.is_plain.ensures c.is_plain-2.ensures) ∙ c.if-both.true) c.leaf_of-new.ensures.0 c.leaf_of-old.ensures.0 c.if-not-wrapped.true (c.is_common.ensures z)
 
 pub returns-then-v-eq27 : goal.returns-then-v-eq27
 returns-then-v-eq27 c =
@@ -17,7 +17,7 @@ returns-then-v-eq27 c =
 
 pub returns-then-both : goal.returns-then-both
 returns-then-both c =
-    λ z at t y a d. keeps-under c.args.mask _ _ _ c.head_at-x.ensures.0 c.head_at-v.ensures.0 c.head_at-wrapped.ensures.0 at t y a d (sym (c.both.ensures ∙ ap₂ ◌&&◌ c.is_plain.ensures c.is_plain-2.ensures) ∙ c.if-both.true) c.leaf_of-new.ensures.0 c.leaf_of-old.ensures.0 (leb-true 32 _ c.if-not-wrapped.false) c.if-v-eq27.false (c.is_common-then-both.ensures z)
+    λ z at t y a d. keeps-under c.args.mask _ _ _ c.head_at-x.ensures.0 c.head_at-v.ensures.0 c.head_at-wrapped.ensures.0 at t y a d (sym (c.both.ensures ∙ ap₂ ◌&&◌ c.is_plain.ensures c.is_plain-2.ensures) ∙ c.if-both.true) c.leaf_of-new.ensures.0 c.leaf_of-old.ensures.0 c.if-not-wrapped.false c.if-v-eq27.false (c.is_common-then-both.ensures z)
 
 pub returns : goal.returns
 returns c =

@@ -1,0 +1,9 @@
+use Rattle.answers.specs.Code.{call_of}
+use Rattle.answers.proofs.Refusing.{checked_accepted}
+use Rattle.answers.proofs.Calling.{refused_sheet}
+use borrow.Author.Rules.{rules}
+use Rattle.answers.proofs.call.Goals as goal
+
+pub call_accepted-requires : goal.call_accepted-requires
+call_accepted-requires c =
+    checked_accepted _ _ _ c.in-Accepted.ensures
