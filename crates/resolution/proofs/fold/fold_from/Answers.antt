@@ -1,4 +1,3 @@
-use Rattle.resolution.proofs.Listing.{unnot}
 use native.Mathlib.Omega.{arith}
 use mathlib.Core.Path.{◌≡◌, refl, ◌∙◌}
 use mathlib.Core.List.{List}

@@ -1,4 +1,3 @@
-use Rattle.resolution.proofs.Listing.{unnot}
 use native.Mathlib.Omega.{arith}
 use borrow.Author.Rules.{rules}
 use mathlib.Core.Path.{◌≡◌, refl, sym, ◌∙◌}
@@ -73,10 +72,10 @@ returns c =
 
 pub returns-in-Nothing : goal.returns-in-Nothing
 returns-in-Nothing c =
-    c.loop-last.invariant.1.1.1 _ _ (folds_apart (rules_of Question.List _) c.loop-last-test.true _ c.head_at-h.ensures.0 (not_null c.loop-last.kinds c.head_at-h.result c.leaf_of-x.ensures.0 (sym c.is_taken.ensures ∙ unnot _ c.if-not-is_taken.true)) (sym c.is_plain.ensures ∙ unnot _ c.if-not-is_plain.false) c.leaf_of-x.ensures.0 c.in-Nothing.ensures)
+    c.loop-last.invariant.1.1.1 _ _ (folds_apart (rules_of Question.List _) c.loop-last-test.true _ c.head_at-h.ensures.0 (not_null c.loop-last.kinds c.head_at-h.result c.leaf_of-x.ensures.0 (sym c.is_taken.ensures ∙ c.if-not-is_taken.true)) (sym c.is_plain.ensures ∙ c.if-not-is_plain.false) c.leaf_of-x.ensures.0 c.in-Nothing.ensures)
 
 pub loop-last-preserved-in-Of : goal.loop-last-preserved-in-Of
 loop-last-preserved-in-Of c =
     let j = c.in-Of.ensures in
-    let p = sym c.is_plain.ensures ∙ unnot _ c.if-not-is_plain.false in
-    ((c.loop-last.invariant.0.0, (c.loop-last.invariant.0.1.0, j.holdable)), (c.loop-last.invariant.1.0, (absorbs_next (rules_of Question.List _) c.loop-last.kinds c.leaf_of-x.result c.loop-last.candidate _ (leaf_low c.head_at-h.result p c.leaf_of-x.ensures.0) c.loop-last.invariant.1.1.0 j c.taken_kinds-kinds.ensures, λ v o g. c.loop-last.invariant.1.1.1 v o (folds_joined (rules_of Question.List _) c.loop-last-test.true _ c.head_at-h.ensures.0 (not_null c.loop-last.kinds c.head_at-h.result c.leaf_of-x.ensures.0 (sym c.is_taken.ensures ∙ unnot _ c.if-not-is_taken.true)) p c.leaf_of-x.ensures.0 o j g))))
+    let p = sym c.is_plain.ensures ∙ c.if-not-is_plain.false in
+    ((c.loop-last.invariant.0.0, (c.loop-last.invariant.0.1.0, j.holdable)), (c.loop-last.invariant.1.0, (absorbs_next (rules_of Question.List _) c.loop-last.kinds c.leaf_of-x.result c.loop-last.candidate _ (leaf_low c.head_at-h.result p c.leaf_of-x.ensures.0) c.loop-last.invariant.1.1.0 j c.taken_kinds-kinds.ensures, λ v o g. c.loop-last.invariant.1.1.1 v o (folds_joined (rules_of Question.List _) c.loop-last-test.true _ c.head_at-h.ensures.0 (not_null c.loop-last.kinds c.head_at-h.result c.leaf_of-x.ensures.0 (sym c.is_taken.ensures ∙ c.if-not-is_taken.true)) p c.leaf_of-x.ensures.0 o j g))))
