@@ -20,3 +20,7 @@ returns-then-is_short c =
 pub returns : goal.returns
 returns c =
     later-none _ _ _ _ _ (sym c.is_bad_mask.ensures ∙ c.if-is_bad_mask.false) (sym c.is_bad_pair.ensures ∙ c.if-is_bad_pair.false) (ap (λ (k : ℕ). is_short k c.args.output c.args.work) (sym c.requires.half) ∙ sym c.is_short.ensures ∙ c.if-is_short.false)
+
+pub is_short-requires : goal.is_short-requires
+is_short-requires c =
+    measured_low _ c.args.space (λ i. (c.type_inv.sheet i).fits) c.requires

@@ -1,0 +1,19 @@
+use Rattle.answers.specs.Call.{bad_pair}
+use Rattle.answers.proofs.Refusing.{pair_asked}
+use borrow.Author.Rules.{rules}
+use Rattle.answers.proofs.refuse.is_bad_pair.Goals as goal
+
+pub returns-in-List : goal.returns-in-List
+unfolding bad_pair
+returns-in-List c =
+    rw c.in-List.is
+
+pub returns-in-Union : goal.returns-in-Union
+unfolding bad_pair
+returns-in-Union c =
+    rw c.in-Union.is (pair_asked _ c.args.space (λ i. (c.type_inv.sheet i).fits) c.requires c.is_pair.ensures)
+
+pub returns-in-Compare : goal.returns-in-Compare
+unfolding bad_pair
+returns-in-Compare c =
+    rw c.in-Compare.is (pair_asked _ c.args.space (λ i. (c.type_inv.sheet i).fits) c.requires c.is_pair-in-Compare.ensures)
