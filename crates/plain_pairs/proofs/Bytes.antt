@@ -20,9 +20,7 @@ use Rattle.coercion.specs.Answers.{of_kind_type}
 use Rattle.coercion.specs.Meaning.{side_of, moment_of}
 use Rattle.coercion.specs.declared.Figures.{Figures}
 use Rattle.coercion.specs.declared.Side.{Side}
-use Rattle.coercion.specs.declared.Side.TheVariants as Side
 use Rattle.coercion.specs.declared.Moment.{Moment}
-use Rattle.coercion.specs.declared.Moment.TheVariants as Moment
 use Rattle.coercion.proofs.Maybe.{If, cond_is}
 use Rattle.plain_pairs.specs.Plain.{same_plain, first_of, timestamp_in, of_figures, of_kind, of_side, of_moment}
 use Rattle.plain_pairs.specs.Typed.{is_plain, zone_in, type_in, zone_byte, plain_of}

@@ -3,9 +3,7 @@ use Rattle.std.specs.Prelude.{ℕ, Bool, cond, ◌&&◌, eqb}
 use Rattle.std.proofs.Math.Option.{Option, none, some}
 use Rattle.coercion.specs.declared.Figures.{Figures}
 use Rattle.coercion.specs.declared.Side.{Side}
-use Rattle.coercion.specs.declared.Side.TheVariants as Side
 use Rattle.coercion.specs.declared.Moment.{Moment}
-use Rattle.coercion.specs.declared.Moment.TheVariants as Moment
 use Rattle.plain_pairs.specs.declared.plain.Plain.{Plain}
 
 -- four zeros are no type

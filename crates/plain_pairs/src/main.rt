@@ -1,17 +1,20 @@
 // Runs every ordered pair of the plain types of data/plain through the plain rules and compares the answers with the stored ones.
 //
 // The file: the number of types, in two bytes; the types; and for each left and each right the answers to list, union and compare.
-// A type or an answer is four bytes, and four zeros are none. oracle/README.md says how they were made (`plain`).
+// A type or an answer is four bytes, and four zeros are none. oracle/README.md says how they were made (`plain`). A read or a write
+// that fails ends the program with its error.
 #![tactic(auto)]
 
 pub mod pairs;
 pub mod plain;
 pub mod questions;
 
-ghost use Rattle.std.specs.Prelude.{◌≡◌, ◌+◌, ◌*◌, ◌^◌, ◌<◌, ◌≤◌, length};
+ghost use Rattle.std.specs.Prelude.{◌≡◌, ◌+◌, ◌*◌, ◌^◌, ◌<◌, ◌≤◌, min, length, take, drop, ◌++◌, IsTrue, ◌↔◌};
 
 use crate::plain::{Plain, nothing, same};
-use libc::STDOUT_FILENO;
+use anyhow::Context;
+use std::io::Read;
+use std::{fs, io};
 
 // The answers that were compared, how many differ, and the first that does; and whether the file is too short or too long.
 #[derive(Clone, Copy)]
@@ -93,12 +96,21 @@ fn compared(wanted: &[u8], l: Plain, r: Plain, t: Tally) -> Tally
     counted(b, l, r, questions::COMPARE, plain_at(wanted, 8))
 }
 
-fn run_pair(fd: i32, l: Plain, r: Plain, t: Tally) -> Tally
+// Moves the next of the stored bytes to the front of `place`, as many as there are and as it has room for, and tells how many.
+fn read_full(stored: &mut &[u8], place: &mut [u8]) -> usize
+    ensures count { result ≡ min (length stored.old.now) (length place.old) }
+    ensures copied { place.new ≡ take result stored.old.now ++ drop result place.old }
+    ensures rest { stored.new.now ≡ drop result stored.old.now }
+{
+    stored.read(place).unwrap()
+}
+
+fn run_pair(stored: &mut &[u8], l: Plain, r: Plain, t: Tally) -> Tally
     requires { (t.answers < 2 ^ 32) × (t.wrong ≤ t.answers) }
     ensures { (result.answers ≤ t.answers + 3) × (result.wrong ≤ result.answers) }
 {
     let mut wanted = [0u8; 12];
-    if io::read_full(fd, &mut wanted) < 12 {
+    if read_full(stored, &mut wanted) < 12 {
         let mut o = t;
         o.broken = true;
         return o;
@@ -107,7 +119,7 @@ fn run_pair(fd: i32, l: Plain, r: Plain, t: Tally) -> Tally
 }
 
 // Every right of one left.
-fn run_left(fd: i32, types: &[u8], count: usize, l: Plain, t: Tally) -> Tally
+fn run_left(stored: &mut &[u8], types: &[u8], count: usize, l: Plain, t: Tally) -> Tally
     requires count_in_bounds { (count * 4 ≤ length types.now) × (count ≤ 256) }
     requires answers_bound { (t.answers < 2 ^ 31) × (t.wrong ≤ t.answers) }
     ensures { (result.answers ≤ t.answers + 768) × (result.wrong ≤ result.answers) }
@@ -115,43 +127,45 @@ fn run_left(fd: i32, types: &[u8], count: usize, l: Plain, t: Tally) -> Tally
     let mut o = t;
     let mut i = 0;
     while i < count {
-        o = run_pair(fd, l, plain_at(types, i * 4), o);
+        o = run_pair(stored, l, plain_at(types, i * 4), o);
         i += 1;
     }
     o
 }
 
-fn run_types(fd: i32, types: &[u8], count: usize) -> Tally
+fn run_types(stored: &mut &[u8], types: &[u8], count: usize) -> Tally
     requires { (count * 4 ≤ length types.now) × (count ≤ 256) }
     ensures { result.wrong ≤ result.answers }
 {
     let mut o = nothing_run(count == 0);
     let mut i = 0;
     while i < count {
-        o = run_left(fd, types, count, plain_at(types, i * 4), o);
+        o = run_left(stored, types, count, plain_at(types, i * 4), o);
         i += 1;
     }
     o
 }
 
-fn at_end(fd: i32) -> bool {
+fn at_end(stored: &mut &[u8]) -> bool
+    ensures { IsTrue result ↔ (length stored.old.now ≡ 0) }
+{
     let mut one = [0u8; 1];
-    io::read_full(fd, &mut one) == 0
+    read_full(stored, &mut one) == 0
 }
 
 // No type at all where the file is too short for its types.
-fn run_in(fd: i32, types: &mut [u8]) -> Tally
+fn run_in(stored: &mut &[u8], types: &mut [u8]) -> Tally
     requires { length types.old ≤ 1024 }
     ensures { result.wrong ≤ result.answers }
 {
     let length = types.len();
-    if io::read_full(fd, types) < length {
+    if read_full(stored, types) < length {
         return nothing_run(true);
     }
-    run_types(fd, types, length / 4)
+    run_types(stored, types, length / 4)
 }
 
-fn run_some(fd: i32, space: &mut [u8], count: usize) -> Tally
+fn run_some(stored: &mut &[u8], space: &mut [u8], count: usize) -> Tally
     requires { length space.old ≡ 1024 }
     ensures { result.wrong ≤ result.answers }
 {
@@ -159,81 +173,77 @@ fn run_some(fd: i32, space: &mut [u8], count: usize) -> Tally
         return nothing_run(true);
     }
     let length = count * 4;
-    run_in(fd, &mut space[..length])
+    run_in(stored, &mut space[..length])
 }
 
 // There is room for 256 types.
-fn run(fd: i32) -> Tally
+fn run(pairs: &[u8]) -> Tally
     ensures { result.wrong ≤ result.answers }
 {
+    let mut stored = pairs;
     let mut space = [0u8; 1024];
     let mut head = [0u8; 2];
-    io::read_full(fd, &mut head);
-    let mut o = run_some(fd, &mut space, wide(head[0]) + 256 * wide(head[1]));
-    if !at_end(fd) {
+    read_full(&mut stored, &mut head);
+    let mut o = run_some(&mut stored, &mut space, wide(head[0]) + 256 * wide(head[1]));
+    if !at_end(&mut stored) {
         o.broken = true;
     }
     o
 }
 
-fn print(text: &[u8], number: u64) {
-    io::write_all(STDOUT_FILENO, text);
-    io::print_decimal(STDOUT_FILENO, number);
+fn print(rt: &impl Print, text: &str, number: u64) -> io::Result<()> {
+    print!(rt; "{text}{number}")
 }
 
-fn print_plain(name: &[u8], p: Plain) {
-    io::write_all(STDOUT_FILENO, name);
-    print(b" ", p.kind as u64);
-    print(b" ", p.figure as u64);
-    print(b" ", p.scale as u64);
-    print(b" ", p.zone as u64);
+fn print_plain(rt: &impl Print, name: &str, p: Plain) -> io::Result<()> {
+    print!(rt; "{name}")?;
+    print(rt, " ", p.kind as u64)?;
+    print(rt, " ", p.figure as u64)?;
+    print(rt, " ", p.scale as u64)?;
+    print(rt, " ", p.zone as u64)
 }
 
-fn print_question(question: u8) {
+fn print_question(rt: &impl Print, question: u8) -> io::Result<()> {
     if question == questions::LIST {
-        io::write_all(STDOUT_FILENO, b"list");
+        print!(rt; "list")
     } else if question == questions::UNION {
-        io::write_all(STDOUT_FILENO, b"union");
+        print!(rt; "union")
     } else {
-        io::write_all(STDOUT_FILENO, b"compare");
+        print!(rt; "compare")
     }
 }
 
-fn print_first(t: Tally) {
+fn print_first(rt: &impl Print, t: Tally) -> io::Result<()> {
     let left = t.left;
     let right = t.right;
     let wanted = t.wanted;
     let given = t.given;
-    print_question(t.question);
-    print_plain(b" of", left);
-    print_plain(b" and", right);
-    print_plain(b": expected", wanted);
-    print_plain(b", given", given);
-    io::write_all(STDOUT_FILENO, b"\n");
+    print_question(rt, t.question)?;
+    print_plain(rt, " of", left)?;
+    print_plain(rt, " and", right)?;
+    print_plain(rt, ": expected", wanted)?;
+    print_plain(rt, ", given", given)?;
+    println!(rt)
 }
 
-fn summary(t: Tally)
+fn summary(rt: &impl Print, t: Tally) -> io::Result<()>
     requires { t.wrong ≤ t.answers }
 {
-    io::print_decimal(STDOUT_FILENO, t.answers);
-    print(b" answers: ", t.answers - t.wrong);
-    print(b" as expected, ", t.wrong);
-    io::write_all(STDOUT_FILENO, b" not\n");
+    print(rt, "", t.answers)?;
+    print(rt, " answers: ", t.answers - t.wrong)?;
+    print(rt, " as expected, ", t.wrong)?;
+    println!(rt; " not")?;
     if t.wrong > 0 {
-        print_first(t);
+        print_first(rt, t)?;
     }
     if t.broken {
-        io::write_all(STDOUT_FILENO, b"the file has too few bytes or too many\n");
+        println!(rt; "the file has too few bytes or too many")?;
     }
+    Ok(())
 }
 
-fn main() {
-    let fd = os::open_read(b"plain");
-    if fd < 0 {
-        os::fail(b"plain");
-        return;
-    }
-    let t = run(fd);
-    libc::close(fd);
-    summary(t);
+fn main(rt: HostRuntime) -> anyhow::Result<()> {
+    let pairs = fs::read(&rt, "plain").context("plain")?;
+    summary(&rt, run(&pairs))?;
+    Ok(())
 }

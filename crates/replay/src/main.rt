@@ -1,16 +1,19 @@
 // Runs the stored calls of data/calls.bin and compares what they answer, and what they leave in the output and the work space, with what is stored.
 //
-// oracle/vectors/README.md has the form of the file and says how it was made.
+// oracle/vectors/README.md has the form of the file and says how it was made. A read or a write that fails ends the program with
+// its error.
 #![tactic(auto)]
 
 pub mod spaces;
 pub mod stored;
 
-ghost use Rattle.std.specs.Prelude.{◌≡◌, ◌+◌, ◌^◌, ◌<◌, ◌≤◌, length};
+ghost use Rattle.std.specs.Prelude.{◌≡◌, ◌+◌, ◌^◌, ◌<◌, ◌≤◌, min, length, take, drop, ◌++◌, IsTrue, ◌↔◌};
 
 use crate::stored::{Entry, LIST, TYPE, UNION, Vector};
 use answers::Answer;
-use libc::STDOUT_FILENO;
+use anyhow::Context;
+use std::io::Read;
+use std::{fs, io};
 
 // Room for a stored sheet, for its answer and for an output; a work space has twice as much.
 const ROOM: usize = 20000;
@@ -116,35 +119,47 @@ fn run_read(v: Vector, sheet: &[u8], answer: &[u8]) -> Given
     )
 }
 
-fn read(fd: i32, place: &mut [u8]) -> bool {
-    io::read_full(fd, place) == place.len()
+// Moves the next of the stored bytes to the front of `place`, as many as there are and as it has room for, and tells how many.
+fn read_full(calls: &mut &[u8], place: &mut [u8]) -> usize
+    ensures count { result ≡ min (length calls.old.now) (length place.old) }
+    ensures copied { place.new ≡ take result calls.old.now ++ drop result place.old }
+    ensures rest { calls.new.now ≡ drop result calls.old.now }
+{
+    calls.read(place).unwrap()
+}
+
+// Whether there were bytes enough to fill `place`.
+fn read(calls: &mut &[u8], place: &mut [u8]) -> bool
+    ensures { IsTrue result ↔ (length place.old ≤ length calls.old.now) }
+{
+    read_full(calls, place) == place.len()
 }
 
 // Reads the sheet and the answer of a vector and runs it.
-fn run_stored(fd: i32, v: Vector, sheet: &mut [u8], answer: &mut [u8]) -> Turn
+fn run_stored(calls: &mut &[u8], v: Vector, sheet: &mut [u8], answer: &mut [u8]) -> Turn
     requires { (length sheet.old ≤ 20000) × ((v.output ≤ 19936) × (v.work ≤ 39936)) }
 {
-    if !read(fd, sheet) {
+    if !read(calls, sheet) {
         return Turn::Broken;
     }
-    if !read(fd, answer) {
+    if !read(calls, answer) {
         return Turn::Broken;
     }
     Turn::Ran(v, run_read(v, sheet, answer))
 }
 
-fn run_fitting(fd: i32, v: Vector) -> Turn
+fn run_fitting(calls: &mut &[u8], v: Vector) -> Turn
     requires { (v.sheet ≤ 20000) × ((v.answer ≤ 20000) × ((v.output ≤ 19936) × (v.work ≤ 39936))) }
 {
     let mut sheet = [0u8; ROOM];
     let mut answer = [0u8; ROOM];
     let sheet_end = v.sheet;
     let answer_end = v.answer;
-    run_stored(fd, v, &mut sheet[..sheet_end], &mut answer[..answer_end])
+    run_stored(calls, v, &mut sheet[..sheet_end], &mut answer[..answer_end])
 }
 
 // A vector without a question, or that does not fit the room for it, counts as broken.
-fn run_vector(fd: i32, v: Vector) -> Turn {
+fn run_vector(calls: &mut &[u8], v: Vector) -> Turn {
     if !stored::is_question(v.question) {
         return Turn::Broken;
     }
@@ -154,20 +169,20 @@ fn run_vector(fd: i32, v: Vector) -> Turn {
     if v.output > ROOM - GUARD || v.work > 2 * ROOM - GUARD {
         return Turn::Broken;
     }
-    run_fitting(fd, v)
+    run_fitting(calls, v)
 }
 
-fn read_entry(fd: i32) -> Entry {
+fn read_entry(calls: &mut &[u8]) -> Entry {
     let mut head = [0u8; 32];
-    let got = io::read_full(fd, &mut head);
+    let got = read_full(calls, &mut head);
     stored::entry_of(&head, got)
 }
 
-fn turn_of(fd: i32) -> Turn {
-    match read_entry(fd) {
+fn turn_of(calls: &mut &[u8]) -> Turn {
+    match read_entry(calls) {
         Entry::End => Turn::End,
         Entry::Broken => Turn::Broken,
-        Entry::Stored(v) => run_vector(fd, v),
+        Entry::Stored(v) => run_vector(calls, v),
     }
 }
 
@@ -242,14 +257,15 @@ fn after(t: Tally, turn: Turn) -> Tally
     r
 }
 
-// Nothing says that a file ends, so the vectors are counted down from more than are stored.
-fn run(fd: i32) -> Tally
+// The vectors are counted down from more than are stored.
+fn run(stored: &[u8]) -> Tally
     ensures { result.wrong ≤ result.calls }
 {
+    let mut calls = stored;
     let mut t = nothing_run();
     let mut left: u64 = 100000;
     while left > 0 {
-        t = after(t, turn_of(fd));
+        t = after(t, turn_of(&mut calls));
         if t.ended || t.broken {
             return t;
         }
@@ -258,73 +274,67 @@ fn run(fd: i32) -> Tally
     t
 }
 
-fn print(text: &[u8], number: u64) {
-    io::write_all(STDOUT_FILENO, text);
-    io::print_decimal(STDOUT_FILENO, number);
+fn print(rt: &impl Print, text: &str, number: u64) -> io::Result<()> {
+    print!(rt; "{text}{number}")
 }
 
-fn print_question(question: u8) {
+fn print_question(rt: &impl Print, question: u8) -> io::Result<()> {
     if question == LIST {
-        io::write_all(STDOUT_FILENO, b" list");
+        print!(rt; " list")
     } else if question == UNION {
-        io::write_all(STDOUT_FILENO, b" union");
+        print!(rt; " union")
     } else {
-        io::write_all(STDOUT_FILENO, b" compare");
+        print!(rt; " compare")
     }
 }
 
-fn print_answer(text: &[u8], number: u8, length: usize) {
-    print(text, number as u64);
+fn print_answer(rt: &impl Print, text: &str, number: u8, length: usize) -> io::Result<()> {
+    print(rt, text, number as u64)?;
     if number == TYPE {
-        print(b" of length ", length as u64);
+        print(rt, " of length ", length as u64)?;
     }
+    Ok(())
 }
 
-fn print_spaces(g: Given) {
+fn print_spaces(rt: &impl Print, g: Given) -> io::Result<()> {
     if !g.output {
-        io::write_all(STDOUT_FILENO, b", output not as it should be");
+        print!(rt; ", output not as it should be")?;
     }
     if !g.work {
-        io::write_all(STDOUT_FILENO, b", work space not as it should be");
+        print!(rt; ", work space not as it should be")?;
     }
+    Ok(())
 }
 
-fn print_first(t: Tally) {
+fn print_first(rt: &impl Print, t: Tally) -> io::Result<()> {
     let v = t.vector;
     let g = t.given;
-    print(b"first at ", t.first);
-    print_question(v.question);
-    print_answer(b": expected ", v.expected, v.answer);
-    print_answer(b", given ", g.number, g.length);
-    print_spaces(g);
-    io::write_all(STDOUT_FILENO, b"\n");
+    print(rt, "first at ", t.first)?;
+    print_question(rt, v.question)?;
+    print_answer(rt, ": expected ", v.expected, v.answer)?;
+    print_answer(rt, ", given ", g.number, g.length)?;
+    print_spaces(rt, g)?;
+    println!(rt)
 }
 
-fn summary(t: Tally)
+fn summary(rt: &impl Print, t: Tally) -> io::Result<()>
     requires { t.wrong ≤ t.calls }
 {
-    io::print_decimal(STDOUT_FILENO, t.calls);
-    print(b" vectors: ", t.calls - t.wrong);
-    print(b" as expected, ", t.wrong);
-    io::write_all(STDOUT_FILENO, b" not\n");
+    print(rt, "", t.calls)?;
+    print(rt, " vectors: ", t.calls - t.wrong)?;
+    print(rt, " as expected, ", t.wrong)?;
+    println!(rt; " not")?;
     if t.wrong > 0 {
-        print_first(t);
+        print_first(rt, t)?;
     }
     if !t.ended {
-        io::write_all(
-            STDOUT_FILENO,
-            b"the file of vectors was not read to its end\n",
-        );
+        println!(rt; "the file of vectors was not read to its end")?;
     }
+    Ok(())
 }
 
-fn main() {
-    let fd = os::open_read(b"calls.bin");
-    if fd < 0 {
-        os::fail(b"calls.bin");
-        return;
-    }
-    let t = run(fd);
-    libc::close(fd);
-    summary(t);
+fn main(rt: HostRuntime) -> anyhow::Result<()> {
+    let calls = fs::read(&rt, "calls.bin").context("calls.bin")?;
+    summary(&rt, run(&calls))?;
+    Ok(())
 }

@@ -2,12 +2,15 @@
 //
 // An entry is 12 bytes, integers little-endian, and then the sheet: byte 0 the refusal number, 0 for an accepted one,
 // bytes 2-3 n and 4-5 m of an accepted one, bytes 8-11 the sheet's length. vectors/README.md says how they were made.
+// A read or a write that fails ends the program with its error.
 #![tactic(auto)]
 
-ghost use Rattle.std.specs.Prelude.{◌≡◌, ◌+◌, ◌^◌, ◌<◌, ◌≤◌};
+ghost use Rattle.std.specs.Prelude.{◌≡◌, ◌+◌, ◌^◌, ◌<◌, ◌≤◌, min, length, take, drop, ◌++◌};
 
-use libc::STDOUT_FILENO;
+use anyhow::Context;
 use sheet::{Checked, Refusal};
+use std::io::Read;
+use std::{fs, io};
 
 // A refusal number, or 0 with the n and m of an accepted sheet.
 #[derive(Clone, Copy)]
@@ -80,9 +83,18 @@ fn pair(low: u8, high: u8) -> usize
     wide(low) + 256 * wide(high)
 }
 
-fn next_entry(fd: i32) -> Entry {
+// Moves the next of the stored bytes to the front of `place`, as many as there are and as it has room for, and tells how many.
+fn read_full(stored: &mut &[u8], place: &mut [u8]) -> usize
+    ensures count { result ≡ min (length stored.old.now) (length place.old) }
+    ensures copied { place.new ≡ take result stored.old.now ++ drop result place.old }
+    ensures rest { stored.new.now ≡ drop result stored.old.now }
+{
+    stored.read(place).unwrap()
+}
+
+fn next_entry(stored: &mut &[u8]) -> Entry {
     let mut head = [0u8; 12];
-    let got = io::read_full(fd, &mut head);
+    let got = read_full(stored, &mut head);
     if got == 0 {
         return Entry::End;
     }
@@ -99,28 +111,28 @@ fn next_entry(fd: i32) -> Entry {
 }
 
 // Fills `place` with the sheet and has it checked.
-fn run_in(place: &mut [u8], fd: i32, wanted: Verdict) -> Turn {
-    if io::read_full(fd, place) < place.len() {
+fn run_in(place: &mut [u8], stored: &mut &[u8], wanted: Verdict) -> Turn {
+    if read_full(stored, place) < place.len() {
         return Turn::Broken;
     }
     Turn::Ran(wanted, answer(place))
 }
 
 // A sheet that does not fit the space counts as broken.
-fn run_sheet(space: &mut [u8], fd: i32, wanted: Verdict, length: usize) -> Turn {
+fn run_sheet(space: &mut [u8], stored: &mut &[u8], wanted: Verdict, length: usize) -> Turn {
     if length > space.len() {
         return Turn::Broken;
     }
-    run_in(&mut space[..length], fd, wanted)
+    run_in(&mut space[..length], stored, wanted)
 }
 
 // The space holds more than the longest sheet that can be accepted, which has 32,768 bytes.
-fn turn_of(fd: i32) -> Turn {
+fn turn_of(stored: &mut &[u8]) -> Turn {
     let mut space = [0u8; 40000];
-    match next_entry(fd) {
+    match next_entry(stored) {
         Entry::End => Turn::End,
         Entry::Broken => Turn::Broken,
-        Entry::Sheet(wanted, length) => run_sheet(&mut space, fd, wanted, length),
+        Entry::Sheet(wanted, length) => run_sheet(&mut space, stored, wanted, length),
     }
 }
 
@@ -181,14 +193,15 @@ fn after(t: Tally, turn: Turn) -> Tally
     r
 }
 
-// Nothing says that a file ends, so the entries are counted down from more than are stored.
-fn run(fd: i32) -> Tally
+// The entries are counted down from more than are stored.
+fn run(sheets: &[u8]) -> Tally
     ensures { result.wrong ≤ result.sheets }
 {
+    let mut stored = sheets;
     let mut t = nothing_run();
     let mut left: u64 = 100000;
     while left > 0 {
-        t = after(t, turn_of(fd));
+        t = after(t, turn_of(&mut stored));
         if t.ended || t.broken {
             return t;
         }
@@ -197,53 +210,45 @@ fn run(fd: i32) -> Tally
     t
 }
 
-fn print(text: &[u8], number: u64) {
-    io::write_all(STDOUT_FILENO, text);
-    io::print_decimal(STDOUT_FILENO, number);
+fn print(rt: &impl Print, text: &str, number: u64) -> io::Result<()> {
+    print!(rt; "{text}{number}")
 }
 
-fn print_verdict(v: Verdict) {
-    print(b" ", v.number as u64);
-    print(b" with n ", v.n as u64);
-    print(b" and m ", v.m as u64);
+fn print_verdict(rt: &impl Print, v: Verdict) -> io::Result<()> {
+    print(rt, " ", v.number as u64)?;
+    print(rt, " with n ", v.n as u64)?;
+    print(rt, " and m ", v.m as u64)
 }
 
-fn print_first(t: Tally) {
-    print(b"first at ", t.first);
-    io::write_all(STDOUT_FILENO, b": expected");
+fn print_first(rt: &impl Print, t: Tally) -> io::Result<()> {
+    print(rt, "first at ", t.first)?;
+    print!(rt; ": expected")?;
     let wanted = t.wanted;
-    print_verdict(wanted);
-    io::write_all(STDOUT_FILENO, b", given");
+    print_verdict(rt, wanted)?;
+    print!(rt; ", given")?;
     let given = t.given;
-    print_verdict(given);
-    io::write_all(STDOUT_FILENO, b"\n");
+    print_verdict(rt, given)?;
+    println!(rt)
 }
 
-fn summary(t: Tally)
+fn summary(rt: &impl Print, t: Tally) -> io::Result<()>
     requires { t.wrong ≤ t.sheets }
 {
-    io::print_decimal(STDOUT_FILENO, t.sheets);
-    print(b" sheets: ", t.sheets - t.wrong);
-    print(b" as expected, ", t.wrong);
-    io::write_all(STDOUT_FILENO, b" not\n");
+    print(rt, "", t.sheets)?;
+    print(rt, " sheets: ", t.sheets - t.wrong)?;
+    print(rt, " as expected, ", t.wrong)?;
+    println!(rt; " not")?;
     if t.wrong > 0 {
-        print_first(t);
+        print_first(rt, t)?;
     }
     if !t.ended {
-        io::write_all(
-            STDOUT_FILENO,
-            b"the file of sheets was not read to its end\n",
-        );
+        println!(rt; "the file of sheets was not read to its end")?;
     }
+    Ok(())
 }
 
-fn main() {
-    let fd = os::open_read(b"sheets");
-    if fd < 0 {
-        os::fail(b"sheets");
-        return;
-    }
-    let t = run(fd);
-    libc::close(fd);
-    summary(t);
+fn main(rt: HostRuntime) -> anyhow::Result<()> {
+    let sheets = fs::read(&rt, "sheets").context("sheets")?;
+    summary(&rt, run(&sheets))?;
+    Ok(())
 }

@@ -1,15 +1,19 @@
 // Reads a sheet from standard input and prints what each of the three calls answers to it, with every mask bit from 1 to 38 set.
 //
 // A line is the question and then the kind, byte 2, signed scale and number of records of the answer, its header left out; or
-// `none`; or `refused` and the number.
+// `none`; or `refused` and the number. A read or a write that fails ends the program with its error.
 #![tactic(auto)]
 
 ghost use Rattle.std.specs.Prelude.{◌<◌};
 
 use answers::Answer;
-use libc::{STDIN_FILENO, STDOUT_FILENO};
+use std::io;
+use std::io::Read;
 
 const MASK: u64 = 549755813886;
+
+// One byte more than a sheet can have.
+const ROOM: u64 = 32769;
 
 fn wide(b: u8) -> u64
     ensures { result < 256 }
@@ -17,17 +21,16 @@ fn wide(b: u8) -> u64
     b as u64
 }
 
-fn print_number(text: &[u8], number: u64) {
-    io::write_all(STDOUT_FILENO, text);
-    io::print_decimal(STDOUT_FILENO, number);
+fn print_number(rt: &impl Print, text: &str, number: u64) -> io::Result<()> {
+    print!(rt; "{text}{number}")
 }
 
 // A byte of 128 and more stands for a scale below zero.
-fn print_scale(scale: u8) {
+fn print_scale(rt: &impl Print, scale: u8) -> io::Result<()> {
     if scale < 128 {
-        print_number(b" ", scale as u64);
+        print_number(rt, " ", scale as u64)
     } else {
-        print_number(b" -", 256 - wide(scale));
+        print_number(rt, " -", 256 - wide(scale))
     }
 }
 
@@ -41,39 +44,42 @@ fn records(low: u8, high: u8) -> u64 {
 }
 
 // Prints the type of the one-type sheet at the front of an output.
-fn print_type(output: &[u8; 32768]) {
-    print_number(b" ", wide(output[16]));
-    print_number(b" ", wide(output[18]));
-    print_scale(output[19]);
-    print_number(b" ", records(output[0], output[1]));
+fn print_type(rt: &impl Print, output: &[u8; 32768]) -> io::Result<()> {
+    print_number(rt, " ", wide(output[16]))?;
+    print_number(rt, " ", wide(output[18]))?;
+    print_scale(rt, output[19])?;
+    print_number(rt, " ", records(output[0], output[1]))
 }
 
-fn print_answer(question: &[u8], answer: Answer, output: &[u8; 32768]) {
-    io::write_all(STDOUT_FILENO, question);
+fn print_answer(
+    rt: &impl Print,
+    question: &str,
+    answer: Answer,
+    output: &[u8; 32768],
+) -> io::Result<()> {
+    print!(rt; "{question}")?;
     match answer {
-        Answer::Refused(number) => print_number(b" refused ", wide(number)),
-        Answer::Nothing => {
-            io::write_all(STDOUT_FILENO, b" none");
-        }
-        Answer::Type(_) => print_type(output),
+        Answer::Refused(number) => print_number(rt, " refused ", wide(number))?,
+        Answer::Nothing => print!(rt; " none")?,
+        Answer::Type(_) => print_type(rt, output)?,
     }
-    io::write_all(STDOUT_FILENO, b"\n");
+    println!(rt)
 }
 
-fn answer_all(sheet: &[u8]) {
+fn answer_all(rt: &impl Print, sheet: &[u8]) -> io::Result<()> {
     let mut output = [0u8; 32768];
     let mut work = [0u8; 65536];
     let list = answers::type_union_resolution(sheet, MASK, &mut output, &mut work);
-    print_answer(b"list", list, &output);
+    print_answer(rt, "list", list, &output)?;
     let union = answers::type_union_coercion(sheet, MASK, &mut output, &mut work);
-    print_answer(b"union", union, &output);
+    print_answer(rt, "union", union, &output)?;
     let compare = answers::comparison_coercion(sheet, MASK, &mut output, &mut work);
-    print_answer(b"compare", compare, &output);
+    print_answer(rt, "compare", compare, &output)
 }
 
 // No sheet has more than 32,768 bytes (1,024 records and 16,384 label bytes): what has one more is refused as torn.
-fn main() {
-    let mut space = [0u8; 32769];
-    let length = io::read_full(STDIN_FILENO, &mut space);
-    answer_all(&space[..length]);
+fn main(rt: HostRuntime) -> io::Result<()> {
+    let mut sheet = Vec::new(rt.alloc());
+    rt.reader().take(ROOM).read_to_end(&mut sheet)?;
+    answer_all(&rt, &sheet)
 }

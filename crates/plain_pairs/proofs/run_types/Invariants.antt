@@ -1,0 +1,10 @@
+-- `plain_pairs::run_types` is safe and ends. Each left adds at most 768 answers, so no count wraps.
+use Rattle.std.proofs.Common.{◌*◌, ◌-◌, ◌≤◌}
+use Rattle.plain_pairs.proofs.run_types.Given as goal
+
+abbrev pub invariant-loop-i : goal.invariant-loop-i
+invariant-loop-i l =
+    (l.i ≤ l.count) × ((l.o.answers ≤ 768 * l.i) × (l.o.wrong ≤ l.o.answers))
+
+abbrev pub decreases-loop-i : goal.decreases-loop-i
+decreases-loop-i l = l.count - l.i
