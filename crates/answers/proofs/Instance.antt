@@ -11,7 +11,7 @@ use lib.Dec.{ltb}
 use borrow.Author.Tests.{ltb-true}
 use Rattle.sheet.specs.Tests.{all_of, one_of, between}
 use Rattle.sheet.specs.Kind.{is_kind, is_decimal, cap, sized, last_unit, parts_right, names_parts}
-use Rattle.sheet.specs.Types.{end, arity, count, labels}
+use Rattle.sheet.specs.Types.{arity, count, labels}
 use Rattle.sheet.specs.Head.{head_at}
 use Rattle.sheet.specs.Encode.{records, encode}
 use Rattle.sheet.specs.Read.{walk_from, read}

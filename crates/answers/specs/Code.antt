@@ -14,7 +14,6 @@ use Rattle.buffers.specs.declared.Spot.{Spot}
 use Rattle.resolution.specs.Reached.{front}
 use Rattle.answers.specs.Call.{Call, bad_mask, bad_pair, Reply, refused, nothing, written, Outcome, at_front}
 use Rattle.answers.specs.declared.Answer.{Answer}
-use Rattle.answers.specs.declared.Answer.TheVariants as Answer
 
 -- what an answer reports
 abbrev pub reply_of : Answer → Reply

@@ -8,7 +8,7 @@ use lib.ListN.{length, take, drop, length-append, length-take, length-drop}
 use lib.Seq.{drop-drop, get_or-drop}
 use lib.Dec.{eqb}
 use borrow.Author.Tests.{ne_eqb, lt-ltb, le-ltb}
-use Rattle.sheet.specs.Types.{Zone, absent, present, Shape, Fields, end, field, count, zone_bytes, own_labels, labels}
+use Rattle.sheet.specs.Types.{Zone, absent, present, Shape, Fields, end, field, count, zone_bytes, own_labels}
 use Rattle.sheet.specs.Head.{head_at, bytes_of, nullable_in, zoned_in, zone_at, zone_len, labelled}
 use Rattle.sheet.specs.Encode.{link_to, offset, bit, flags_of, quad_of, head_of}
 use Rattle.sheet.specs.Read.{label_at, zone_of}

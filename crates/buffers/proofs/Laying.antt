@@ -2,8 +2,7 @@
 use mathlib.Core.Path.{◌≡◌, ap, sym, subst₂, ◌∙◌}
 use mathlib.Core.Bool.{Bool, false}
 use mathlib.Core.List.{List, [], ◌++◌}
-use mathlib.Core.Logic.{◌⊎◌, inl, inr, ⊎_elim}
-use mathlib.Core.Option.{some}
+use mathlib.Core.Logic.{inl, inr, ⊎_elim}
 use Prim.Native.Nat.{ℕ, ◌+◌, ◌*◌, ◌-◌, ◌<◌, ◌≤◌}
 use native.Mathlib.Omega.{arith}
 use lib.ListN.{length, length-append, length-drop}
@@ -17,7 +16,7 @@ use Rattle.sheet.proofs.Spans.{span_join, span_nil, span_move}
 use Rattle.sheet.proofs.Heads.{span_head}
 use Rattle.buffers.specs.Writes.{side, Put}
 use Rattle.buffers.specs.Region.{Room, region, Kept, Held, Ready, Named, moved_label, CopiedHead, CopiedChain}
-use Rattle.buffers.specs.Goal.{letters, NoRoom, Writes, Laid, LaidPlain, LaidZoned, CopiedType, shape_for, zoned_shape}
+use Rattle.buffers.specs.Goal.{NoRoom, Writes, Laid, LaidPlain, LaidZoned, CopiedType, shape_for, zoned_shape}
 use Rattle.buffers.specs.declared.Space.{Space}
 use Rattle.buffers.specs.declared.Spot.{Spot}
 use Rattle.buffers.specs.declared.Goal.{Goal}

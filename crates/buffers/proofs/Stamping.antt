@@ -27,7 +27,6 @@ use Rattle.buffers.specs.Typed.{Typed, Merges}
 use Rattle.buffers.specs.declared.Space.{Space}
 use Rattle.buffers.specs.declared.Goal.{Goal}
 use Rattle.buffers.specs.declared.Step.{Step}
-use Rattle.buffers.specs.declared.Step.TheVariants as Step
 use Rattle.buffers.specs.declared.Out.{Out}
 use Rattle.buffers.specs.declared.Out.TheVariants.{Done, No, Full}
 use Rattle.buffers.proofs.Sources.{read_shape}

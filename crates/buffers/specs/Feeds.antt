@@ -10,7 +10,6 @@ use Rattle.buffers.specs.Typed.{Chain, Typed}
 use Rattle.buffers.specs.declared.Space.{Space}
 use Rattle.buffers.specs.declared.Row.{Row}
 use Rattle.buffers.specs.declared.Feed.{Feed}
-use Rattle.buffers.specs.declared.Feed.TheVariants as Feed
 
 -- a chain is the part of another from a field on
 abbrev pub EndOf : Fields → Fields → Type 0

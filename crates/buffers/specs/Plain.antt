@@ -1,5 +1,5 @@
 -- The question that is asked, and the rules for types without parts.
-use Rattle.std.specs.Prelude.{ℕ, Bool, true, false, List, [], ◌∷◌}
+use Rattle.std.specs.Prelude.{ℕ, Bool, true, false, [], ◌∷◌}
 use Rattle.std.proofs.Math.Option.{Option, none}
 use Rattle.coercion.specs.Data.{DataType, Rules, first_of, figures_of, as_type}
 use Rattle.coercion.specs.Data as Data
@@ -9,7 +9,6 @@ use Rattle.coercion.specs.Numbers.{binary_numeric_coercion}
 use Rattle.coercion.specs.Rules.{null_coercion, string_temporal_coercion}
 use Rattle.coercion.specs.Answers.{of_kind_type, string_number}
 use Rattle.buffers.specs.declared.Question.{Question}
-use Rattle.buffers.specs.declared.Question.TheVariants as Question
 
 -- the question that is asked
 abbrev pub asked : Question → Data.Question

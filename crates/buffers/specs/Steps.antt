@@ -3,7 +3,7 @@ use Rattle.std.specs.Prelude.{◌≡◌, ℕ, ◌+◌, ◌*◌, min, true, false
 use Rattle.std.proofs.Math.Option.{Option, none, some}
 use Rattle.sheet.specs.Kind as Kind
 use Rattle.sheet.specs.Kind.{is_kind}
-use Rattle.sheet.specs.Types.{absent, present}
+use Rattle.sheet.specs.Types.{absent}
 use Rattle.sheet.specs.Head.{zoned_in, zone_at, zone_len}
 use Rattle.sheet.specs.Read.{label_at}
 use Rattle.sheet.specs.declared.Head.{Head}
@@ -12,7 +12,6 @@ use Rattle.coercion.specs.Times.{zone_coercion}
 use Rattle.coercion.specs.declared.Figures.{Figures}
 use Rattle.rules.specs.declared.zone.Place.{Place}
 use Rattle.buffers.specs.declared.Step.{Step}
-use Rattle.buffers.specs.declared.Step.TheVariants as Step
 
 -- what a head tells of the type of its record
 pub record Reads (h : Head) (t : DataType) : Type 0 where

@@ -26,7 +26,6 @@ use Rattle.merge.specs.Merge.{MergesKnown, MergesHinted}
 use Rattle.buffers.specs.declared.Space.{Space}
 use Rattle.buffers.specs.declared.Goal.{Goal}
 use Rattle.buffers.specs.declared.Question.{Question}
-use Rattle.buffers.specs.declared.Question.TheVariants as Question
 use Rattle.buffers.specs.declared.Out.{Out}
 use Rattle.buffers.specs.declared.Out.TheVariants.{No}
 use Rattle.turns.proofs.Orders.{ask_turns, bare_turns, plain_turns}

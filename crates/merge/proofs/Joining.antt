@@ -28,7 +28,6 @@ use Rattle.buffers.specs.declared.Spot.{Spot}
 use Rattle.buffers.specs.declared.Goal.{Goal}
 use Rattle.buffers.specs.declared.Row.{Row}
 use Rattle.buffers.specs.declared.Feed.{Feed}
-use Rattle.buffers.specs.declared.Feed.TheVariants as Feed
 use Rattle.buffers.specs.declared.Out.{Out}
 use Rattle.buffers.specs.declared.Out.TheVariants.{Done, No, Full}
 use Rattle.buffers.proofs.Frames.{kept_self, kept_trans, kept_wider, wrote_frame}

@@ -21,7 +21,6 @@ use Rattle.buffers.specs.Typed.{Chain, Typed}
 use Rattle.buffers.specs.declared.Space.{Space}
 use Rattle.buffers.specs.declared.Row.{Row}
 use Rattle.buffers.specs.declared.Feed.{Feed}
-use Rattle.buffers.specs.declared.Feed.TheVariants as Feed
 use Rattle.buffers.proofs.Sources.{source_first, source_next, link_is}
 use Rattle.buffers.proofs.Differing.{from_link, fields_within, parts_differ, row_same, row_differs}
 use Rattle.partners.proofs.Naming.{end_next}

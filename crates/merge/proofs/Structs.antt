@@ -28,7 +28,6 @@ use Rattle.buffers.specs.declared.Goal.{Goal}
 use Rattle.buffers.specs.declared.Out.{Out}
 use Rattle.buffers.specs.declared.Out.TheVariants.{No}
 use Rattle.buffers.specs.declared.Feed.{Feed}
-use Rattle.buffers.specs.declared.Feed.TheVariants as Feed
 use Rattle.buffers.proofs.Chained.{held_first}
 use Rattle.wrappers.proofs.Values.{chain_first}
 use Rattle.merge.proofs.Knowing.{parts_known}

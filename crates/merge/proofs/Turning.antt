@@ -17,7 +17,7 @@ use Rattle.coercion.specs.Data as Data
 use Rattle.coercion.specs.Kinds.{is_list}
 use Rattle.coercion.specs.Same.{same_type}
 use Rattle.coercion.specs.Wrappers.{is_of, wrapper_coercion}
-use Rattle.coercion.specs.Nested.{before, join_fields, list_shape, list_of, list_coercion, struct_coercion, map_coercion}
+use Rattle.coercion.specs.Nested.{before, join_fields, list_shape, list_of, list_coercion, struct_coercion}
 use Rattle.coercion.specs.Answers.{both_parts, list_struct, coercion}
 use Rattle.buffers.specs.Source.{SameTypes}
 use Rattle.buffers.specs.Writes.{side}

@@ -17,7 +17,6 @@ use Rattle.buffers.specs.declared.Spot.{Spot}
 use Rattle.buffers.specs.declared.Goal.{Goal}
 use Rattle.buffers.specs.declared.Out.{Out}
 use Rattle.buffers.specs.declared.Feed.{Feed}
-use Rattle.buffers.specs.declared.Feed.TheVariants as Feed
 
 -- each entry of a table of partners is true
 pub record Tabled (space : Space) (s w table : List ℕ) : Type 0 where

@@ -19,7 +19,6 @@ use Rattle.partners.specs.Naming.{Picks, Pairs, row_of}
 use Rattle.buffers.specs.declared.Space.{Space}
 use Rattle.buffers.specs.declared.Row.{Row}
 use Rattle.buffers.specs.declared.Feed.{Feed}
-use Rattle.buffers.specs.declared.Feed.TheVariants as Feed
 use Rattle.buffers.proofs.Rows.{chain_end, chain_typed, chain_next, chain_nullable}
 use Rattle.partners.proofs.Naming.{some_not_none, name_missing, Stepped, by_name_step, end_next, end_takes}
 

@@ -20,7 +20,7 @@ use Rattle.sheet.proofs.Tests.{never, and_fst, and_snd, or_fst, or_snd}
 use Rattle.coercion.specs.Data.{and_then}
 use Rattle.coercion.specs.Nested.{with_name, by_name, fields_have_same_names}
 use Rattle.coercion.proofs.Maybe.{if_some}
-use Rattle.coercion.proofs.Weights.{weigh, nothing, one, name_length, zone_length, records_weigh, labels_weigh, differ_apart, by_name_lem}
+use Rattle.coercion.proofs.Weights.{nothing, one, name_length, zone_length, records_weigh, labels_weigh, differ_apart, by_name_lem}
 use Rattle.buffers.specs.Region.{Held}
 use Rattle.buffers.specs.Typed.{Chain}
 use Rattle.buffers.specs.Feeds.{EndOf}

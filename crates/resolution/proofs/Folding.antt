@@ -28,7 +28,6 @@ use Rattle.buffers.specs.Plain.{asked, rules_of, is_list_question}
 use Rattle.buffers.specs.Differ.{DifferTypes}
 use Rattle.buffers.specs.Typed.{Chain, Typed, ChainIs, CopiedField}
 use Rattle.buffers.specs.declared.Question.{Question}
-use Rattle.buffers.specs.declared.Question.TheVariants as Question
 use Rattle.buffers.specs.declared.Space.{Space}
 use Rattle.buffers.specs.declared.Spot.{Spot}
 use Rattle.buffers.specs.declared.Goal.{Goal}

@@ -27,7 +27,6 @@ use Rattle.buffers.specs.declared.Out.TheVariants.{Done, No}
 use Rattle.merge.proofs.Merging.{typed_kind}
 use Rattle.values.specs.declared.value.Leaf.{Leaf}
 use Rattle.values.specs.declared.value.Joint.{Joint}
-use Rattle.values.specs.declared.value.Joint.TheVariants as Joint
 use Rattle.values.specs.Value.{is_plain, leaf_of, leaf_type, Valued, JointIs, Joins}
 use Rattle.values.specs.Taken.{is_bare, is_taken}
 use Rattle.values.proofs.Valuing.{valued_right, plain_valued}

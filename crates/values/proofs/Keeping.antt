@@ -34,7 +34,6 @@ use Rattle.buffers.specs.Typed.{Typed}
 use Rattle.buffers.specs.declared.Question.TheVariants as Question
 use Rattle.buffers.specs.declared.Space.{Space}
 use Rattle.buffers.specs.declared.Step.{Step}
-use Rattle.buffers.specs.declared.Step.TheVariants as Step
 use Rattle.buffers.proofs.Sources.{link_inside, read_shape}
 use Rattle.buffers.proofs.Chained.{held_first, held_next}
 use Rattle.buffers.proofs.Fielding.{typed_reads}
@@ -44,7 +43,6 @@ use Rattle.wrappers.proofs.Cores.{missing, wrapper_is, two_parts}
 use Rattle.wrappers.proofs.Values.{Two, typed_two, value_of}
 use Rattle.values.specs.declared.value.Leaf.{Leaf}
 use Rattle.values.specs.declared.value.Joint.{Joint}
-use Rattle.values.specs.declared.value.Joint.TheVariants as Joint
 use Rattle.values.specs.Value.{is_plain, leaf_of, leaf_type, Valued, JointIs, Joins}
 use Rattle.values.specs.Keeps.{core_of, with_core, CoreAlone, lays_view, CoreAt, stays_zoned}
 use Rattle.values.proofs.Valuing.{typed_right, no_parts, leaf_low, plain_valued, plain_coercion}

@@ -16,7 +16,6 @@ use Rattle.coercion.specs.Answers.{coercion}
 use Rattle.coercion.proofs.Tables.{at, at2}
 use Rattle.values.specs.declared.value.Leaf.{Leaf}
 use Rattle.values.specs.declared.value.Joint.{Joint}
-use Rattle.values.specs.declared.value.Joint.TheVariants as Joint
 use Rattle.values.specs.Value.{leaf_type, Joins}
 use Rattle.values.specs.Taken.{is_bare, taken_kinds}
 use Rattle.values.proofs.Valuing.{tests, same_tests}

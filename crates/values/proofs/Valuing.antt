@@ -17,7 +17,7 @@ use Rattle.sheet.specs.Read.{shape_of}
 use Rattle.sheet.specs.Carried.{FieldsRight}
 use Rattle.sheet.specs.declared.Head.{Head}
 use Rattle.sheet.proofs.Tests.{and_fst, and_snd, all_not}
-use Rattle.coercion.specs.Data.{DataType, Rules, size, single}
+use Rattle.coercion.specs.Data.{DataType, Rules, single}
 use Rattle.coercion.specs.Same.{same_zone, same_shape, same_fields, same_type}
 use Rattle.coercion.specs.Answers.{coercion}
 use Rattle.coercion.specs.declared.Figures.{Figures}
@@ -30,14 +30,12 @@ use Rattle.buffers.specs.Steps.{Figured, step_of}
 use Rattle.buffers.specs.Typed.{Typed}
 use Rattle.buffers.specs.declared.Space.{Space}
 use Rattle.buffers.specs.declared.Step.{Step}
-use Rattle.buffers.specs.declared.Step.TheVariants as Step
 use Rattle.buffers.proofs.Sources.{read_shape}
 use Rattle.turns.proofs.Orders.{ask_turns, plain_turns}
 use Rattle.merge.proofs.Merging.{typed_kind, type_differ}
 use Rattle.merge.proofs.Rewrapping.{end_is}
 use Rattle.values.specs.declared.value.Leaf.{Leaf}
 use Rattle.values.specs.declared.value.Joint.{Joint}
-use Rattle.values.specs.declared.value.Joint.TheVariants as Joint
 use Rattle.values.specs.Value.{is_plain, leaf_of, leaf_type, figures_in, Valued, JointIs, Says, Joins}
 use Rattle.values.proofs.Low.{Low, plain_low}
 

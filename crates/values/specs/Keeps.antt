@@ -12,7 +12,6 @@ use Rattle.buffers.specs.Goal.{type_of}
 use Rattle.buffers.specs.Typed.{Typed}
 use Rattle.buffers.specs.declared.Space.{Space}
 use Rattle.buffers.specs.declared.Step.{Step}
-use Rattle.buffers.specs.declared.Step.TheVariants as Step
 use Rattle.wrappers.specs.Ways.{is_wrapper}
 
 -- the core of a type: the value below all its wrappers

@@ -11,7 +11,6 @@ use Rattle.buffers.specs.declared.Step.{Step}
 use Rattle.coercion.specs.declared.Figures.{Figures}
 use Rattle.values.specs.declared.value.Leaf.{Leaf}
 use Rattle.values.specs.declared.value.Joint.{Joint}
-use Rattle.values.specs.declared.value.Joint.TheVariants as Joint
 
 -- a head of a kind without parts that is neither sorted nor zoned
 abbrev pub is_plain : Head → Bool

@@ -1,7 +1,6 @@
 use Rattle.answers.specs.Code.{call_of}
 use Rattle.answers.proofs.Refusing.{checked_accepted}
 use Rattle.answers.proofs.Calling.{refused_sheet}
-use borrow.Author.Rules.{rules}
 use Rattle.answers.proofs.call.Goals as goal
 
 pub call_accepted-requires : goal.call_accepted-requires

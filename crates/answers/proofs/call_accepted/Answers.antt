@@ -1,6 +1,5 @@
 use Rattle.answers.specs.Code.{call_of}
 use Rattle.answers.proofs.Calling.{refused_later, answered, spared}
-use borrow.Author.Rules.{rules}
 use Rattle.answers.proofs.call_accepted.Goals as goal
 
 pub settle-requires : goal.settle-requires

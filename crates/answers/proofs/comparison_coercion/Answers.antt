@@ -1,6 +1,5 @@
 use mathlib.Core.Path.{sym, ◌∙◌}
 use Rattle.answers.proofs.Calling.{torn_call}
-use borrow.Author.Rules.{rules}
 use Rattle.answers.proofs.comparison_coercion.Goals as goal
 
 pub returns-then-is_torn : goal.returns-then-is_torn

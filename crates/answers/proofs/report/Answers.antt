@@ -1,5 +1,4 @@
 use Rattle.answers.proofs.Calling.{reported}
-use borrow.Author.Rules.{rules}
 use Rattle.answers.proofs.report.Goals as goal
 
 pub returns : goal.returns

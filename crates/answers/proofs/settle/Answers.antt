@@ -1,5 +1,4 @@
 use Rattle.answers.proofs.Calling.{room, done_room, done_settled, none_settled, never_full}
-use borrow.Author.Rules.{rules}
 use Rattle.answers.proofs.settle.Goals as goal
 
 pub answer-requires : goal.answer-requires

@@ -1,5 +1,4 @@
 use Rattle.pemzhulaq.proofs.Showing.{shown}
-use borrow.Author.Rules.{rules}
 use Rattle.pemzhulaq.proofs.pemzhulaq_type_union_resolution.Goals as goal
 
 pub returns : goal.returns

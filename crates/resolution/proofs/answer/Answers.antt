@@ -1,5 +1,4 @@
 use Rattle.resolution.proofs.Folding.{answers_list, answers_pair}
-use borrow.Author.Rules.{rules}
 use Rattle.resolution.proofs.answer.Goals as goal
 
 pub returns-then-is_list_question : goal.returns-then-is_list_question

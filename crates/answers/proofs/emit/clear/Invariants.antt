@@ -1,10 +1,7 @@
-use native.Mathlib.Omega.{arith}
-use borrow.Author.Rules.{rules}
 use Prim.Native.Nat.{◌-◌, ◌≤◌}
-use mathlib.Core.Path.{◌≡◌, refl, ◌∙◌}
-use lib.ListN.{length, length-set}
+use mathlib.Core.Path.{◌≡◌}
+use lib.ListN.{length}
 use Rattle.answers.specs.Code.{zeroed}
-use Rattle.answers.proofs.Emitting.{zero_next, zero_done}
 use Rattle.answers.proofs.emit.clear.Given as goal
 
 abbrev pub invariant-loop-i : goal.invariant-loop-i

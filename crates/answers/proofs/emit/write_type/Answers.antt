@@ -1,7 +1,6 @@
 use mathlib.Core.Path.{refl}
 use Rattle.coercion.specs.Data.{single}
 use Rattle.answers.proofs.Emitting.{emitted}
-use borrow.Author.Rules.{rules}
 use Rattle.answers.proofs.emit.write_type.Goals as goal
 
 pub returns : goal.returns

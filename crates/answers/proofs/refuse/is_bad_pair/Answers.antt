@@ -1,6 +1,5 @@
 use Rattle.answers.specs.Call.{bad_pair}
 use Rattle.answers.proofs.Refusing.{pair_asked}
-use borrow.Author.Rules.{rules}
 use Rattle.answers.proofs.refuse.is_bad_pair.Goals as goal
 
 pub returns-in-List : goal.returns-in-List

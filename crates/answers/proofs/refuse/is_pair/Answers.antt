@@ -1,5 +1,4 @@
 use Rattle.answers.proofs.Refusing.{pair_none, pair_one, pair_two}
-use borrow.Author.Rules.{rules}
 use Rattle.answers.proofs.refuse.is_pair.Goals as goal
 
 pub returns-then-n-le1 : goal.returns-then-n-le1

@@ -1,5 +1,4 @@
 use borrow.Author.Tests.{lt-ltb, le-ltb}
-use borrow.Author.Rules.{rules}
 use Rattle.answers.proofs.refuse.is_short.Goals as goal
 
 pub returns-then-output-sheet : goal.returns-then-output-sheet

@@ -2,7 +2,6 @@ use mathlib.Core.Path.{sym, ◌∙◌, ap}
 use Prim.Native.Nat.{ℕ}
 use Rattle.answers.specs.Code.{is_short}
 use Rattle.answers.proofs.Refusing.{measured_low, later_mask, later_pair, later-short, later-none}
-use borrow.Author.Rules.{rules}
 use Rattle.answers.proofs.refuse.refused.Goals as goal
 
 pub returns-then-is_bad_mask : goal.returns-then-is_bad_mask

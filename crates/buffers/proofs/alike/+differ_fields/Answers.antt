@@ -1,9 +1,5 @@
-use Prim.Native.Nat.{◌-◌, ◌≤◌}
 use native.Mathlib.Omega.{arith}
-use borrow.Author.Rules.{rules}
-use Rattle.buffers.specs.Differ.{DifferChains}
 use Rattle.buffers.proofs.Sameness.{fields_none, fields_longer, fields_past, fields_short, fields_own, fields_parts, fields_rest, fields_plain}
-use Prim.Native.Nat.{ℕ, ◌<◌}
 use Rattle.buffers.proofs.alike.+differ_fields.Goals as goal
 
 pub loop-low-init : goal.loop-low-init

@@ -1,4 +1,3 @@
-use borrow.Author.Rules.{rules}
 use Rattle.buffers.proofs.alike.differ_sides.Goals as goal
 
 pub returns-then-swap : goal.returns-then-swap

@@ -1,7 +1,6 @@
 use Rattle.sheet.specs.Read.{shape_of}
 use mathlib.Core.Path.{refl, sym}
 use Rattle.buffers.proofs.Sameness.{shapes_unlike, types_differ, types_parts, types_plain}
-use borrow.Author.Rules.{rules}
 use Rattle.buffers.proofs.alike.differ_type.Goals as goal
 
 pub returns-then-head_at : goal.returns-then-head_at

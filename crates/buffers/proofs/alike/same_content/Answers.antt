@@ -1,5 +1,4 @@
 use mathlib.Core.Path.{sym, ◌∙◌}
-use borrow.Author.Rules.{rules}
 use Rattle.buffers.proofs.alike.same_content.Goals as goal
 
 pub returns-then-is_zoned : goal.returns-then-is_zoned

@@ -1,7 +1,6 @@
 use mathlib.Core.Path.{refl, sym, ◌∙◌}
 use borrow.Author.Tests.{eq-eqb, ne_eqb}
 use Rattle.buffers.proofs.Sameness.{own_tests, names_asked, names_free}
-use borrow.Author.Rules.{rules}
 use Rattle.buffers.proofs.alike.same_record.Goals as goal
 
 pub returns-then-g-h : goal.returns-then-g-h

@@ -1,5 +1,4 @@
 use Rattle.buffers.proofs.Sameness.{shapes_apart, shapes_same}
-use borrow.Author.Rules.{rules}
 use Rattle.buffers.proofs.alike.same_shape.Goals as goal
 
 pub returns-then-same_figures : goal.returns-then-same_figures

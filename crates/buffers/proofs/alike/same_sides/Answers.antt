@@ -1,4 +1,3 @@
-use borrow.Author.Rules.{rules}
 use Rattle.buffers.proofs.Sameness.{types_same}
 use Rattle.buffers.proofs.alike.same_sides.Goals as goal
 

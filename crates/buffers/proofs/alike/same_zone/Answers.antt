@@ -1,6 +1,5 @@
 use mathlib.Core.Path.{◌∙◌, ap₂}
 use Rattle.sheet.specs.Names.{same_bytes}
-use borrow.Author.Rules.{rules}
 use Rattle.buffers.proofs.alike.same_zone.Goals as goal
 
 pub returns : goal.returns

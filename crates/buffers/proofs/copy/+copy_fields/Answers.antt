@@ -1,11 +1,8 @@
-use Prim.Native.Nat.{◌-◌}
 use mathlib.Core.Path.{refl, ◌∙◌}
 use native.Mathlib.Omega.{arith}
-use borrow.Author.Rules.{rules}
 use Rattle.buffers.specs.declared.Out.TheVariants.{Done, Full}
 use Rattle.buffers.proofs.Frames.{kept_trans, kept_wider}
-use Rattle.buffers.proofs.Chained.{room_kept, chain_none, chain_past, chain-on, chain_stop, chain_parts_stop, chain_last, chain_plain, Left, left_on}
-use Prim.Native.Nat.{ℕ, ◌<◌}
+use Rattle.buffers.proofs.Chained.{room_kept, chain_none, chain_past, chain-on, chain_stop, chain_parts_stop, chain_last, chain_plain, left_on}
 use Rattle.buffers.proofs.copy.+copy_fields.Goals as goal
 
 pub loop-link-init : goal.loop-link-init

@@ -1,5 +1,4 @@
 use Rattle.buffers.proofs.Copying.{bare_copied}
-use borrow.Author.Rules.{rules}
 use Rattle.buffers.proofs.copy.copy_bare.Goals as goal
 
 pub returns : goal.returns

@@ -1,8 +1,5 @@
 use native.Mathlib.Omega.{arith}
-use borrow.Author.Rules.{rules}
-use Prim.Native.Nat.{◌-◌, ◌/◌}
 use Rattle.buffers.proofs.Copying.{head_full, head_copied}
-use borrow.Author.Rules.{rules}
 use Rattle.buffers.proofs.copy.copy_head.Goals as goal
 
 pub returns-then-space-label : goal.returns-then-space-label

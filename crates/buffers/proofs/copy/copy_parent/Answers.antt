@@ -1,5 +1,4 @@
 use mathlib.Core.Path.{sym, ◌∙◌}
-use borrow.Author.Rules.{rules}
 use Rattle.buffers.proofs.copy.copy_parent.Goals as goal
 
 pub copy_bare-requires : goal.copy_bare-requires

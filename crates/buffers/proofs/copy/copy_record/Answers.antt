@@ -1,7 +1,4 @@
-use borrow.Author.Rules.{rules}
-use Prim.Native.Nat.{◌-◌, ◌/◌}
 use Rattle.buffers.proofs.Copying.{record_full, record_copied}
-use borrow.Author.Rules.{rules}
 use Rattle.buffers.proofs.copy.copy_record.Goals as goal
 
 pub returns-then-space-label : goal.returns-then-space-label

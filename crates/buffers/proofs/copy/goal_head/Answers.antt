@@ -1,7 +1,4 @@
 use native.Mathlib.Omega.{arith}
-use borrow.Author.Rules.{rules}
-use Prim.Native.Nat.{◌-◌, ◌/◌}
-use borrow.Author.Rules.{rules}
 use Rattle.buffers.proofs.copy.goal_head.Goals as goal
 
 pub returns : goal.returns

@@ -1,5 +1,4 @@
 use native.Mathlib.Omega.{arith}
-use Prim.Native.Nat.{◌-◌, ◌/◌}
 use borrow.Author.Tests.{eq-eqb, ne_eqb}
 use Rattle.buffers.proofs.copy.moved_label.Goals as goal
 

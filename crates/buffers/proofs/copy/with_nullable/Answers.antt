@@ -1,7 +1,4 @@
 use native.Mathlib.Omega.{arith}
-use borrow.Author.Rules.{rules}
-use Prim.Native.Nat.{◌-◌, ◌/◌}
-use borrow.Author.Rules.{rules}
 use Rattle.buffers.proofs.copy.with_nullable.Goals as goal
 
 pub returns-then-nullable : goal.returns-then-nullable

@@ -1,6 +1,5 @@
 use Rattle.buffers.proofs.Chained.{room_kept}
 use Rattle.buffers.proofs.Fielding.{field_ready, field_full, field_copied}
-use borrow.Author.Rules.{rules}
 use Rattle.buffers.proofs.field.copy_field.Goals as goal
 
 pub copy_type-requires : goal.copy_type-requires

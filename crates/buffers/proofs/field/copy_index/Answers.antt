@@ -2,7 +2,6 @@ use mathlib.Core.Path.{sym, ◌∙◌}
 use native.Mathlib.Omega.{arith}
 use Rattle.buffers.proofs.Chained.{room_kept}
 use Rattle.buffers.proofs.Fielding.{field_none, field_ready, field_full, leaf_copied}
-use borrow.Author.Rules.{rules}
 use Rattle.buffers.proofs.field.copy_index.Goals as goal
 
 pub returns-then-space-at : goal.returns-then-space-at

@@ -1,6 +1,5 @@
 use native.Mathlib.Omega.{arith}
 use borrow.Author.Tests.{eq-eqb, ne_eqb}
-use borrow.Author.Rules.{rules}
 use Rattle.buffers.proofs.field.first_link.Goals as goal
 
 pub returns-then-link-eq0 : goal.returns-then-link-eq0

@@ -1,5 +1,4 @@
 use Rattle.buffers.proofs.Fielding.{wrapper_other, wrapper_stays, wrapper_view}
-use borrow.Author.Rules.{rules}
 use Rattle.buffers.proofs.field.keep_wrapper.Goals as goal
 
 pub returns-then-head_at-eq27 : goal.returns-then-head_at-eq27

@@ -1,5 +1,4 @@
 use Rattle.buffers.proofs.Fielding.{name_full, name_put}
-use borrow.Author.Rules.{rules}
 use Rattle.buffers.proofs.field.name_field.Goals as goal
 
 pub returns-then-space-label : goal.returns-then-space-label

@@ -1,4 +1,3 @@
-use Prim.Native.Nat.{◌-◌}
 use Rattle.buffers.proofs.lay.flags_of.Goals as goal
 
 pub returns-then-sorted : goal.returns-then-sorted

@@ -1,7 +1,4 @@
-use borrow.Author.Rules.{rules}
-use Prim.Native.Nat.{◌-◌}
 use Rattle.buffers.proofs.Laying.{head_laid}
-use borrow.Author.Rules.{rules}
 use Rattle.buffers.proofs.lay.lay.Goals as goal
 
 pub returns : goal.returns

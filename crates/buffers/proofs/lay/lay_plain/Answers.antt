@@ -1,7 +1,4 @@
-use borrow.Author.Rules.{rules}
-use Prim.Native.Nat.{◌-◌}
 use Rattle.buffers.proofs.Laying.{plain_full, plain_laid}
-use borrow.Author.Rules.{rules}
 use Rattle.buffers.proofs.lay.lay_plain.Goals as goal
 
 pub returns-then-space-at : goal.returns-then-space-at

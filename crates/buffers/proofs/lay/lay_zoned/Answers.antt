@@ -1,7 +1,6 @@
 use native.Mathlib.Omega.{arith}
 use mathlib.Core.Logic.{inl, inr}
 use Rattle.buffers.proofs.Laying.{zoned_full, zoned_head_lem, zoned_laid}
-use borrow.Author.Rules.{rules}
 use Rattle.buffers.proofs.lay.lay_zoned.Goals as goal
 
 pub returns-then-space-at : goal.returns-then-space-at

@@ -1,5 +1,4 @@
 use Rattle.buffers.proofs.Tying.{tied}
-use borrow.Author.Rules.{rules}
 use Rattle.buffers.proofs.lay.tie.Goals as goal
 
 pub returns : goal.returns

@@ -1,6 +1,5 @@
 use mathlib.Core.Path.{sym, ◌∙◌}
 use borrow.Author.Tests.{eq-eqb, ne_eqb}
-use borrow.Author.Rules.{rules}
 use Rattle.buffers.proofs.plain.list_kind.Goals as goal
 
 pub returns-then-x-y : goal.returns-then-x-y

@@ -1,7 +1,6 @@
 use Rattle.buffers.proofs.Steps.{kind_low}
 use native.Mathlib.Omega.{arith}
 use mathlib.Core.Path.{◌∙◌}
-use borrow.Author.Rules.{rules}
 use Rattle.buffers.proofs.plain.null.Goals as goal
 
 pub returns-then-x-ge64 : goal.returns-then-x-ge64

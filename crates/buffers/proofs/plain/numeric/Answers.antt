@@ -2,7 +2,6 @@ use mathlib.Core.Path.{sym, ◌∙◌, ap, ap₂}
 use Rattle.buffers.proofs.Steps.{figures_read}
 use Rattle.coercion.specs.Data.{as_type}
 use Rattle.coercion.specs.Numbers.{binary_numeric_coercion}
-use borrow.Author.Rules.{rules}
 use Rattle.buffers.proofs.plain.numeric.Goals as goal
 
 pub returns : goal.returns

@@ -1,5 +1,4 @@
 use Rattle.buffers.proofs.Steps.{reads_figured}
-use borrow.Author.Rules.{rules}
 use Rattle.buffers.proofs.plain.plain.Goals as goal
 
 pub returns : goal.returns

@@ -1,7 +1,6 @@
 use mathlib.Core.Path.{sym, ◌∙◌}
 use Rattle.buffers.specs.Plain.{asked}
 use Rattle.buffers.proofs.Steps.{string_zone, time_listed, time_paired}
-use borrow.Author.Rules.{rules}
 use Rattle.buffers.proofs.plain.string_time.Goals as goal
 
 pub returns-then-is_list_question : goal.returns-then-is_list_question

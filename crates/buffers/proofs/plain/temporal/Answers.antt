@@ -2,7 +2,6 @@ use mathlib.Core.Path.{sym, ◌∙◌, ap}
 use Rattle.buffers.proofs.Steps.{times_read}
 use Rattle.coercion.specs.Times.{temporal_coercion_nonstrict_timezone}
 use Rattle.coercion.specs.Data.{as_type}
-use borrow.Author.Rules.{rules}
 use Rattle.buffers.proofs.plain.temporal.Goals as goal
 
 pub returns-then-both : goal.returns-then-both

@@ -1,4 +1,3 @@
-use borrow.Author.Rules.{rules}
 use Rattle.buffers.specs.Plain.{rules_of}
 use Rattle.buffers.proofs.Stamping.{plain_merged}
 use Rattle.buffers.proofs.stamp.plain_rule.Goals as goal

@@ -1,5 +1,4 @@
 use Rattle.buffers.proofs.Stamping.{stamp_zoned, stamp_plain}
-use borrow.Author.Rules.{rules}
 use Rattle.buffers.proofs.stamp.stamp.Goals as goal
 
 pub returns-then-either : goal.returns-then-either

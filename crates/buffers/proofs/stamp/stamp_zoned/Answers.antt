@@ -2,7 +2,6 @@ use mathlib.Core.Path.{sym}
 use lib.Seq.{length-take-le}
 use Rattle.buffers.proofs.Puts.{filled_fits}
 use Rattle.buffers.proofs.Stamping.{zone_short, zone_laid}
-use borrow.Author.Rules.{rules}
 use Rattle.buffers.proofs.stamp.stamp_zoned.Goals as goal
 
 pub slice_bounds-lay_zoned-end : goal.slice_bounds-lay_zoned-end

@@ -1,7 +1,6 @@
 use mathlib.Core.Bool.{not}
 use native.Mathlib.Omega.{arith}
 use Rattle.buffers.proofs.Stamping.{place_fits, zone_fits, zone_filled}
-use borrow.Author.Rules.{rules}
 use Rattle.buffers.proofs.stamp.zone_into.Goals as goal
 
 pub zone_coercion-z-requires : goal.zone_coercion-z-requires

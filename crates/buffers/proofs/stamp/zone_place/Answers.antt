@@ -1,5 +1,4 @@
 use Rattle.buffers.proofs.Stamping.{place_is}
-use borrow.Author.Rules.{rules}
 use Rattle.buffers.proofs.stamp.zone_place.Goals as goal
 
 pub returns : goal.returns

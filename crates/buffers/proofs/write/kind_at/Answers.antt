@@ -1,6 +1,5 @@
 use mathlib.Core.Path.{ap}
 use Rattle.sheet.specs.declared.Head.{Head}
-use borrow.Author.Rules.{rules}
 use Rattle.buffers.proofs.write.kind_at.Goals as goal
 
 pub returns : goal.returns

@@ -1,6 +1,3 @@
-use borrow.Author.Rules.{rules}
-use Prim.Native.Nat.{◌-◌}
-use borrow.Author.Rules.{rules}
 use Rattle.buffers.proofs.write.look.Goals as goal
 
 pub returns-then-swap : goal.returns-then-swap

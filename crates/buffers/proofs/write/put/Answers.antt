@@ -1,8 +1,5 @@
-use borrow.Author.Rules.{rules}
-use Prim.Native.Nat.{◌-◌}
 use mathlib.Core.Path.{refl}
 use Rattle.buffers.proofs.Puts.{put_part}
-use borrow.Author.Rules.{rules}
 use Rattle.buffers.proofs.write.put.Goals as goal
 
 pub returns : goal.returns

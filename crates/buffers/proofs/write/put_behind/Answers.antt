@@ -1,8 +1,5 @@
 use native.Mathlib.Omega.{arith}
-use borrow.Author.Rules.{rules}
-use Prim.Native.Nat.{◌-◌, ◌≤◌}
-use lib.ListN.{take, drop}
-use Rattle.buffers.specs.Writes.{Put}
+use lib.ListN.{drop}
 use Rattle.buffers.proofs.Puts.{put_none, put_on, put_all}
 use Rattle.buffers.proofs.write.put_behind.Goals as goal
 

@@ -2,7 +2,6 @@ use native.Mathlib.Omega.{arith}
 use mathlib.Core.Path.{ap, ◌∙◌}
 use lib.ListN.{length, drop, length-take}
 use Rattle.buffers.proofs.Puts.{put_same, label_from}
-use borrow.Author.Rules.{rules}
 use Rattle.buffers.proofs.write.put_label.Goals as goal
 
 pub returns-then-swap : goal.returns-then-swap

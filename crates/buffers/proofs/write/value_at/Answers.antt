@@ -2,7 +2,6 @@ use mathlib.Core.Path.{ap, ◌∙◌}
 use Rattle.sheet.specs.Head.{head_at}
 use Rattle.sheet.specs.declared.Head.{Head}
 use Rattle.buffers.specs.Writes.{side}
-use borrow.Author.Rules.{rules}
 use Rattle.buffers.proofs.write.value_at.Goals as goal
 
 pub returns : goal.returns

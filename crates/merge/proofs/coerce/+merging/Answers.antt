@@ -1,8 +1,6 @@
 use native.Mathlib.Omega.{arith}
-use borrow.Author.Rules.{rules}
-use Prim.Native.Nat.{◌+◌, ◌*◌}
 use mathlib.Core.Path.{refl, sym, ◌∙◌}
-use borrow.Author.Tests.{not-true, not-false, ltb-true}
+use borrow.Author.Tests.{ltb-true}
 use Rattle.sheet.proofs.Tests.{and_fst, and_snd}
 use Rattle.buffers.proofs.Chained.{room_kept}
 use Rattle.buffers.proofs.Fielding.{field_ready}
@@ -15,7 +13,6 @@ use Rattle.merge.proofs.Parents.{under_full, under_on, head_crowded, both_on, fi
 use Rattle.merge.proofs.Turning.{and_are, both_are, resolve_dictionary, resolve_runs, resolve_nested, wrap_both, wrap_left, wrap_right, wrap_none, unwrap_done, unwrap_full, unwrap_nested, way_merged, way_spent, wrapper_none, wrapper_both, wrapper-left-same, wrapper-left, wrapper-right-same, wrapper-right, nested_list, nested-listed, nested-struct, nested-map, nested-plain, list_merged}
 use Rattle.buffers.specs.Plain.{rules_of}
 use Rattle.merge.proofs.Structs.{struct_none, struct_merged, listed_unlike, listed-none, listed-named, listed_ordered}
-use Prim.Native.Nat.{ℕ, ◌<◌}
 use Rattle.merge.proofs.coerce.+merging.Goals as goal
 
 pub both_parts-returns-then-space-g : goal.both_parts-returns-then-space-g
@@ -569,5 +566,3 @@ unwrap-returns-in-No t c =
 pub unwrap-returns-in-Full : goal.unwrap-returns-in-Full
 unwrap-returns-in-Full t c =
     record { merges_hinted = unwrap_full c.args.known _ _ c.requires.question_value _ _ c.args.swap _ _ _ _ _ _ c.in-Full.ensures.merges_hinted; tabled_2 = c.wrapper.ensures.tabled_2 }
-
-

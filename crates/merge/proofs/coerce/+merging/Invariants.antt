@@ -1,21 +1,4 @@
-use native.Mathlib.Omega.{arith}
-use borrow.Author.Rules.{rules}
 use Prim.Native.Nat.{◌+◌, ◌*◌}
-use mathlib.Core.Path.{refl, sym, ◌∙◌}
-use borrow.Author.Tests.{not-true, not-false, ltb-true}
-use Rattle.sheet.proofs.Tests.{and_fst, and_snd}
-use Rattle.buffers.proofs.Chained.{room_kept}
-use Rattle.buffers.proofs.Fielding.{field_ready}
-use Rattle.merge.proofs.Joining.{rows_end, rows_spent, rows_unfed, rows_crowded, rows_none, rows_full, rows-rest-none, rows-rest-full, rows-done}
-use Rattle.merge.proofs.Asking.{handed, coerce_spent, coerce_same, coerce-plain, coerce-bare, coerce_list, coerce_pair, coerce_unlike, coerce_wrapper}
-use Rattle.merge.proofs.Merging.{any_known, none_known, any_hint, none_hint, merges_full, tabled_over}
-use Rattle.buffers.proofs.Tying.{tied_kept}
-use Rattle.merge.proofs.Rewrapping.{index_none, index_full, value_none, value-full, wrapper-on, viewed_tabled}
-use Rattle.merge.proofs.Parents.{under_full, under_on, head_crowded, both_on, field_crowded, field_alone, field_on, map_left_end, map_right_end, map_on, after_passes}
-use Rattle.merge.proofs.Turning.{and_are, both_are, resolve_dictionary, resolve_runs, resolve_nested, wrap_both, wrap_left, wrap_right, wrap_none, unwrap_done, unwrap_full, unwrap_nested, way_merged, way_spent, wrapper_none, wrapper_both, wrapper-left-same, wrapper-left, wrapper-right-same, wrapper-right, nested_list, nested-listed, nested-struct, nested-map, nested-plain, list_merged}
-use Rattle.buffers.specs.Plain.{rules_of}
-use Rattle.merge.proofs.Structs.{struct_none, struct_merged, listed_unlike, listed-none, listed-named, listed_ordered}
-use Prim.Native.Nat.{ℕ, ◌<◌}
 use Rattle.merge.proofs.coerce.+merging.Given as goal
 
 abbrev pub decreases-both_parts : goal.decreases-both_parts

@@ -1,4 +1,3 @@
-use borrow.Author.Rules.{rules}
 use Rattle.merge.proofs.Merging.{none_hint, tabled_zeros}
 use Rattle.merge.proofs.coerce.coerce.Goals as goal
 

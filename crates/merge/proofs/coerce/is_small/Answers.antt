@@ -1,6 +1,5 @@
 use mathlib.Core.Path.{sym, ◌∙◌}
 use borrow.Author.Tests.{eq-eqb, ne_eqb}
-use borrow.Author.Rules.{rules}
 use Rattle.merge.proofs.coerce.is_small.Goals as goal
 
 pub returns-then-next-eq0 : goal.returns-then-next-eq0

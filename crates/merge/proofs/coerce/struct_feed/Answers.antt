@@ -1,4 +1,3 @@
-use borrow.Author.Rules.{rules}
 use Rattle.merge.proofs.Structs.{fed_ordered, fed_named, fed_placed}
 use Rattle.merge.proofs.coerce.struct_feed.Goals as goal
 

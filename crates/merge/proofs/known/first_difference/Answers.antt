@@ -1,4 +1,3 @@
-use borrow.Author.Rules.{rules}
 use Rattle.merge.proofs.Asking.{difference_none, difference_known, difference_found}
 use Rattle.merge.proofs.known.first_difference.Goals as goal
 

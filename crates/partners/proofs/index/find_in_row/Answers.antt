@@ -1,10 +1,7 @@
-use mathlib.Core.Path.{◌≡◌, sym, ◌∙◌, subst}
-use Prim.Native.Nat.{ℕ, ◌≤◌}
+use mathlib.Core.Path.{sym, ◌∙◌, subst}
+use Prim.Native.Nat.{ℕ}
 use native.Mathlib.Omega.{arith}
-use borrow.Author.Rules.{rules}
-use Rattle.sheet.specs.Types.{Fields}
-use Rattle.partners.specs.Naming.{Guess, Guides}
-use Rattle.buffers.specs.declared.Space.{Space}
+use Rattle.partners.specs.Naming.{Guess}
 use Rattle.partners.proofs.Naming.{tried_here}
 use Rattle.partners.proofs.index.find_in_row.Goals as goal
 

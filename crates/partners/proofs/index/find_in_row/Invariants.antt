@@ -1,11 +1,8 @@
-use mathlib.Core.Path.{◌≡◌, sym, ◌∙◌, subst}
-use Prim.Native.Nat.{ℕ, ◌≤◌}
-use native.Mathlib.Omega.{arith}
-use borrow.Author.Rules.{rules}
+use mathlib.Core.Path.{◌≡◌}
+use Prim.Native.Nat.{◌≤◌}
 use Rattle.sheet.specs.Types.{Fields}
 use Rattle.partners.specs.Naming.{Guess, Guides}
 use Rattle.buffers.specs.declared.Space.{Space}
-use Rattle.partners.proofs.Naming.{tried_here}
 use Rattle.partners.proofs.index.find_in_row.Given as goal
 
 abbrev pub invariant-loop-j : goal.invariant-loop-j

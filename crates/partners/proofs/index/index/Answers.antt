@@ -1,11 +1,4 @@
-use mathlib.Core.Path.{◌≡◌}
-use Prim.Native.Nat.{◌-◌}
 use native.Mathlib.Omega.{arith}
-use borrow.Author.Rules.{rules}
-use Rattle.sheet.specs.Types.{Fields}
-use Rattle.buffers.specs.Typed.{Chain}
-use Rattle.partners.specs.Naming.{Guess, Indexed}
-use Rattle.buffers.specs.declared.Space.{Space}
 use Rattle.partners.proofs.Naming.{guess_first, guess_next, guides_set}
 use Rattle.partners.proofs.index.index.Goals as goal
 

@@ -1,7 +1,6 @@
 use mathlib.Core.Path.{sym, subst}
 use Prim.Native.Nat.{ℕ}
 use Rattle.partners.specs.Naming.{Guess}
-use borrow.Author.Rules.{rules}
 use Rattle.partners.proofs.index.look_up.Goals as goal
 
 pub returns-then-j-gt0 : goal.returns-then-j-gt0

@@ -1,7 +1,5 @@
-use native.Mathlib.Omega.{arith}
-use borrow.Author.Rules.{rules}
 use Prim.Native.Nat.{◌-◌}
-use Rattle.partners.proofs.Naming.{Counted, same_arity, asks_past, arity_none, arity_short, arity_on}
+use Rattle.partners.proofs.Naming.{Counted}
 use Rattle.partners.proofs.names.are_as_many.Given as goal
 
 abbrev pub invariant-loop-low : goal.invariant-loop-low

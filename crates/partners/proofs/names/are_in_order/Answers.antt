@@ -1,8 +1,6 @@
-use Prim.Native.Nat.{◌-◌}
 use native.Mathlib.Omega.{arith}
-use borrow.Author.Rules.{rules}
 use Rattle.buffers.specs.Partners.{same_order}
-use Rattle.partners.proofs.Naming.{Ordered, label_short, asks_past, order_none, order_short, order_other, order-on}
+use Rattle.partners.proofs.Naming.{label_short, asks_past, order_none, order_short, order_other, order-on}
 use Rattle.partners.proofs.names.are_in_order.Goals as goal
 
 pub loop-low-init : goal.loop-low-init

@@ -1,5 +1,4 @@
 use Rattle.partners.proofs.Naming.{guides_none}
-use borrow.Author.Rules.{rules}
 use Rattle.partners.proofs.names.are_indexed.Goals as goal
 
 pub index-requires : goal.index-requires

@@ -1,7 +1,5 @@
 use Prim.Native.Nat.{◌-◌}
-use native.Mathlib.Omega.{arith}
-use borrow.Author.Rules.{rules}
-use Rattle.partners.proofs.Naming.{label_short, Matching, match_from, match_none, match_past, match-lack, match-on}
+use Rattle.partners.proofs.Naming.{Matching}
 use Rattle.partners.proofs.names.are_listed.Given as goal
 
 abbrev pub invariant-loop-low : goal.invariant-loop-low

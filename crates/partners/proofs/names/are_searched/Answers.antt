@@ -1,8 +1,5 @@
-use Prim.Native.Nat.{◌-◌, ◌≤◌}
 use native.Mathlib.Omega.{arith}
-use borrow.Author.Rules.{rules}
-use mathlib.Core.Path.{◌∙◌}
-use Rattle.partners.proofs.Naming.{label_short, Matching, match_from, match_none, match_rest, match_past, match-lack, match-on}
+use Rattle.partners.proofs.Naming.{label_short, match_from, match_none, match_rest, match_past, match-lack, match-on}
 use Rattle.partners.proofs.names.are_searched.Goals as goal
 
 pub loop-low-init : goal.loop-low-init

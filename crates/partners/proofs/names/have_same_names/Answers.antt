@@ -1,7 +1,6 @@
 use mathlib.Core.Path.{refl}
 use mathlib.Core.Bool.{true, false}
 use Rattle.partners.proofs.Noting.{matched_true}
-use borrow.Author.Rules.{rules}
 use Rattle.partners.proofs.names.have_same_names.Goals as goal
 
 pub returns-then-swap : goal.returns-then-swap

@@ -1,5 +1,4 @@
 use mathlib.Core.Path.{refl}
-use borrow.Author.Rules.{rules}
 use Rattle.partners.proofs.names.same_arity.Goals as goal
 
 pub returns-then-swap : goal.returns-then-swap

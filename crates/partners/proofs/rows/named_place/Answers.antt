@@ -1,5 +1,4 @@
 use Rattle.partners.proofs.Feeding.{row_no_place, row-named-place}
-use borrow.Author.Rules.{rules}
 use Rattle.partners.proofs.rows.named_place.Goals as goal
 
 pub returns-then-p-eq0 : goal.returns-then-p-eq0

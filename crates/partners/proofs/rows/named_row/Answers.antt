@@ -1,5 +1,4 @@
 use Rattle.partners.proofs.Feeding.{row_named}
-use borrow.Author.Rules.{rules}
 use Rattle.partners.proofs.rows.named_row.Goals as goal
 
 pub returns : goal.returns

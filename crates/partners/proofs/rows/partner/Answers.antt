@@ -1,5 +1,4 @@
 use Rattle.partners.proofs.Noting.{pairs_noted, pairs_searched}
-use borrow.Author.Rules.{rules}
 use Rattle.partners.proofs.rows.partner.Goals as goal
 
 pub returns-then-e-r : goal.returns-then-e-r

@@ -1,6 +1,5 @@
 use mathlib.Core.Path.{ap₂, ◌∙◌}
 use mathlib.Core.Bool.{Bool, ◌||◌}
-use borrow.Author.Rules.{rules}
 use Rattle.partners.proofs.rows.row_of.Goals as goal
 
 pub returns : goal.returns

@@ -1,5 +1,4 @@
 use Rattle.partners.proofs.Naming.{label_short}
-use borrow.Author.Rules.{rules}
 use Rattle.partners.proofs.rows.searched.Goals as goal
 
 pub find-requires : goal.find-requires

@@ -1,8 +1,6 @@
 use native.Mathlib.Omega.{arith}
-use borrow.Author.Rules.{rules}
 use mathlib.Core.Path.{sym, ◌∙◌}
-use Prim.Native.Nat.{◌-◌}
-use Rattle.partners.proofs.Naming.{Searched, finds_from, finds_none, finds_past, finds-here, finds-on}
+use Rattle.partners.proofs.Naming.{finds_from, finds_none, finds_past, finds-here, finds-on}
 use Rattle.partners.proofs.search.find.Goals as goal
 
 pub loop-floor-init : goal.loop-floor-init

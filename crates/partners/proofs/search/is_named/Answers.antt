@@ -4,7 +4,6 @@ use Prim.Native.Nat.{ℕ}
 use lib.Seq.{take-length}
 use Rattle.sheet.specs.Names.{same_bytes}
 use Rattle.sheet.specs.Read.{label_at}
-use borrow.Author.Rules.{rules}
 use Rattle.partners.proofs.search.is_named.Goals as goal
 
 pub returns : goal.returns

@@ -1,6 +1,5 @@
 use mathlib.Core.Path.{sym}
 use lib.ListN.{get_or-eq_default}
-use borrow.Author.Rules.{rules}
 use Rattle.partners.proofs.table.at.Goals as goal
 
 pub returns-else-k-table : goal.returns-else-k-table

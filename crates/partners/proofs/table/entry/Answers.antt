@@ -1,6 +1,5 @@
 use mathlib.Core.Path.{refl}
 use borrow.Author.Tests.{lt-ltb, le-ltb}
-use borrow.Author.Rules.{rules}
 use Rattle.partners.proofs.table.entry.Goals as goal
 
 pub returns-then-i-ge1024 : goal.returns-then-i-ge1024

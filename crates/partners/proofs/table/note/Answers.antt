@@ -1,7 +1,6 @@
 use borrow.Author.Tests.{lt-ltb, le-ltb}
 use mathlib.Core.Path.{refl}
 use lib.ListN.{length}
-use borrow.Author.Rules.{rules}
 use Rattle.partners.proofs.table.note.Goals as goal
 
 pub returns-then-r-lt65536 : goal.returns-then-r-lt65536

@@ -1,7 +1,6 @@
 use Rattle.buffers.specs.Plain.{rules_of}
 use Rattle.buffers.specs.declared.Question.TheVariants as Question
 use Rattle.resolution.proofs.Folding.{behind_null, behind_on}
-use borrow.Author.Rules.{rules}
 use Rattle.resolution.proofs.fold.fold_behind.Goals as goal
 
 pub returns-then-head_at-eq1 : goal.returns-then-head_at-eq1

@@ -4,7 +4,6 @@ use Rattle.buffers.specs.declared.Question.TheVariants as Question
 use Rattle.values.proofs.Valuing.{plain_valued}
 use Rattle.resolution.proofs.Folding.{entry_typed}
 use Rattle.resolution.proofs.Leaves.{folds_as}
-use borrow.Author.Rules.{rules}
 use Rattle.resolution.proofs.fold.fold_entry.Goals as goal
 
 pub returns-then-is_plain : goal.returns-then-is_plain

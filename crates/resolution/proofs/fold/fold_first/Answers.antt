@@ -1,17 +1,7 @@
 use native.Mathlib.Omega.{arith}
-use borrow.Author.Rules.{rules}
-use mathlib.Core.Path.{◌≡◌, refl, ◌∙◌}
-use mathlib.Core.Bool.{true}
-use mathlib.Core.List.{List}
-use Prim.Native.Nat.{ℕ, ◌-◌, ◌<◌}
-use lib.ListN.{length}
-use Rattle.coercion.specs.Answers.{fold_from}
-use Rattle.buffers.specs.Region.{Room}
+use mathlib.Core.Path.{refl}
 use Rattle.buffers.specs.Plain.{rules_of}
-use Rattle.buffers.specs.Typed.{Typed}
-use Rattle.buffers.specs.declared.Out.{Out}
 use Rattle.buffers.specs.declared.Question.TheVariants as Question
-use Rattle.resolution.specs.Reached.{Entry, Compared, Folds}
 use Rattle.resolution.proofs.Folding.{room_within, entry_typed, entry_right, folds_alone, folds_lost, folds_null, folds-on, folds-no, folds-full, not_compared, steps_as}
 use Rattle.resolution.proofs.fold.fold_first.Goals as goal
 

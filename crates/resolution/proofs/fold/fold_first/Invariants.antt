@@ -1,6 +1,4 @@
-use native.Mathlib.Omega.{arith}
-use borrow.Author.Rules.{rules}
-use mathlib.Core.Path.{◌≡◌, refl, ◌∙◌}
+use mathlib.Core.Path.{◌≡◌}
 use mathlib.Core.Bool.{true}
 use mathlib.Core.List.{List}
 use Prim.Native.Nat.{ℕ, ◌-◌, ◌<◌}
@@ -12,7 +10,6 @@ use Rattle.buffers.specs.Typed.{Typed}
 use Rattle.buffers.specs.declared.Out.{Out}
 use Rattle.buffers.specs.declared.Question.TheVariants as Question
 use Rattle.resolution.specs.Reached.{Entry, Compared, Folds}
-use Rattle.resolution.proofs.Folding.{room_within, entry_typed, entry_right, folds_alone, folds_lost, folds_null, folds-on, folds-no, folds-full, not_compared, steps_as}
 use Rattle.resolution.proofs.fold.fold_first.Given as goal
 
 abbrev pub invariant-loop-last : goal.invariant-loop-last

@@ -1,16 +1,9 @@
 use native.Mathlib.Omega.{arith}
-use mathlib.Core.Path.{◌≡◌, refl, ◌∙◌}
-use mathlib.Core.List.{List}
-use Prim.Native.Nat.{◌-◌, ◌<◌}
-use borrow.Author.Rules.{rules}
-use lib.ListN.{length}
-use Rattle.coercion.specs.Answers.{fold_from}
-use Rattle.buffers.specs.Region.{Room, region, Inside}
+use mathlib.Core.Path.{refl, ◌∙◌}
 use Rattle.buffers.specs.Plain.{rules_of}
 use Rattle.buffers.specs.declared.Question.TheVariants as Question
-use Rattle.values.specs.Keeps.{CoreIf}
 use Rattle.resolution.proofs.Shifting.{core_second, on_candidate}
-use Rattle.resolution.proofs.Folding.{FoldsOn, candidate_right, room_within, folds_end, folds_lost, folds_null, folds_kept, folds-on, folds-no, folds-full}
+use Rattle.resolution.proofs.Folding.{candidate_right, room_within, folds_end, folds_lost, folds_null, folds_kept, folds-on, folds-no, folds-full}
 use Rattle.resolution.proofs.fold.fold_from.Goals as goal
 
 pub loop-last-init : goal.loop-last-init
@@ -54,8 +47,7 @@ loop-last-smaller-else-not-keeps c =
     omega arith
 
 pub loop-last-preserved-else-not-keeps : goal.loop-last-preserved-else-not-keeps
-loop-last-preserved-else-not-keeps c =
-    (
+loop-last-preserved-else-not-keeps c = (
   c.loop-last.invariant.0,
   (
     c.loop-last.invariant.1.0,
@@ -71,8 +63,7 @@ loop-last-smaller c =
     omega arith
 
 pub loop-last-preserved : goal.loop-last-preserved
-loop-last-preserved c =
-    (
+loop-last-preserved c = (
   c.loop-last.invariant.0,
   (
     c.loop-last.invariant.1.0,

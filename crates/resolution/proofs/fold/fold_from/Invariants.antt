@@ -1,16 +1,12 @@
-use native.Mathlib.Omega.{arith}
-use mathlib.Core.Path.{◌≡◌, refl, ◌∙◌}
-use mathlib.Core.List.{List}
+use mathlib.Core.Path.{◌≡◌}
 use Prim.Native.Nat.{◌-◌, ◌<◌}
-use borrow.Author.Rules.{rules}
 use lib.ListN.{length}
 use Rattle.coercion.specs.Answers.{fold_from}
 use Rattle.buffers.specs.Region.{Room, region, Inside}
 use Rattle.buffers.specs.Plain.{rules_of}
 use Rattle.buffers.specs.declared.Question.TheVariants as Question
 use Rattle.values.specs.Keeps.{CoreIf}
-use Rattle.resolution.proofs.Shifting.{core_second, on_candidate}
-use Rattle.resolution.proofs.Folding.{FoldsOn, candidate_right, room_within, folds_end, folds_lost, folds_null, folds_kept, folds-on, folds-no, folds-full}
+use Rattle.resolution.proofs.Folding.{FoldsOn}
 use Rattle.resolution.proofs.fold.fold_from.Given as goal
 
 abbrev pub invariant-loop-last : goal.invariant-loop-last

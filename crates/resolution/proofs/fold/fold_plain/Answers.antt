@@ -1,19 +1,10 @@
 use native.Mathlib.Omega.{arith}
-use borrow.Author.Rules.{rules}
-use mathlib.Core.Path.{◌≡◌, refl, sym, ◌∙◌}
-use mathlib.Core.List.{List}
-use Prim.Native.Nat.{ℕ, ◌-◌, ◌<◌}
-use lib.ListN.{length}
-use Rattle.coercion.specs.Answers.{fold_from}
-use Rattle.buffers.specs.Region.{Room}
+use mathlib.Core.Path.{refl, sym, ◌∙◌}
 use Rattle.buffers.specs.Plain.{rules_of}
-use Rattle.buffers.specs.declared.Out.{Out}
 use Rattle.buffers.specs.declared.Question.TheVariants as Question
-use Rattle.resolution.specs.Reached.{Folds}
-use Rattle.values.specs.Value.{Valued}
 use Rattle.resolution.proofs.Folding.{folds_lost}
 use Rattle.values.proofs.Valuing.{leaf_low}
-use Rattle.values.proofs.Taking.{Absorbs, absorbs_none, absorbs_next}
+use Rattle.values.proofs.Taking.{absorbs_none, absorbs_next}
 use Rattle.resolution.proofs.Leaves.{folds_joined, folds_apart, folds_taken, not_null}
 use Rattle.resolution.proofs.fold.fold_plain.Goals as goal
 

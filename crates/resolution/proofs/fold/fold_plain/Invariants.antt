@@ -1,6 +1,4 @@
-use native.Mathlib.Omega.{arith}
-use borrow.Author.Rules.{rules}
-use mathlib.Core.Path.{◌≡◌, refl, sym, ◌∙◌}
+use mathlib.Core.Path.{◌≡◌}
 use mathlib.Core.List.{List}
 use Prim.Native.Nat.{ℕ, ◌-◌, ◌<◌}
 use lib.ListN.{length}
@@ -11,10 +9,7 @@ use Rattle.buffers.specs.declared.Out.{Out}
 use Rattle.buffers.specs.declared.Question.TheVariants as Question
 use Rattle.resolution.specs.Reached.{Folds}
 use Rattle.values.specs.Value.{Valued}
-use Rattle.resolution.proofs.Folding.{folds_lost}
-use Rattle.values.proofs.Valuing.{leaf_low}
-use Rattle.values.proofs.Taking.{Absorbs, absorbs_none, absorbs_next}
-use Rattle.resolution.proofs.Leaves.{folds_joined, folds_apart, folds_taken, not_null}
+use Rattle.values.proofs.Taking.{Absorbs}
 use Rattle.resolution.proofs.fold.fold_plain.Given as goal
 
 abbrev pub invariant-loop-last : goal.invariant-loop-last

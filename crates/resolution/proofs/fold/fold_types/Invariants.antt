@@ -1,6 +1,4 @@
-use native.Mathlib.Omega.{arith}
-use borrow.Author.Rules.{rules}
-use mathlib.Core.Path.{◌≡◌, refl, ◌∙◌}
+use mathlib.Core.Path.{◌≡◌}
 use mathlib.Core.List.{List}
 use Prim.Native.Nat.{ℕ, ◌-◌, ◌<◌}
 use lib.ListN.{length}
@@ -10,7 +8,6 @@ use Rattle.buffers.specs.Plain.{rules_of}
 use Rattle.buffers.specs.declared.Out.{Out}
 use Rattle.buffers.specs.declared.Question.TheVariants as Question
 use Rattle.resolution.specs.Reached.{Reached}
-use Rattle.resolution.proofs.Folding.{reached_empty, reached_lost, types_null, types_behind, behind_on, not_compared}
 use Rattle.resolution.proofs.fold.fold_types.Given as goal
 
 abbrev pub invariant-loop-last : goal.invariant-loop-last

@@ -1,7 +1,6 @@
 use Rattle.buffers.specs.Plain.{rules_of}
 use Rattle.buffers.specs.declared.Question.TheVariants as Question
 use Rattle.resolution.proofs.Leaves.{folds_written}
-use borrow.Author.Rules.{rules}
 use Rattle.resolution.proofs.fold.fold_written.Goals as goal
 
 pub returns : goal.returns

@@ -1,5 +1,4 @@
 use Rattle.resolution.proofs.Folding.{met}
-use borrow.Author.Rules.{rules}
 use Rattle.resolution.proofs.fold.meet.Goals as goal
 
 pub returns : goal.returns

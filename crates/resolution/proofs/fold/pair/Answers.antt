@@ -3,7 +3,6 @@ use mathlib.Core.Path.{refl, sym, ◌∙◌}
 use Rattle.buffers.specs.Plain.{rules_of}
 use Rattle.resolution.proofs.Folding.{not_compared, reached_empty, reached_lost, pair_one, pair_many, pair-on}
 use Rattle.resolution.proofs.Leaves.{steps_joined}
-use borrow.Author.Rules.{rules}
 use Rattle.resolution.proofs.fold.pair.Goals as goal
 
 pub returns-then-link-eq0 : goal.returns-then-link-eq0

@@ -1,5 +1,4 @@
 use Rattle.resolution.proofs.Folding.{stepped}
-use borrow.Author.Rules.{rules}
 use Rattle.resolution.proofs.fold.step.Goals as goal
 
 pub returns : goal.returns

@@ -7,7 +7,6 @@ use Rattle.values.proofs.Keeping.{equal_kept}
 use Rattle.resolution.proofs.Shifting.{on_candidate}
 use Rattle.resolution.proofs.Listing.{differ_equal}
 use Rattle.resolution.proofs.Folding.{steps_kept}
-use borrow.Author.Rules.{rules}
 use Rattle.resolution.proofs.fold.step_list.Goals as goal
 
 pub step_core-requires : goal.step_core-requires

@@ -1,5 +1,4 @@
 use Rattle.resolution.proofs.Leaves.{fronted}
-use borrow.Author.Rules.{rules}
 use Rattle.resolution.proofs.front.lay_front.Goals as goal
 
 pub returns : goal.returns

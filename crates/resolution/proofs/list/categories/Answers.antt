@@ -1,8 +1,6 @@
 use native.Mathlib.Omega.{arith}
-use borrow.Author.Rules.{rules}
-use Prim.Native.Nat.{◌-◌}
 use Rattle.resolution.specs.Reached.{seen_bits}
-use Rattle.resolution.proofs.Listing.{Onward, tells_past, seen_none, seen_on, seen_here}
+use Rattle.resolution.proofs.Listing.{tells_past, seen_none, seen_on, seen_here}
 use Rattle.resolution.proofs.list.categories.Goals as goal
 
 pub loop-last-init : goal.loop-last-init

@@ -1,5 +1,4 @@
 use Rattle.resolution.proofs.Listing.{fitting}
-use borrow.Author.Rules.{rules}
 use Rattle.resolution.proofs.list.is_fitting.Goals as goal
 
 pub returns : goal.returns

@@ -1,5 +1,4 @@
 use Rattle.resolution.proofs.Listing.{own_found}
-use borrow.Author.Rules.{rules}
 use Rattle.resolution.proofs.list.value_kind.Goals as goal
 
 pub returns-then-kind-lt37 : goal.returns-then-kind-lt37

@@ -2,7 +2,6 @@ use native.Mathlib.Omega.{arith}
 use mathlib.Core.Path.{sym}
 use lib.Seq.{length-take-le}
 use Rattle.resolution.proofs.Shifting.{mirrored}
-use borrow.Author.Rules.{rules}
 use Rattle.resolution.proofs.shift.mirror.Goals as goal
 
 pub slice_bounds-fill-end-2 : goal.slice_bounds-fill-end-2

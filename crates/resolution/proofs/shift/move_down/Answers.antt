@@ -1,7 +1,4 @@
 use native.Mathlib.Omega.{arith}
-use borrow.Author.Rules.{rules}
-use Prim.Native.Nat.{◌-◌, ◌≤◌}
-use Rattle.resolution.specs.Reached.{Moved}
 use Rattle.resolution.proofs.Shifting.{moved_none, moved_on, moved_all}
 use Rattle.resolution.proofs.shift.move_down.Goals as goal
 

@@ -1,8 +1,5 @@
-use native.Mathlib.Omega.{arith}
-use borrow.Author.Rules.{rules}
 use Prim.Native.Nat.{◌-◌, ◌≤◌}
 use Rattle.resolution.specs.Reached.{Moved}
-use Rattle.resolution.proofs.Shifting.{moved_none, moved_on, moved_all}
 use Rattle.resolution.proofs.shift.move_down.Given as goal
 
 abbrev pub invariant-loop-i : goal.invariant-loop-i

@@ -1,5 +1,4 @@
 use Rattle.resolution.proofs.Shifting.{moved_both}
-use borrow.Author.Rules.{rules}
 use Rattle.resolution.proofs.shift.shift.Goals as goal
 
 pub returns : goal.returns

@@ -1,7 +1,4 @@
-use Prim.Native.Nat.{ℕ, ◌-◌}
 use native.Mathlib.Omega.{arith}
-use borrow.Author.Rules.{rules}
-use Rattle.values.specs.Keeps.{CoreAt}
 use Rattle.values.proofs.Keeping.{core_past, core_here, core_lost, core_down}
 use Rattle.values.proofs.keep.core_at.Goals as goal
 

@@ -2,7 +2,6 @@ use mathlib.Core.Path.{sym, ◌∙◌}
 use borrow.Author.Tests.{not-true}
 use Rattle.sheet.proofs.Tests.{never}
 use Rattle.values.proofs.Keeping.{core_steps}
-use borrow.Author.Rules.{rules}
 use Rattle.values.proofs.keep.is_core_alone.Goals as goal
 
 pub returns-then-head_at-lt32 : goal.returns-then-head_at-lt32

@@ -4,7 +4,6 @@ use lib.Dec.{leb}
 use borrow.Author.Tests.{leb-true}
 use Rattle.sheet.proofs.Tests.{never, and_fst, and_snd}
 use Rattle.values.proofs.Keeping.{keeps-alone, keeps-under, keeps_zoned}
-use borrow.Author.Rules.{rules}
 use Rattle.values.proofs.keep.keeps.Goals as goal
 
 pub returns-then-not-wrapped : goal.returns-then-not-wrapped

@@ -1,4 +1,3 @@
-use borrow.Author.Rules.{rules}
 use Rattle.values.proofs.keep.lays_view.Goals as goal
 
 pub returns-in-Lay : goal.returns-in-Lay

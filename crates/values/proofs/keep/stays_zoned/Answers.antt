@@ -1,4 +1,3 @@
-use borrow.Author.Rules.{rules}
 use Rattle.values.proofs.keep.stays_zoned.Goals as goal
 
 pub returns : goal.returns

@@ -1,6 +1,5 @@
 use mathlib.Core.Path.{sym, ◌∙◌}
 use borrow.Author.Tests.{eq-eqb, ne_eqb}
-use borrow.Author.Rules.{rules}
 use Rattle.values.proofs.taken.is_taken.Goals as goal
 
 pub returns-then-x-eq1 : goal.returns-then-x-eq1

@@ -1,6 +1,5 @@
 use mathlib.Core.Path.{sym, ◌∙◌}
 use mathlib.Core.Bool.{true}
-use borrow.Author.Rules.{rules}
 use Rattle.values.proofs.taken.taken_kinds.Goals as goal
 
 pub returns-then-not-is_same : goal.returns-then-not-is_same

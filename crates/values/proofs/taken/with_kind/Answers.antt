@@ -2,7 +2,6 @@ use mathlib.Core.Path.{ap}
 use Prim.Native.Nat.{ℕ}
 use lib.Bits.{bit_or}
 use Rattle.values.proofs.Taking.{bit_moved}
-use borrow.Author.Rules.{rules}
 use Rattle.values.proofs.taken.with_kind.Goals as goal
 
 pub returns : goal.returns

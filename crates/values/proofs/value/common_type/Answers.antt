@@ -1,6 +1,5 @@
 use Rattle.buffers.specs.Plain.{rules_of}
 use Rattle.values.proofs.Valuing.{joins_same, joins_rule}
-use borrow.Author.Rules.{rules}
 use Rattle.values.proofs.value.common_type.Goals as goal
 
 pub returns-then-is_same : goal.returns-then-is_same

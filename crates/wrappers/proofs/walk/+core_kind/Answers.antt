@@ -1,7 +1,5 @@
 use native.Mathlib.Omega.{arith}
-use borrow.Author.Rules.{rules}
 use Rattle.wrappers.proofs.Walking.{core_spent, core_down, core_found, core_strange}
-use Prim.Native.Nat.{ℕ, ◌<◌}
 use Rattle.wrappers.proofs.walk.+core_kind.Goals as goal
 
 pub returns-then-left-eq0 : goal.returns-then-left-eq0

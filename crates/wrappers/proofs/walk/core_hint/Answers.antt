@@ -2,7 +2,6 @@ use mathlib.Core.Bool.{Bool, cond, ◌||◌}
 use lib.Dec.{eqb}
 use mathlib.Core.Path.{refl, ap, ◌∙◌}
 use borrow.Author.Tests.{eq-eqb, ne_eqb}
-use borrow.Author.Rules.{rules}
 use Rattle.wrappers.proofs.walk.core_hint.Goals as goal
 
 pub returns-then-k-eq1 : goal.returns-then-k-eq1

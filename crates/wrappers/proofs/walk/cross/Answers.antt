@@ -1,6 +1,5 @@
 use mathlib.Core.Path.{refl}
 use borrow.Author.Tests.{eq-eqb, ne_eqb}
-use borrow.Author.Rules.{rules}
 use Rattle.wrappers.proofs.walk.cross.Goals as goal
 
 pub returns-then-hint-eq0 : goal.returns-then-hint-eq0

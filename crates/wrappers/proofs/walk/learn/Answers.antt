@@ -1,5 +1,4 @@
 use Rattle.wrappers.proofs.Walking.{learns_known, learns-found, learns_none}
-use borrow.Author.Rules.{rules}
 use Rattle.wrappers.proofs.walk.learn.Goals as goal
 
 pub returns-then-hint-ne0 : goal.returns-then-hint-ne0

@@ -1,5 +1,4 @@
 use Rattle.wrappers.proofs.Walking.{meets_needed, meets_spared}
-use borrow.Author.Rules.{rules}
 use Rattle.wrappers.proofs.walk.meets_if.Goals as goal
 
 pub returns-then-needed : goal.returns-then-needed

@@ -1,6 +1,5 @@
 use mathlib.Core.Path.{sym, ◌∙◌}
 use Rattle.wrappers.proofs.Walking.{way_left, way_right, way_straight}
-use borrow.Author.Rules.{rules}
 use Rattle.wrappers.proofs.walk.way.Goals as goal
 
 pub returns-then-both : goal.returns-then-both

@@ -1,5 +1,4 @@
 use Rattle.wrappers.proofs.Walking.{wrappers_left, wrappers_right, wrappers_all}
-use borrow.Author.Rules.{rules}
 use Rattle.wrappers.proofs.walk.wrappers_may.Goals as goal
 
 pub returns-then-hint-eq2 : goal.returns-then-hint-eq2
