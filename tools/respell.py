@@ -54,6 +54,8 @@ APART = {
 }
 # What port.py respelled, and pages name.
 IN_PAGES = ["listedAt", "firstAt", "nextAt", "nameAt", "entryAt", "kindOf", "answerOf", "isPlain", "isTaken", "wayOf", "one-way", "plainOf"]
+# Names of the library that stand at the head of a line.
+OF_THE_LIBRARY = {"length-append"}
 # Facts that were spelled as values.
 FACTS = {"holdsAll": "HoldsAll"}
 
@@ -88,7 +90,7 @@ def declared():
             continue
         for line in read(path).split("\n"):
             line = re.sub(r"(?<!\S)--.*", "", line)
-            at = re.match(r"^ {0,4}(?:(?:abbrev|unfoldable|opaque|pub|record|data) )*([^\s:(){}]+) .*", line)
+            at = re.match(r"^ *(?:(?:abbrev|unfoldable|opaque|pub|record|data) )*([^\s:(){}]+) .*", line)
             if at and " : " in line or at and re.match(r"^(?:pub )?(?:record|data) ", line):
                 found[at[1]].add(path)
     return found
@@ -150,7 +152,7 @@ def turned(text, path, table):
 def main():
     names = declared()
     table = {it: snake(it) for it in names if turns(it) or it in APART or it in FACTS}
-    table = {a: b for a, b in table.items() if a != b}
+    table = {a: b for a, b in table.items() if a != b and a not in OF_THE_LIBRARY}
     by_new = collections.defaultdict(list)
     for it in names:
         by_new[table.get(it, it)].append(it)

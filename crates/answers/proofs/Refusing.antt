@@ -110,11 +110,11 @@ module _ (q : Question) (s : List ℕ) (mask o w : ℕ) where
     later_pair h = rw (right, h)
 
     module _ (two : bad_pair q s ≡ false) where
-      pub later-short : is_short (length s) o w ≡ true → 8 ≡ later_refusal q s mask o w
-      later-short h = rw (right, two, h)
+      pub later_short : is_short (length s) o w ≡ true → 8 ≡ later_refusal q s mask o w
+      later_short h = rw (right, two, h)
 
-      pub later-none : is_short (length s) o w ≡ false → 0 ≡ later_refusal q s mask o w
-      later-none h = rw (right, two, h)
+      pub later_none : is_short (length s) o w ≡ false → 0 ≡ later_refusal q s mask o w
+      later_none h = rw (right, two, h)
 
 -- a condition that is not met leaves the others
 pass : (b : Bool) (n x y z : ℕ) → cond b (suc n) x ≡ 0 → (x ≡ 0 → y ≡ z) → cond b (suc n) y ≡ z

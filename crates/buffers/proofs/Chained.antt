@@ -90,20 +90,20 @@ module _ (space : Space) (s : List ℕ) (swap : Bool) (link : ℕ) (to : Spot) w
 
     module _ (v : List ℕ) (d : Spot) (c : CopiedRecord space (side swap s w) w v link to (Done d)) where
       -- the same links, after the record was written
-      first-held : {floor r o up : ℕ} {name : List ℕ} {nullable : Bool} {shape : Shape} {parts rest : Fields}
+      first_held : {floor r o up : ℕ} {name : List ℕ} {nullable : Bool} {shape : Shape} {parts rest : Fields}
           → Held space (side swap s w) floor link r o up (field name nullable shape parts rest)
           → Held space (side swap s v) link h.first (r + 1) (o + length (own_labels name shape)) shape.kind parts
-      first-held a = held_side swap space s w v to.at to.label room.half c.kept (held_first a h eh)
+      first_held a = held_side swap space s w v to.at to.label room.half c.kept (held_first a h eh)
 
-      next-held : (u : List ℕ) → Kept space v u d.at d.label → {floor r o up : ℕ} {name : List ℕ} {nullable : Bool} {shape : Shape} {parts rest : Fields}
+      next_held : (u : List ℕ) → Kept space v u d.at d.label → {floor r o up : ℕ} {name : List ℕ} {nullable : Bool} {shape : Shape} {parts rest : Fields}
           → Held space (side swap s w) floor link r o up (field name nullable shape parts rest)
           → Held space (side swap s u) link h.next (r + 1 + count parts) (o + length (own_labels name shape) + length (labels parts)) up rest
-      next-held u k a =
+      next_held u k a =
           held_side swap space s v u d.at d.label room.half k (held_side swap space s w v to.at to.label room.half c.kept (held_next a h eh))
 
-      pub chain-parts-full : (u : List ℕ) → CopiedChain space (side swap s v) v u h.first d Full → CopiedChain space (side swap s w) w u link to Full
+      pub chain_parts_full : (u : List ℕ) → CopiedChain space (side swap s v) v u h.first d Full → CopiedChain space (side swap s w) w u link to Full
       unfolding count
-      chain-parts-full u b =
+      chain_parts_full u b =
           record {
             kept = kept_trans c.kept (kept_wider to.at to.label c.grows.1.0 c.grows.1.1 b.kept);
             grows = tt;
@@ -115,35 +115,35 @@ module _ (space : Space) (s : List ℕ) (swap : Bool) (link : ℕ) (to : Spot) w
           go floor r o up (field name nullable shape parts rest) a =
               let m = c.means floor r o up name nullable shape parts rest a in
               let l = labels_sum name nullable shape parts rest in
-              ⊎_elim (λ x. inl (omega (arith, m.0))) (λ x. inr (omega (arith, m.1.0, l))) (b.means link (r + 1) _ shape.kind parts (first-held a))
+              ⊎_elim (λ x. inl (omega (arith, m.0))) (λ x. inr (omega (arith, m.1.0, l))) (b.means link (r + 1) _ shape.kind parts (first_held a))
 
       module _ (u : List ℕ) (e : Spot) (b : CopiedChain space (side swap s v) v u h.first d (Done e)) where
-        kept-2 : Kept space w u to.at to.label
-        kept-2 = kept_trans c.kept (kept_wider to.at to.label c.grows.1.0 c.grows.1.1 b.kept)
+        kept_2 : Kept space w u to.at to.label
+        kept_2 = kept_trans c.kept (kept_wider to.at to.label c.grows.1.0 c.grows.1.1 b.kept)
 
-        kept-3 : (x : List ℕ) → Kept space u x e.at e.label → Kept space w x to.at to.label
-        kept-3 x k =
-            kept_trans kept-2
+        kept_3 : (x : List ℕ) → Kept space u x e.at e.label → Kept space w x to.at to.label
+        kept_3 x k =
+            kept_trans kept_2
             (kept_wider to.at to.label (omega (arith, c.grows.1.0, b.grows.1.0)) (omega (arith, c.grows.1.1, b.grows.1.1)) k)
 
-        rest-full : (x : List ℕ) → CopiedChain space (side swap s u) u x h.next e Full → CopiedChain space (side swap s w) w x link to Full
+        rest_full : (x : List ℕ) → CopiedChain space (side swap s u) u x h.next e Full → CopiedChain space (side swap s w) w x link to Full
         unfolding count
-        rest-full x k = record { kept = kept-3 x k.kept; grows = tt; means = go }
+        rest_full x k = record { kept = kept_3 x k.kept; grows = tt; means = go }
           where
             go : (floor r o up : ℕ) (t : Fields) → Held space (side swap s w) floor link r o up t → Short space to (count t) (length (labels t))
             go floor r o up end a = absurd (z a.source.leads.is)
             go floor r o up (field name nullable shape parts rest) a =
                 let m = c.means floor r o up name nullable shape parts rest a in
-                let p = b.means link (r + 1) _ shape.kind parts (first-held a) in
+                let p = b.means link (r + 1) _ shape.kind parts (first_held a) in
                 let l = labels_sum name nullable shape parts rest in
                 ⊎_elim (λ y. inl (omega (arith, m.0, p.records))) (λ y. inr (omega (arith, m.1.0, p.letters, l)))
-                (k.means link (r + 1 + count parts) _ up rest (next-held u b.kept a))
+                (k.means link (r + 1 + count parts) _ up rest (next_held u b.kept a))
 
-        rest-done : (x : List ℕ) (f : Spot) → CopiedChain space (side swap s u) u x h.next e (Done f) → CopiedChain space (side swap s w) w x link to (Done f)
+        rest_done : (x : List ℕ) (f : Spot) → CopiedChain space (side swap s u) u x h.next e (Done f) → CopiedChain space (side swap s w) w x link to (Done f)
         unfolding count
-        rest-done x f k =
+        rest_done x f k =
             record {
-              kept = kept-3 x k.kept;
+              kept = kept_3 x k.kept;
               grows = (k.grows.0, (omega (arith, c.grows.1.0, b.grows.1.0, k.grows.1.0), omega (arith, c.grows.1.1, b.grows.1.1, k.grows.1.1)));
               means = go;
             }
@@ -152,8 +152,8 @@ module _ (space : Space) (s : List ℕ) (swap : Bool) (link : ℕ) (to : Spot) w
             go floor r o up end a = absurd (z a.source.leads.is)
             go floor r o up (field name nullable shape parts rest) a =
                 let m = c.means floor r o up name nullable shape parts rest a in
-                let p = b.means link (r + 1) _ shape.kind parts (first-held a) in
-                let q = k.means link (r + 1 + count parts) _ up rest (next-held u b.kept a) in
+                let p = b.means link (r + 1) _ shape.kind parts (first_held a) in
+                let q = k.means link (r + 1 + count parts) _ up rest (next_held u b.kept a) in
                 let l = labels_sum name nullable shape parts rest in
                 let ed : d.at ≡ to.at + 1 = m.0 in
                 let el : d.label ≡ to.label + length (own_labels name shape) = m.1.0 in
@@ -175,10 +175,10 @@ module _ (space : Space) (s : List ℕ) (swap : Bool) (link : ℕ) (to : Spot) w
                   );
                 }
 
-        pub chain-on : (o : Out) (x : List ℕ) → CopiedChain space (side swap s u) u x h.next e o → CopiedChain space (side swap s w) w x link to o
-        chain-on (Done f) x k = rest-done x f k
-        chain-on No x k = absurd k.means
-        chain-on Full x k = rest-full x k
+        pub chain_on : (o : Out) (x : List ℕ) → CopiedChain space (side swap s u) u x h.next e o → CopiedChain space (side swap s w) w x link to o
+        chain_on (Done f) x k = rest_done x f k
+        chain_on No x k = absurd k.means
+        chain_on Full x k = rest_full x k
 
 -- the same, as the loop over a chain has it
 module _ (space : Space) (s : List ℕ) (swap : Bool) (link : ℕ) (to : Spot) (w : List ℕ) (room : Room w space) (h : Head) (eh : h ≡ head_at (side swap s w) link) (z : ¬ (link ≡ 0)) where
@@ -192,17 +192,17 @@ module _ (space : Space) (s : List ℕ) (swap : Bool) (link : ℕ) (to : Spot) (
         → CopiedChain space (side swap s w) w u link to Full
     chain_parts_stop u (Done e) k b = absurd (k e refl)
     chain_parts_stop u No k b = absurd b.means
-    chain_parts_stop u Full k b = chain-parts-full space s swap link to w room h eh z v d c u b
+    chain_parts_stop u Full k b = chain_parts_full space s swap link to w room h eh z v d c u b
 
     -- nothing follows the record
     pub chain_last : h.next ≡ 0 → (o : Out) (u : List ℕ) → CopiedChain space (side swap s v) v u h.first d o → CopiedChain space (side swap s w) w u link to o
-    chain_last q (Done e) u b = chain-on space s swap link to w room h eh z v d c u e b (Done e) u (chain_none space s swap h.next e u b.grows.0 q)
+    chain_last q (Done e) u b = chain_on space s swap link to w room h eh z v d c u e b (Done e) u (chain_none space s swap h.next e u b.grows.0 q)
     chain_last q No u b = absurd b.means
-    chain_last q Full u b = chain-parts-full space s swap link to w room h eh z v d c u b
+    chain_last q Full u b = chain_parts_full space s swap link to w room h eh z v d c u b
 
     -- the record has no parts
     pub chain_plain : h.first ≡ 0 → (o : Out) (x : List ℕ) → CopiedChain space (side swap s v) v x h.next d o → CopiedChain space (side swap s w) w x link to o
-    chain_plain q o x k = chain-on space s swap link to w room h eh z v d c v d (chain_none space s swap h.first d v c.grows.0 q) o x k
+    chain_plain q o x k = chain_on space s swap link to w room h eh z v d c v d (chain_none space s swap h.first d v c.grows.0 q) o x k
 
 -- a turn of that loop: what is copied from link on gives what is copied from start on
 pub record Left (space : Space) (s : List ℕ) (swap : Bool) (start : ℕ) (to : Spot) (w₀ w : List ℕ) (link : ℕ) (spot : Spot) : Type 0 where

@@ -246,13 +246,13 @@ module _ (space : Space) (s w : List ℕ) (swap : Bool) (h : Head) (link : ℕ) 
 
     module _ {floor r o up : ℕ} {name : List ℕ} {nullable : Bool} {shape : Shape} {parts rest : Fields}
         (a : Held space (side swap s w) floor link r o up (field name nullable shape parts rest)) where
-      held-1 : Held space (side swap s v₁) floor link r o up (field name nullable shape parts rest)
-      held-1 = held_side swap space s w v₁ to.at to.label room.half put_kept a
+      held_1 : Held space (side swap s v₁) floor link r o up (field name nullable shape parts rest)
+      held_1 = held_side swap space s w v₁ to.at to.label room.half put_kept a
 
-      head-1 : h ≡ head_at (side swap s v₁) link
-      head-1 =
+      head_1 : h ≡ head_at (side swap s v₁) link
+      head_1 =
           head_is (side swap s w) space.n floor link r o name nullable shape parts rest a.source.leads h e
-          ∙ sym (head_is (side swap s v₁) space.n floor link r o name nullable shape parts rest held-1.source.leads (head_at (side swap s v₁) link) refl)
+          ∙ sym (head_is (side swap s v₁) space.n floor link r o name nullable shape parts rest held_1.source.leads (head_at (side swap s v₁) link) refl)
 
       named : Named space v₁ goal name
       named =
@@ -264,9 +264,9 @@ module _ (space : Space) (s w : List ℕ) (swap : Bool) (h : Head) (link : ℕ) 
                 (subst (λ (u : List ℕ). Span v₁ (space.half + 16 * space.n + to.label) u) (read_name a.source h e) p.span));
           }
 
-      next-is : next ≡ link_to (to.at + 1 + count parts) rest
+      next_is : next ≡ link_to (to.at + 1 + count parts) rest
       unfolding count
-      next-is =
+      next_is =
           en
           ∙ ap₂ (λ (x l : ℕ). moved_link x l to.at)
           (ap (λ (x : Head). x.next) (head_is (side swap s w) space.n floor link r o name nullable shape parts rest a.source.leads h e)
@@ -282,14 +282,14 @@ module _ (space : Space) (s w : List ℕ) (swap : Bool) (h : Head) (link : ℕ) 
           further = c.passes.1.0;
           means =
               λ floor r o up name nullable shape parts rest a.
-              let m = c.means.1 floor r o up name nullable shape parts rest (held-1 a) (head-1 a) in
+              let m = c.means.1 floor r o up name nullable shape parts rest (held_1 a) (head_1 a) in
               let l = length-append name (zone_bytes shape.zone) in
               let st = m.1 name (named a) in (
                 c.means.0,
                 (
                   omega (arith, m.0, l, name_long a),
                   subst₂ (λ (y : Bool) (k : ℕ). Stands (region space v) space.n to.at to.label name y shape (link_to (to.at + 1) parts) k)
-                      (eb ∙ read_nullable a.source h e) (next-is a) st,
+                      (eb ∙ read_nullable a.source h e) (next_is a) st,
                 ),
               );
         }
@@ -301,5 +301,5 @@ module _ (space : Space) (s w : List ℕ) (swap : Bool) (h : Head) (link : ℕ) 
           further = tt;
           means =
               λ floor r o up name nullable shape parts rest a.
-              omega (arith, c.means floor r o up name nullable shape parts rest (held-1 a) (head-1 a), length-append name (zone_bytes shape.zone), name_long a);
+              omega (arith, c.means floor r o up name nullable shape parts rest (held_1 a) (head_1 a), length-append name (zone_bytes shape.zone), name_long a);
         }

@@ -183,17 +183,17 @@ module _ (space : Space) (s w : List ℕ) (swap : Bool) (link : ℕ) (g : Goal) 
         }
 
     module _ (v : List ℕ) (d : Spot) (c : CopiedHead space (side swap s w) w v h link g 0 (Done d)) where
-      fields-held : {floor r off up : ℕ} {name : List ℕ} {nullable : Bool} {shape : Shape} {parts rest : Fields}
+      fields_held : {floor r off up : ℕ} {name : List ℕ} {nullable : Bool} {shape : Shape} {parts rest : Fields}
           → Held space (side swap s w) floor link r off up (field name nullable shape parts rest)
           → Held space (side swap s v) link h.first (r + 1) (off + length (own_labels name shape)) shape.kind parts
-      fields-held a = held_side swap space s w v g.at (g.label + g.nlen) room.half c.kept (held_first a h e)
+      fields_held a = held_side swap space s w v g.at (g.label + g.nlen) room.half c.kept (held_first a h e)
 
       kept : (u : List ℕ) → Kept space v u d.at d.label → Kept space w u g.at (g.label + g.nlen)
       kept u k = kept_trans c.kept (kept_wider g.at (g.label + g.nlen) (omega (arith, c.passes.1.0)) c.passes.1.1 k)
 
-      pub type-copied : (u : List ℕ) (o : Out) → CopiedChain space (side swap s v) v u h.first d o → CopiedType space (side swap s w) w u link g o
+      pub type_copied : (u : List ℕ) (o : Out) → CopiedChain space (side swap s v) v u h.first d o → CopiedType space (side swap s w) w u link g o
       unfolding count labels
-      type-copied u (Done f) b =
+      type_copied u (Done f) b =
           record {
             writes =
                 record {
@@ -203,7 +203,7 @@ module _ (space : Space) (s w : List ℕ) (swap : Bool) (link : ℕ) (g : Goal) 
             means =
                 λ floor r off up name nullable shape parts rest a own nm.
                 let m = c.means.1 floor r off up name nullable shape parts rest a e in
-                let q = b.means link (r + 1) _ shape.kind parts (fields-held a) in
+                let q = b.means link (r + 1) _ shape.kind parts (fields_held a) in
                 let l = length-append own (zone_bytes shape.zone) in
                 let l' = length-append (own ++ zone_bytes shape.zone) (labels parts ++ []) in
                 let l'' = length-append (labels parts) [] in
@@ -218,12 +218,12 @@ module _ (space : Space) (s w : List ℕ) (swap : Bool) (link : ℕ) (g : Goal) 
                   );
                 };
           }
-      type-copied u No b = absurd b.means
-      type-copied u Full b =
+      type_copied u No b = absurd b.means
+      type_copied u Full b =
           record {
             writes = record { kept = kept u b.kept; passes = tt };
             means =
                 λ floor r off up name nullable shape parts rest a.
                 let m = c.means.1 floor r off up name nullable shape parts rest a e in
-                ⊎_elim (λ x. inl (omega (arith, c.means.0))) (λ x. inr (omega (arith, m.0))) (b.means link (r + 1) _ shape.kind parts (fields-held a));
+                ⊎_elim (λ x. inl (omega (arith, c.means.0))) (λ x. inr (omega (arith, m.0))) (b.means link (r + 1) _ shape.kind parts (fields_held a));
           }

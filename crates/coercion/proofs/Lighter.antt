@@ -190,9 +190,9 @@ module _ (a : List ℕ → ℕ) (b : Zone → ℕ) (scales : Scales a b) where
         }))
 
     module _ (l r : DataType) (hl : TypeApart l) (hr : TypeApart r) where
-      wrapper-light : (k : ℕ) → If (Lighter l r) (wrapper_coercion k c l r)
+      wrapper_light : (k : ℕ) → If (Lighter l r) (wrapper_coercion k c l r)
       unfolding wrapper_coercion
-      wrapper-light k =
+      wrapper_light k =
           let P = If (Lighter l r) in
           let vl = value_held l.parts hl.1 in
           let vr = value_held r.parts hr.1 in
@@ -217,9 +217,9 @@ module _ (a : List ℕ → ℕ) (b : Zone → ℕ) (scales : Scales a b) where
         apart : Apart t
         once : repeats t ≡ false
 
-      struct-of-light : (o : Option Fields) → If Made o → If (Lighter l r) (struct_of o)
-      struct-of-light none h = tt
-      struct-of-light (some f) h =
+      struct_of_light : (o : Option Fields) → If Made o → If (Lighter l r) (struct_of o)
+      struct_of_light none h = tt
+      struct_of_light (some f) h =
           record {
             light = omega (arith, h.light, scales.least l.shape.zone, scales.least r.shape.zone);
             apart = (record { own = λ e. h.once }, h.apart);
@@ -230,40 +230,40 @@ module _ (a : List ℕ → ℕ) (b : Zone → ℕ) (scales : Scales a b) where
           if_weak (Joined l.parts f) Made (join_fields c l.parts f s) (join_light l.parts f s hl.1 k)
           (λ t g. record { light = omega (arith, g.light); apart = g.apart; once = g.repeated ∙ d })
 
-      struct-light : If (Lighter l r) (struct_coercion c l r)
+      struct_light : If (Lighter l r) (struct_coercion c l r)
       unfolding struct_coercion partners
-      struct-light =
+      struct_light =
           if_cond (Lighter l r) (is_of Kind.struct l && (is_of Kind.struct r && eqb (arity l.parts) (arity r.parts))) _ none
           (λ e. let d = hl.0.own (and_fst (is_of Kind.struct l) _ e) in
-          struct-of-light (and_then (partners l.parts r.parts) (λ fields. join_fields c l.parts fields fields))
+          struct_of_light (and_then (partners l.parts r.parts) (λ fields. join_fields c l.parts fields fields))
           (if_then (λ f. (weigh a b f ≤ weigh a b r.parts) × Apart f) Made (partners l.parts r.parts) (λ fields. join_fields c l.parts fields fields)
           (if_cond _ (fields_have_same_names l.parts r.parts) (by_name l.parts r.parts) (some r.parts)
           (λ e. by_name_lem a b l.parts r.parts d hr.1) (λ e. (omega arith, hr.1)))
           (λ f g. joined_made f f d g.0 g.1)))
           (λ e. tt)
 
-      list-struct-light : is_of Kind.struct l ≡ true → If (Lighter l r) (list_struct c l r)
-      list-struct-light e =
+      list_struct_light : is_of Kind.struct l ≡ true → If (Lighter l r) (list_struct c l r)
+      list_struct_light e =
           if_cond (Lighter l r) (eqb (arity l.parts) (arity r.parts)) _ none
-          (λ e'. struct-of-light (and_then (by_name l.parts r.parts) (λ fields. join_fields c l.parts fields r.parts))
+          (λ e'. struct_of_light (and_then (by_name l.parts r.parts) (λ fields. join_fields c l.parts fields r.parts))
           (if_then (λ f. (weigh a b f ≤ weigh a b r.parts) × Apart f) Made (by_name l.parts r.parts) (λ fields. join_fields c l.parts fields r.parts)
           (by_name_lem a b l.parts r.parts (hl.0.own e) hr.1) (λ f g. joined_made f r.parts (hl.0.own e) g.0 g.1)))
           (λ e'. tt)
 
-      list-of-light : (shape : Shape) → b shape.zone ≡ b absent → eqb shape.kind Kind.struct ≡ false → (o : Option Fields)
+      list_of_light : (shape : Shape) → b shape.zone ≡ b absent → eqb shape.kind Kind.struct ≡ false → (o : Option Fields)
           → If (Joined l.parts r.parts) o → If (Lighter l r) (list_of shape o)
-      list-of-light shape z ne none h = tt
-      list-of-light shape z ne (some f) h =
+      list_of_light shape z ne none h = tt
+      list_of_light shape z ne (some f) h =
           record {
             light = omega (arith, h.light, scales.least l.shape.zone, scales.least r.shape.zone);
             apart = (record { own = λ e. never (sym ne ∙ e) }, h.apart);
           }
 
-      list-light : If (Lighter l r) (list_coercion c l r)
+      list_light : If (Lighter l r) (list_coercion c l r)
       unfolding list_coercion
-      list-light =
+      list_light =
           if_cond (Lighter l r) (is_list l.shape.kind && is_list r.shape.kind) _ none
-          (λ e. list-of-light (list_shape l.shape r.shape) bare.0 bare.1 (join_fields c l.parts r.parts r.parts)
+          (λ e. list_of_light (list_shape l.shape r.shape) bare.0 bare.1 (join_fields c l.parts r.parts r.parts)
           (join_light l.parts r.parts r.parts hl.1 hr.1))
           (λ e. tt)
         where
@@ -276,13 +276,13 @@ module _ (a : List ℕ → ℕ) (b : Zone → ℕ) (scales : Scales a b) where
               (cond_is P (eqb l.shape.size r.shape.size) _ _ (refl, refl) (refl, refl))
               (cond_is P (eqb l.shape.kind Kind.large_list || eqb r.shape.kind Kind.large_list) _ _ (refl, refl) (refl, refl))
 
-      both-light : (p q : Fields) → Apart p → Apart q → weigh a b p ≤ weigh a b l.parts → weigh a b q ≤ weigh a b r.parts
+      both_light : (p q : Fields) → Apart p → Apart q → weigh a b p ≤ weigh a b l.parts → weigh a b q ≤ weigh a b r.parts
           → eqb l.shape.kind Kind.struct ≡ false → If (Lighter l r) (both_parts c l p q)
-      both-light end q h k g m ne = tt
-      both-light (field n₁ d₁ s₁ p₁ end) q h k g m ne = tt
-      both-light (field n₁ d₁ s₁ p₁ (field n₂ d₂ s₂ p₂ q₁)) end h k g m ne = tt
-      both-light (field n₁ d₁ s₁ p₁ (field n₂ d₂ s₂ p₂ q₁)) (field m₁ c₁ t₁ u₁ end) h k g m ne = tt
-      both-light (field n₁ d₁ s₁ p₁ (field n₂ d₂ s₂ p₂ q₁)) (field m₁ c₁ t₁ u₁ (field m₂ c₂ t₂ u₂ v₁)) h k g m ne =
+      both_light end q h k g m ne = tt
+      both_light (field n₁ d₁ s₁ p₁ end) q h k g m ne = tt
+      both_light (field n₁ d₁ s₁ p₁ (field n₂ d₂ s₂ p₂ q₁)) end h k g m ne = tt
+      both_light (field n₁ d₁ s₁ p₁ (field n₂ d₂ s₂ p₂ q₁)) (field m₁ c₁ t₁ u₁ end) h k g m ne = tt
+      both_light (field n₁ d₁ s₁ p₁ (field n₂ d₂ s₂ p₂ q₁)) (field m₁ c₁ t₁ u₁ (field m₂ c₂ t₂ u₂ v₁)) h k g m ne =
           let x₁ : DataType = record { shape = s₁; parts = p₁ } in
           let y₁ : DataType = record { shape = t₁; parts = u₁ } in
           let x₂ : DataType = record { shape = s₂; parts = p₂ } in
@@ -301,7 +301,7 @@ module _ (a : List ℕ → ℕ) (b : Zone → ℕ) (scales : Scales a b) where
         if_cond (Lighter l r) (is_of Kind.map l && is_of Kind.map r) _ none
         (λ e. if_then (Entry l.parts) (Lighter l r) (entry_type l.parts) _ (entry_held l.parts hl.1)
         (λ x g. if_then (Entry r.parts) (Lighter l r) (entry_type r.parts) _ (entry_held r.parts hr.1)
-        (λ y m. if_then (Lighter x y) (Lighter l r) (struct_coercion c x y) _ (struct-light x y g.apart m.apart)
+        (λ y m. if_then (Lighter x y) (Lighter l r) (struct_coercion c x y) _ (struct_light x y g.apart m.apart)
         (λ t i.
         record {
           light = omega (arith, g.swap t, m.light, i.light, scales.least l.shape.zone, scales.least r.shape.zone);
@@ -317,29 +317,29 @@ module _ (a : List ℕ → ℕ) (b : Zone → ℕ) (scales : Scales a b) where
         (λ u i. if_weak (Swapped d v u) (Lighter d other) (make d u) (g.1 u i.apart) (λ t j. record { light = omega (arith, i.light, j.swap); apart = j.apart })))
 
     module _ (rules : Rules) (l r : DataType) (hl : TypeApart l) (hr : TypeApart r) where
-      pair-light : If (Lighter l r) (first_of (pair_rules rules c l r))
-      pair-light =
+      pair_light : If (Lighter l r) (first_of (pair_rules rules c l r))
+      pair_light =
           if_first (Lighter l r) (pair_rules rules c l r)
           (alike_light l r hl hr
           also as_light l r (binary_numeric_coercion (figures_of l) (figures_of r))
-          also wrapper-light l r hl hr Kind.dictionary
-          also wrapper-light l r hl hr Kind.run_end_encoded
+          also wrapper_light l r hl hr Kind.dictionary
+          also wrapper_light l r hl hr Kind.run_end_encoded
           also temporal_light l r hl hr
           also of_kind_light l r (string_coercion l.shape.kind r.shape.kind)
-          also list-light l r hl hr
+          also list_light l r hl hr
           also null_light l r hl hr rules.mask
           also string_number_light l r hl hr rules.question
           also string_temporal_light l r hl hr
           also of_kind_light l r (binary_coercion l.shape.kind r.shape.kind)
-          also struct-light l r hl hr
+          also struct_light l r hl hr
           also map_light l r hl hr
           also done)
 
-      list-rules-light : If (Lighter l r) (first_of (list_rules rules c l r))
-      list-rules-light =
+      list_rules_light : If (Lighter l r) (first_of (list_rules rules c l r))
+      list_rules_light =
           if_first (Lighter l r) (list_rules rules c l r)
           (as_light l r (binary_numeric_coercion (figures_of l) (figures_of r))
-          also list-light l r hl hr
+          also list_light l r hl hr
           also map_light l r hl hr
           also temporal_light l r hl hr
           also of_kind_light l r (string_coercion l.shape.kind r.shape.kind)
@@ -352,38 +352,38 @@ module _ (a : List ℕ → ℕ) (b : Zone → ℕ) (scales : Scales a b) where
       turned : (o : Option DataType) → If (Lighter r l) o → If (Lighter l r) o
       turned o h = if_weak (Lighter r l) (Lighter l r) o h (λ t g. record { light = omega (arith, g.light); apart = g.apart })
 
-      other-kind : (d : DataType) (k : ℕ) → eqb k Kind.struct ≡ false → is_of k d ≡ true → eqb d.shape.kind Kind.struct ≡ false
-      other-kind d k ne e = rw (eqb-true d.shape.kind k e) ne
+      other_kind : (d : DataType) (k : ℕ) → eqb k Kind.struct ≡ false → is_of k d ≡ true → eqb d.shape.kind Kind.struct ≡ false
+      other_kind d k ne e = rw (eqb-true d.shape.kind k e) ne
 
-      resolution-light : If (Lighter l r) (resolution_coercion rules c l r)
-      resolution-light =
+      resolution_light : If (Lighter l r) (resolution_coercion rules c l r)
+      resolution_light =
           let P = Lighter l r in
           if_cond P (equal l r) (some l) _ (λ e. left_light l r hl)
           (λ e. if_cond P (is_of Kind.dictionary l && is_of Kind.dictionary r) _ _
-          (λ e. both-light l r hl hr l.parts r.parts hl.1 hr.1 (omega arith) (omega arith) (other-kind l Kind.dictionary refl (and_fst _ _ e)))
+          (λ e. both_light l r hl hr l.parts r.parts hl.1 hr.1 (omega arith) (omega arith) (other_kind l Kind.dictionary refl (and_fst _ _ e)))
           (λ e. if_cond P (is_of Kind.dictionary l) _ _
-          (λ e. wrapped_light l r keep_dictionary hl hr (dictionary_swapped l.shape l.parts (other-kind l Kind.dictionary refl e) hl.1))
+          (λ e. wrapped_light l r keep_dictionary hl hr (dictionary_swapped l.shape l.parts (other_kind l Kind.dictionary refl e) hl.1))
           (λ e. if_cond P (is_of Kind.dictionary r) _ _
           (λ e. turned (wrapped c r l keep_dictionary)
-          (wrapped_light r l keep_dictionary hr hl (dictionary_swapped r.shape r.parts (other-kind r Kind.dictionary refl e) hr.1)))
+          (wrapped_light r l keep_dictionary hr hl (dictionary_swapped r.shape r.parts (other_kind r Kind.dictionary refl e) hr.1)))
           (λ e. if_cond P (is_of Kind.run_end_encoded l && is_of Kind.run_end_encoded r) _ _
-          (λ e. both-light l r hl hr l.parts r.parts hl.1 hr.1 (omega arith) (omega arith) (other-kind l Kind.run_end_encoded refl (and_fst _ _ e)))
+          (λ e. both_light l r hl hr l.parts r.parts hl.1 hr.1 (omega arith) (omega arith) (other_kind l Kind.run_end_encoded refl (and_fst _ _ e)))
           (λ e. if_cond P (is_of Kind.run_end_encoded l) _ _
-          (λ e. wrapped_light l r (λ d t. run_ends_of d d.parts t) hl hr (run_ends_swapped l.shape l.parts (other-kind l Kind.run_end_encoded refl e) hl.1))
+          (λ e. wrapped_light l r (λ d t. run_ends_of d d.parts t) hl hr (run_ends_swapped l.shape l.parts (other_kind l Kind.run_end_encoded refl e) hl.1))
           (λ e. if_cond P (is_of Kind.run_end_encoded r) _ _
           (λ e. turned (wrapped c r l (λ d t. run_ends_of d d.parts t))
-          (wrapped_light r l (λ d t. run_ends_of d d.parts t) hr hl (run_ends_swapped r.shape r.parts (other-kind r Kind.run_end_encoded refl e) hr.1)))
-          (λ e. if_cond P (is_of Kind.struct l && is_of Kind.struct r) _ _ (λ e. list-struct-light l r hl hr (and_fst _ _ e)) (λ e. list-rules-light))))))))
+          (wrapped_light r l (λ d t. run_ends_of d d.parts t) hr hl (run_ends_swapped r.shape r.parts (other_kind r Kind.run_end_encoded refl e) hr.1)))
+          (λ e. if_cond P (is_of Kind.struct l && is_of Kind.struct r) _ _ (λ e. list_struct_light l r hl hr (and_fst _ _ e)) (λ e. list_rules_light))))))))
 
-      ask-light : (q : Question) → If (Lighter l r) (ask q rules c l r)
-      ask-light list = resolution-light
-      ask-light union = pair-light
-      ask-light compare = pair-light
+      ask_light : (q : Question) → If (Lighter l r) (ask q rules c l r)
+      ask_light list = resolution_light
+      ask_light union = pair_light
+      ask_light compare = pair_light
 
   in_light : (f : ℕ) (rules : Rules) (l r : DataType) → TypeApart l → TypeApart r → If (Lighter l r) (coerce_in f rules l r)
   unfolding coerce_in
   in_light zero rules l r hl hr = tt
-  in_light (suc f) rules l r hl hr = ask-light (coerce_in f rules) (λ x y h k. in_light f rules x y h k) rules l r hl hr rules.question
+  in_light (suc f) rules l r hl hr = ask_light (coerce_in f rules) (λ x y h k. in_light f rules x y h k) rules l r hl hr rules.question
 
   pub coercion_light : (rules : Rules) (l r : DataType) → TypeApart l → TypeApart r → If (Lighter l r) (coercion rules l r)
   unfolding coercion

@@ -114,16 +114,16 @@ module _ (question : Question) (mask : ℕ) (space : Space) (left : ℕ) (swap :
       right_kind b = let p = ltb-true j top (and_snd (ltb k top) (ltb j top) h) in omega (arith, kind_of_lem ej b)
 
     module _ (v : List ℕ) (o : Out) {k j : ℕ} (ek : k ≡ (head_at (side swap s w) l).kind) (ej : j ≡ (head_at (side (not swap) s w) r).kind) where
-      pub coerce-plain : (ltb k 32 && ltb j 32) ≡ true → ((i : ℕ) → Merges (plain_rules (rules_of question mask)) space i swap s w v l r g o)
+      pub coerce_plain : (ltb k 32 && ltb j 32) ≡ true → ((i : ℕ) → Merges (plain_rules (rules_of question mask)) space i swap s w v l r g o)
           → MergesKnown known names both space left swap s w v l r g o
-      coerce-plain h m =
+      coerce_plain h m =
           as_known both space swap s w v l r g o known left (omega arith)
           (λ x y a b d. plain_turns (rules_of question mask) both x y (left_kind ek ej 32 h a) (right_kind ek ej 32 h b) ∙ differ x y a b d) (m left)
 
       -- no wrappers
-      pub coerce-bare : (ltb k 37 && ltb j 37) ≡ true → ¬ (left ≡ 0) → MergesKnown d names (nested_of (rules_of question mask) both) space (left - 1 + 1) swap s w v l r g o
+      pub coerce_bare : (ltb k 37 && ltb j 37) ≡ true → ¬ (left ≡ 0) → MergesKnown d names (nested_of (rules_of question mask) both) space (left - 1 + 1) swap s w v l r g o
           → MergesKnown known names both space left swap s w v l r g o
-      coerce-bare h more m =
+      coerce_bare h more m =
           known_as both space swap s w v l r g o known left (omega arith)
           (λ x y a b d. (bare_turns (rules_of question mask) both x y (left_kind ek ej 37 h a) (right_kind ek ej 37 h b) ∙ differ x y a b d, (apart x y a b d).1)) m
 
@@ -134,7 +134,7 @@ module _ (question : Question) (mask : ℕ) (space : Space) (left : ℕ) (swap :
 
     pub coerce_unlike : (v : List ℕ) (o : Out) → (ltb k 32 && ltb j 32) ≡ true → ((i : ℕ) → Merges (plain_rules (rules_of question mask)) space i swap s w v l r g o)
         → Merges both space left swap s w v l r g o
-    coerce_unlike v o h m = none_known swap (coerce-plain {known = 1} {d = 1} unlike v o ek ej h m)
+    coerce_unlike v o h m = none_known swap (coerce_plain {known = 1} {d = 1} unlike v o ek ej h m)
 
   -- a wrapper in a list, and a type that is none: they are not the same, and come to the rule for one wrapper
   module _ {k j : ℕ} (ek : k ≡ (head_at (side swap s w) l).kind) (ej : j ≡ (head_at (side (not swap) s w) r).kind) (is : is_wrapper k ≡ true) (lt : j < 37) where

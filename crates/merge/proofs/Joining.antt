@@ -236,11 +236,11 @@ module _ (known : ℕ) (named : Bool) (rules : Rules) (space : Space) (left : �
         records : d.at ≤ to.at + (size x + size t)
         letters : d.label ≤ to.label + length name + (letters x + letters t)
 
-      first-type : {nullable : Bool} {shape : Shape} {parts rest : Fields} (name : List ℕ) (t : DataType) → Chain space (side swap s w) l (field name nullable shape parts rest)
+      first_type : {nullable : Bool} {shape : Shape} {parts rest : Fields} (name : List ℕ) (t : DataType) → Chain space (side swap s w) l (field name nullable shape parts rest)
           → Typed space (side (not swap) s w) row.partner t → size (record { shape = shape; parts = parts }) + size t ≤ left
           → Known first-known named l (record { shape = shape; parts = parts }) t → First name (record { shape = shape; parts = parts }) t
       unfolding count
-      first-type {nullable} {shape} {parts} {rest} name t a q g df = go (both x t) refl (m.means x t (first a) (feeder q) g df)
+      first_type {nullable} {shape} {parts} {rest} name t a q g df = go (both x t) refl (m.means x t (first a) (feeder q) g df)
         where
           x : DataType
           x = record { shape = shape; parts = parts }
@@ -265,16 +265,16 @@ module _ (known : ℕ) (named : Bool) (rules : Rules) (space : Space) (left : �
         kept₃ : Kept space w y to.at to.label
         kept₃ = kept_trans kept₂ (kept_wider to.at to.label (omega (arith, m.writes.passes.1.0)) (omega (arith, m.writes.passes.1.1)) k.kept)
 
-        rest-means : {name : List ℕ} {nullable : Bool} {shape : Shape} {parts rest rf tf nf : Fields} → Chain space (side swap s w) l (field name nullable shape parts rest)
+        rest_means : {name : List ℕ} {nullable : Bool} {shape : Shape} {parts rest rf tf nf : Fields} → Chain space (side swap s w) l (field name nullable shape parts rest)
             → Chain space (side (not swap) s w) r rf → (f : Fed space (side (not swap) s w) feed nullable rest rf row tf nf) → count rest + count f.more ≤ left - 1 → RowsKnown known named h.next rest f.behind
             → ChainIs space y d (count rest + count f.more) (length (labels rest) + length (labels f.more)) o (join_fields both rest f.more f.nulls)
-        rest-means {rest = rest} {rf = rf} a q f g df =
+        rest_means {rest = rest} {rf = rf} a q f g df =
             k.means rest rf f.behind f.more f.nulls (chain_side swap space s w u to.at to.label room kept₂ (chain_next a h eh))
             (chain_side (not swap) space s w u to.at to.label room kept₂ q) (chain_side (not swap) space s w u to.at to.label room kept₂ f.next) f.feeds g df
 
-      pub rows-rest-none : (y : List ℕ) → Rowed known named both space (left - 1) swap s u y feed h.next r row.next d No → Rowed known named both space left swap s w y feed l r p to No
+      pub rows_rest_none : (y : List ℕ) → Rowed known named both space (left - 1) swap s u y feed h.next r row.next d No → Rowed known named both space left swap s w y feed l r p to No
       unfolding count
-      rows-rest-none y k =
+      rows_rest_none y k =
           record {
             kept = kept₃ y No k;
             grows = tt;
@@ -282,9 +282,9 @@ module _ (known : ℕ) (named : Bool) (rules : Rules) (space : Space) (left : �
                 rows_means known named both space left swap s w feed l r p to y No z (λ name nullable shape parts rest rf pf tf nf a q c f g df.
                 let i = fed a q c f in
                 let ct = ap (λ (x : Fields). count x) i.types in
-                let one = first-type name i.type a i.partner (omega arith) (differs name nullable shape parts rest pf a c i df) in
+                let one = first_type name i.type a i.partner (omega arith) (differs name nullable shape parts rest pf a c i df) in
                 rw (join_fed name nullable shape parts rest rf tf nf i)
-                (rw one.common (go (join_fields both rest i.more i.nulls) name one.type 0 0 0 0 (rest-means y No k a q i (omega arith) (rest_known known named name nullable shape parts rest a h.next (next_at_lem a h eh) feed pf f i df)))));
+                (rw one.common (go (join_fields both rest i.more i.nulls) name one.type 0 0 0 0 (rest_means y No k a q i (omega arith) (rest_known known named name nullable shape parts rest a h.next (next_at_lem a h eh) feed pf f i df)))));
           }
         where
           go : (o : Option Fields) (name : List ℕ) (t : DataType) (z₀ y₀ z₁ y₁ : ℕ) → ChainIs space y d z₀ y₀ No o
@@ -292,9 +292,9 @@ module _ (known : ℕ) (named : Bool) (rules : Rules) (space : Space) (left : �
           go none name t z₀ y₀ z₁ y₁ c = tt
           go (some f) name t z₀ y₀ z₁ y₁ c = absurd c
 
-      pub rows-rest-full : (y : List ℕ) → Rowed known named both space (left - 1) swap s u y feed h.next r row.next d Full → Rowed known named both space left swap s w y feed l r p to Full
+      pub rows_rest_full : (y : List ℕ) → Rowed known named both space (left - 1) swap s u y feed h.next r row.next d Full → Rowed known named both space left swap s w y feed l r p to Full
       unfolding count
-      rows-rest-full y k =
+      rows_rest_full y k =
           record {
             kept = kept₃ y Full k;
             grows = tt;
@@ -305,16 +305,16 @@ module _ (known : ℕ) (named : Bool) (rules : Rules) (space : Space) (left : �
                 let lt = ap (λ (x : Fields). length (labels x)) i.types in
                 let lm = row_labels i.name i.own i.type.shape i.type.parts i.more in
                 let ll = row_labels name nullable shape parts rest in
-                let one = first-type name i.type a i.partner (omega arith) (differs name nullable shape parts rest pf a c i df) in
+                let one = first_type name i.type a i.partner (omega arith) (differs name nullable shape parts rest pf a c i df) in
                 let ra = one.records in
                 let rb = one.letters in
-                ⊎_elim (λ x. inl (omega arith)) (λ x. inr (omega arith)) (rest-means y Full k a q i (omega arith) (rest_known known named name nullable shape parts rest a h.next (next_at_lem a h eh) feed pf f i df)));
+                ⊎_elim (λ x. inl (omega arith)) (λ x. inr (omega arith)) (rest_means y Full k a q i (omega arith) (rest_known known named name nullable shape parts rest a h.next (next_at_lem a h eh) feed pf f i df)));
           }
 
-      pub rows-done : (y y' : List ℕ) (e' : Spot) (next : ℕ) → Rowed known named both space (left - 1) swap s u y feed h.next r row.next d (Done e')
+      pub rows_done : (y y' : List ℕ) (e' : Spot) (next : ℕ) → Rowed known named both space (left - 1) swap s u y feed h.next r row.next d (Done e')
           → next ≡ cond (eqb d.at e'.at) 0 d.at → Tied space y y' to.at next → Rowed known named both space left swap s w y' feed l r p to (Done e')
       unfolding count
-      rows-done y y' e' next k en tied =
+      rows_done y y' e' next k en tied =
           record {
             kept = kept_trans (kept₃ y (Done e') k) (tied_kept space y y' to.at next tied to.label past);
             grows = (k.grows.0, (omega (arith, m.writes.passes.1.0, k.grows.1.0), omega (arith, m.writes.passes.1.1, k.grows.1.1)));
@@ -322,9 +322,9 @@ module _ (known : ℕ) (named : Bool) (rules : Rules) (space : Space) (left : �
                 rows_means known named both space left swap s w feed l r p to y' (Done e') z (λ name nullable shape parts rest rf pf tf nf a q c f g df.
                 let i = fed a q c f in
                 let ct = ap (λ (x : Fields). count x) i.types in
-                let one = first-type name i.type a i.partner (omega arith) (differs name nullable shape parts rest pf a c i df) in
+                let one = first_type name i.type a i.partner (omega arith) (differs name nullable shape parts rest pf a c i df) in
                 rw (join_fed name nullable shape parts rest rf tf nf i)
-                (rw one.common (go (join_fields both rest i.more i.nulls) name one.type one.wrote 0 0 0 0 (rest-means y (Done e') k a q i (omega arith) (rest_known known named name nullable shape parts rest a h.next (next_at_lem a h eh) feed pf f i df)))));
+                (rw one.common (go (join_fields both rest i.more i.nulls) name one.type one.wrote 0 0 0 0 (rest_means y (Done e') k a q i (omega arith) (rest_known known named name nullable shape parts rest a h.next (next_at_lem a h eh) feed pf f i df)))));
           }
         where
           past : to.at < space.n

@@ -244,9 +244,9 @@ module _ (rules : Rules) (space : Space) (left : ℕ) (swap : Bool) (s w : List 
           go z z₀ y₀ z₁ y₁ none c = tt
           go z z₀ y₀ z₁ y₁ (some t) c = absurd c
 
-      pub value-full : {named : Bool} (v₃ : List ℕ) → MergesField 0 named (coercion rules) space left swap s v₂ v₃ j.next r b Full → Merges answer space (left + 1) swap s w v₃ l r g Full
+      pub value_full : {named : Bool} (v₃ : List ℕ) → MergesField 0 named (coercion rules) space left swap s v₂ v₃ j.next r b Full → Merges answer space (left + 1) swap s w v₃ l r g Full
       unfolding count labels
-      value-full v₃ mf =
+      value_full v₃ mf =
           merged v₃ Full (writes_on g Full cp.kept cp.passes (wider mf.kept) tt)
           (λ z i y t q.
           let p = parent z i in
@@ -265,8 +265,8 @@ module _ (rules : Rules) (space : Space) (left : ℕ) (swap : Bool) (s w : List 
         kept₄ : Kept space v₁ v₄ a.at a.label
         kept₄ = kept_trans (wider mf.kept) (tied_kept space v₃ v₄ a.at b.at tied a.label inside)
 
-        kept-all : Kept space w v₄ g.at (g.label + g.nlen)
-        kept-all = kept_on g cp.kept cp.passes kept₄
+        kept_all : Kept space w v₄ g.at (g.label + g.nlen)
+        kept_all = kept_on g cp.kept cp.passes kept₄
 
         grows : Grows space a (Done e)
         grows = (mf.grows.0, (omega (arith, cf.grows.1.0, mf.grows.1.0), omega (arith, cf.grows.1.1, mf.grows.1.1)))
@@ -274,11 +274,11 @@ module _ (rules : Rules) (space : Space) (left : ℕ) (swap : Bool) (s w : List 
         written : (c : Bool) → is_view space v₄ k b.at ≡ c → Writes space w v₅ g o
         written false q =
             subst₂ (λ (o : Out) (u : List ℕ). Writes space w u g o) (sym (vw.stays q).0) (sym (vw.stays q).1) (writes_on g (Done e) cp.kept cp.passes kept₄ grows)
-        written true q = let m = (vw.view q).writes in record { kept = kept_trans kept-all m.kept; passes = m.passes }
+        written true q = let m = (vw.view q).writes in record { kept = kept_trans kept_all m.kept; passes = m.passes }
 
         -- the parts of the wrapper, about the new value
-        parts-wrote : (z : Two) → Pair z → (t : DataType) → Wrote space v₃ b e (before z.name₂ z.null₂ t end) → Wrote space v₄ a e (refilled z t)
-        parts-wrote z i t c =
+        parts_wrote : (z : Two) → Pair z → (t : DataType) → Wrote space v₃ b e (before z.name₂ z.null₂ t end) → Wrote space v₄ a e (refilled z t)
+        parts_wrote z i t c =
             let d = index z i in
             chain_tied space v₃ v₄ a.at b.at tied a.label b e z.name₁ z.null₁ z.shape₁ z.parts₁ (before z.name₂ z.null₂ t end) inside refl
             (record {
@@ -287,32 +287,32 @@ module _ (rules : Rules) (space : Space) (left : ℕ) (swap : Bool) (s w : List 
               holds = wrote_frame space v₂ v₃ b.at b.label a.at a.label (field z.name₁ z.null₁ z.shape₁ z.parts₁ end) (omega (arith, d.records)) (omega (arith, d.letters)) mf.kept d.holds;
             }) c
 
-        value-kind : (z : Two) → Pair z → (t : DataType) → Wrote space v₄ a e (refilled z t) → (head_at (region space v₄) b.at).kind ≡ t.shape.kind
+        value_kind : (z : Two) → Pair z → (t : DataType) → Wrote space v₄ a e (refilled z t) → (head_at (region space v₄) b.at).kind ≡ t.shape.kind
         unfolding count
-        value-kind z i t c =
+        value_kind z i t c =
             let at : b.at ≡ a.at + 1 + count z.parts₁ = omega (arith, (index z i).records) in
             ap (λ (n : ℕ). (head_at (region space v₄) n).kind) at ∙ ap (λ (x : Head). x.kind) c.holds.1.1.0.head
 
         said : (z : Two) → Pair z → (z₁ y₁ : ℕ) → 1 ≤ z₁ → (t : DataType) → Sound t → Wrote space v₄ a e (refilled z t) → (c : Bool) → is_view space v₄ k b.at ≡ c
             → Means space w v₅ g z₁ y₁ o (rewrap k (wrapper_of z) t)
         said z i z₁ y₁ le t sound c false q =
-            let n = ap (λ (x : ℕ). eqb k 37 && eqb x 27) (sym (value-kind z i t c)) ∙ q in
+            let n = ap (λ (x : ℕ). eqb k 37 && eqb x 27) (sym (value_kind z i t c)) ∙ q in
             let m : Means space w v₄ g z₁ y₁ (Done e) (some (type_of z.shape (refilled z t))) = parent_wrote v₄ (refilled z t) (parent z i) refl kept₄ c in
             subst (λ (x : Option DataType). Means space w v₅ g z₁ y₁ o x) (sym (rewrap_stays k z t (wrapper_is k is) i.bare n))
             (subst₂ (λ (o : Out) (u : List ℕ). Means space w u g z₁ y₁ o (some (type_of z.shape (refilled z t)))) (sym (vw.stays q).0) (sym (vw.stays q).1) m)
         said z i z₁ y₁ le t sound c true q =
             let p = and_fst (eqb k 37) (eqb (head_at (region space v₄) b.at).kind 27) q in
-            let n = ap (λ (x : ℕ). eqb x 27) (sym (value-kind z i t c)) ∙ and_snd (eqb k 37) (eqb (head_at (region space v₄) b.at).kind 27) q in
+            let n = ap (λ (x : ℕ). eqb x 27) (sym (value_kind z i t c)) ∙ and_snd (eqb k 37) (eqb (head_at (region space v₄) b.at).kind 27) q in
             means_for space w v₅ g z₁ y₁ o le (omega arith) (ap (λ (x : DataType). some x) (sym (view_plain t sound (eqb-true t.shape.kind 27 n))) ∙ sym (rewrap_view k z t p n))
-            (means_after space w v₄ v₅ g 1 0 o (some (type_of (shape_for 27 0 0 0 false) end)) kept-all (vw.view q).means)
+            (means_after space w v₄ v₅ g 1 0 o (some (type_of (shape_for 27 0 0 0 false) end)) kept_all (vw.view q).means)
 
         both : (z : Two) → Pair z → (z₀ y₀ z₁ y₁ : ℕ) → 1 ≤ z₁ → (m : Option DataType) → If Sound m → ChainIs space v₃ b z₀ y₀ (Done e) (field_of z.name₂ z.null₂ m)
             → Means space w v₅ g z₁ y₁ o (and_then m (λ t. rewrap k (wrapper_of z) t))
         both z i z₀ y₀ z₁ y₁ le none sound c = absurd c
-        both z i z₀ y₀ z₁ y₁ le (some t) sound c = said z i z₁ y₁ le t sound (parts-wrote z i t c) (is_view space v₄ k b.at) refl
+        both z i z₀ y₀ z₁ y₁ le (some t) sound c = said z i z₁ y₁ le t sound (parts_wrote z i t c) (is_view space v₄ k b.at) refl
 
-        pub wrapper-on : Merges answer space (left + 1) swap s w v₅ l r g o
-        wrapper-on =
+        pub wrapper_on : Merges answer space (left + 1) swap s w v₅ l r g o
+        wrapper_on =
             merged v₅ o (written (is_view space v₄ k b.at) refl)
             (λ z i y t q.
             let right = t.chain.held.source.right in

@@ -111,13 +111,13 @@ module _ (c : DataType → DataType → Option DataType) (space : Space) (left :
           (f.is, (refl, ((end_self Y.parts, struct_differ (right_kind a b h) b), sym same))))
           (omega (arith, fits.0)) (parts_known known by_names X Y a x ex d))
 
-      by-feed : (i j : Bool) → same_order X.parts Y.parts ≡ i → fields_have_same_names X.parts Y.parts ≡ j → feed ≡ cond i Feed.Place (cond j Feed.Name Feed.Place) → Merged
+      by_feed : (i j : Bool) → same_order X.parts Y.parts ≡ i → fields_have_same_names X.parts Y.parts ≡ j → feed ≡ cond i Feed.Place (cond j Feed.Name Feed.Place) → Merged
       unfolding struct_coercion partners
-      by-feed true j e n is =
+      by_feed true j e n is =
           by_place is
           (struct_by_name c X Y Y.parts (kinds a b ∙ h) (order_names X.parts Y.parts e) (order_by_name X.parts Y.parts e same (struct_differ (right_kind a b h) b)))
-      by-feed false true e n is = by_name_lem is n
-      by-feed false false e n is = by_place is (struct_list (join_fields c X.parts Y.parts Y.parts) ∙ rw (kinds a b ∙ h) (rw n refl))
+      by_feed false true e n is = by_name_lem is n
+      by_feed false false e n is = by_place is (struct_list (join_fields c X.parts Y.parts Y.parts) ∙ rw (kinds a b ∙ h) (rw n refl))
 
     pub struct_merged : MergesKnown known by_names (struct_coercion c) space (left + 1) swap s w v l r g o
     struct_merged =
@@ -125,7 +125,7 @@ module _ (c : DataType → DataType → Option DataType) (space : Space) (left :
           writes = u.writes;
           means =
               λ X Y a b q d.
-              by-feed a b q d (same_order X.parts Y.parts) (fields_have_same_names X.parts Y.parts) refl refl
+              by_feed a b q d (same_order X.parts Y.parts) (fields_have_same_names X.parts Y.parts) refl refl
               (ff _ _ _ X.parts Y.parts (held_first a.chain.held x ex) (chain_first y ey b.chain));
         }
 
@@ -138,15 +138,15 @@ module _ (c : DataType → DataType → Option DataType) (space : Space) (left :
       names : {X Y : DataType} → Typed space (side swap s w) l X → Typed space (side (not swap) s w) r Y → named ≡ fields_have_same_names X.parts Y.parts
       names {X} {Y} a b = fn _ _ _ X.parts Y.parts (held_first a.chain.held x ex) (chain_first y ey b.chain)
 
-      pub listed-none : {known : ℕ} {by_names : Bool} → named ≡ false → MergesKnown known by_names (list_struct c) space (left + 1) swap s w w l r g No
-      listed-none {known} e =
+      pub listed_none : {known : ℕ} {by_names : Bool} → named ≡ false → MergesKnown known by_names (list_struct c) space (left + 1) swap s w w l r g No
+      listed_none {known} e =
           any_known known swap (merges_none (list_struct c) space (left + 1) swap s w l r g
           (λ X Y a b q. rw (sym (arities a b) ∙ h) (rw (names_missing X.parts Y.parts (sym (names a b) ∙ e)) refl)))
 
-      pub listed-named : (known : ℕ) (by_names : Bool) → named ≡ true → (head_at (side swap s w) l).kind ≡ 35 → (head_at (side (not swap) s w) r).kind ≡ 35 → (v : List ℕ) (o : Out)
+      pub listed_named : (known : ℕ) (by_names : Bool) → named ≡ true → (head_at (side swap s w) l).kind ≡ 35 → (head_at (side (not swap) s w) r).kind ≡ 35 → (v : List ℕ) (o : Out)
           → Under known by_names c space left swap s w v Feed.NameThenPlace (shape_for 35 0 0 0 false) x.first y.first y.first g o
           → MergesKnown known by_names (list_struct c) space (left + 1) swap s w v l r g o
-      listed-named known by_names e k k' v o u =
+      listed_named known by_names e k k' v o u =
           record {
             writes = u.writes;
             means =

@@ -252,17 +252,17 @@ module _ (c : DataType → DataType → Option DataType) (space : Space) (left :
 
     module _ (p : k ≡ i) (q : ¬ (j ≡ i)) {a : ℕ} (ea : a ≡ (head_at (side swap s w) (head_at (side swap s w) l).first).next) {e : Bool}
         (f : SameTypes (side swap s w) space.n a (side (not swap) s w) space.n r true e) where
-      pub wrapper-left-same : e ≡ true → CopiedType space (side swap s w) w v l g o → Merges (wrapper_coercion i c) space (left + 1) swap s w v l r g o
+      pub wrapper_left_same : e ≡ true → CopiedType space (side swap s w) w v l g o → Merges (wrapper_coercion i c) space (left + 1) swap s w v l r g o
       unfolding wrapper_coercion
-      wrapper-left-same h =
+      wrapper_left_same h =
           merges_left (wrapper_coercion i c) space (left + 1) swap s w l r g v o
           (λ x y a b.
           let vx = value_of is (kind_of_lem ek a ∙ p) ea a in
           rw (kind_is ek i a ∙ eq-eqb k i p) (rw (kind_is ej i b ∙ ne_eqb j i q) (rw vx.is (rw (sym (typed_same true f vx.typed b) ∙ h) refl))))
 
-      pub wrapper-left : (mask hint own : ℕ) → On space left swap s w l r i mask hint own → (known : ℕ) {named : Bool} → e ≡ false → MergesHinted own mask 1 named c space left swap s w v a r g o → MergesHinted hint mask known named (wrapper_coercion i c) space (left + 1) swap s w v l r g o
+      pub wrapper_left : (mask hint own : ℕ) → On space left swap s w l r i mask hint own → (known : ℕ) {named : Bool} → e ≡ false → MergesHinted own mask 1 named c space left swap s w v a r g o → MergesHinted hint mask known named (wrapper_coercion i c) space (left + 1) swap s w v l r g o
       unfolding wrapper_coercion
-      wrapper-left mask hint own on known {named} z m =
+      wrapper_left mask hint own on known {named} z m =
           record {
             writes = m.writes;
             means =
@@ -279,17 +279,17 @@ module _ (c : DataType → DataType → Option DataType) (space : Space) (left :
       same : {t x : DataType} → Typed space (side (not swap) s w) a t → Typed space (side swap s w) l x → e ≡ same_type true t x
       same {t} {x} vy b = typed_same true f vy (subst (λ (u : List ℕ). Typed space u l x) (sym (side_twice swap s w)) b)
 
-      pub wrapper-right-same : e ≡ true → CopiedType space (side (not swap) s w) w v r g o → Merges (wrapper_coercion i c) space (left + 1) swap s w v l r g o
+      pub wrapper_right_same : e ≡ true → CopiedType space (side (not swap) s w) w v r g o → Merges (wrapper_coercion i c) space (left + 1) swap s w v l r g o
       unfolding wrapper_coercion
-      wrapper-right-same h =
+      wrapper_right_same h =
           merges_right (wrapper_coercion i c) space (left + 1) swap s w l r g v o
           (λ x y a b.
           let vy = value_of is (kind_of_lem ej b ∙ q) ea b in
           rw (kind_is ek i a ∙ ne_eqb k i p) (rw (kind_is ej i b ∙ eq-eqb j i q) (rw vy.is (rw (sym (same vy.typed a) ∙ h) refl))))
 
-      pub wrapper-right : (mask hint own : ℕ) → On space left swap s w l r i mask hint own → (known : ℕ) {named : Bool} → e ≡ false → MergesHinted own mask 1 named c space left swap s w v l a g o → MergesHinted hint mask known named (wrapper_coercion i c) space (left + 1) swap s w v l r g o
+      pub wrapper_right : (mask hint own : ℕ) → On space left swap s w l r i mask hint own → (known : ℕ) {named : Bool} → e ≡ false → MergesHinted own mask 1 named c space left swap s w v l a g o → MergesHinted hint mask known named (wrapper_coercion i c) space (left + 1) swap s w v l r g o
       unfolding wrapper_coercion
-      wrapper-right mask hint own on known {named} z m =
+      wrapper_right mask hint own on known {named} z m =
           record {
             writes = m.writes;
             means =
@@ -327,29 +327,29 @@ module _ (known : ℕ) (named : Bool) (rules : Rules) (c : DataType → DataType
       by_rule Data.union X Y e = refl
       by_rule Data.compare X Y e = refl
 
-      pub nested-listed : is_list_question rules.question ≡ true → MergesKnown known named (list_struct c) space (left + 1) swap s w v l r g o → MergesKnown known named (nested_of rules c) space (left + 1) swap s w v l r g o
+      pub nested_listed : is_list_question rules.question ≡ true → MergesKnown known named (list_struct c) space (left + 1) swap s w v l r g o → MergesKnown known named (nested_of rules c) space (left + 1) swap s w v l r g o
       unfolding nested_of
-      nested-listed e =
+      nested_listed e =
           known_as (nested_of rules c) space swap s w v l r g o known (left + 1) (omega arith)
           (λ X Y a b d. (rw (lists a b ∙ n) (rw (are a b 35 ∙ h) (by_names rules.question X Y e)), d))
 
-      pub nested-struct : is_list_question rules.question ≡ false → MergesKnown known named (struct_coercion c) space (left + 1) swap s w v l r g o
+      pub nested_struct : is_list_question rules.question ≡ false → MergesKnown known named (struct_coercion c) space (left + 1) swap s w v l r g o
           → MergesKnown known named (nested_of rules c) space (left + 1) swap s w v l r g o
       unfolding nested_of
-      nested-struct e =
+      nested_struct e =
           known_as (nested_of rules c) space swap s w v l r g o known (left + 1) (omega arith)
           (λ X Y a b d. (rw (lists a b ∙ n) (rw (are a b 35 ∙ h) (by_rule rules.question X Y e)), d))
 
     module _ (h : (eqb k 35 && eqb j 35) ≡ false) where
-      pub nested-map : (eqb k 36 && eqb j 36) ≡ true → MergesKnown known named (map_rule c) space (left + 1) swap s w v l r g o → MergesKnown known named (nested_of rules c) space (left + 1) swap s w v l r g o
+      pub nested_map : (eqb k 36 && eqb j 36) ≡ true → MergesKnown known named (map_rule c) space (left + 1) swap s w v l r g o → MergesKnown known named (nested_of rules c) space (left + 1) swap s w v l r g o
       unfolding nested_of
-      nested-map e =
+      nested_map e =
           known_as (nested_of rules c) space swap s w v l r g o known (left + 1) (omega arith)
           (λ X Y a b d. (rw (lists a b ∙ n) (rw (are a b 35 ∙ h) (rw (are a b 36 ∙ e) (map_turns c X Y (are a b 36 ∙ e)))), d))
 
-      pub nested-plain : (eqb k 36 && eqb j 36) ≡ false → ((i : ℕ) → Merges (plain_rules rules) space i swap s w v l r g o) → MergesKnown known named (nested_of rules c) space (left + 1) swap s w v l r g o
+      pub nested_plain : (eqb k 36 && eqb j 36) ≡ false → ((i : ℕ) → Merges (plain_rules rules) space i swap s w v l r g o) → MergesKnown known named (nested_of rules c) space (left + 1) swap s w v l r g o
       unfolding nested_of
-      nested-plain e m =
+      nested_plain e m =
           as_known (nested_of rules c) space swap s w v l r g o known (left + 1) (omega arith)
           (λ X Y a b d. rw (lists a b ∙ n) (rw (are a b 35 ∙ h) (rw (are a b 36 ∙ e) refl))) (m (left + 1))
 

@@ -140,26 +140,26 @@ module _ (s : List ℕ) (n floor link : ℕ) where
         go (field name nullable shape parts rest) m e = absurd (omega (arith, m.is, m.above))
 
     module _ (lo : low < at) where
-      pub passed-high : n ≤ at → (r o : ℕ) (t : Fields) → Leads s n floor link r o t → ⊥
+      pub passed_high : n ≤ at → (r o : ℕ) (t : Fields) → Leads s n floor link r o t → ⊥
       unfolding count
-      passed-high hi r o t l = go (p.onward r o t l).rest (p.onward r o t l).leads
+      passed_high hi r o t l = go (p.onward r o t l).rest (p.onward r o t l).leads
         where
           go : (u : Fields) {q v : ℕ} → Leads s n low at q v u → ⊥
           go end m = omega (arith, m.is)
           go (field name nullable shape parts rest) m = omega (arith, m.is, m.inside)
 
-      pub passed-more : (r o : ℕ) (t : Fields) → Leads s n floor link r o t → k < arity t
+      pub passed_more : (r o : ℕ) (t : Fields) → Leads s n floor link r o t → k < arity t
       unfolding arity
-      passed-more r o t l = go (p.onward r o t l).rest (p.onward r o t l).leads (p.onward r o t l).long
+      passed_more r o t l = go (p.onward r o t l).rest (p.onward r o t l).leads (p.onward r o t l).long
         where
           go : (u : Fields) {q v : ℕ} → Leads s n low at q v u → arity t ≡ k + arity u → k < arity t
           go end m e = absurd (omega (arith, m.is))
           go (field name nullable shape parts rest) m e = omega arith
 
       module _ (h : Head) (e : h ≡ head_at s at) where
-        pub passed-next : Passed s n floor link at h.next (k + 1)
+        pub passed_next : Passed s n floor link at h.next (k + 1)
         unfolding arity
-        passed-next =
+        passed_next =
             record {
               reached = next_here s n link at k p.reached h e;
               counted = omega (arith, p.counted);
@@ -206,7 +206,7 @@ module _ (s : List ℕ) (n floor link low at k : ℕ) (p : Passed s n floor link
       → (r o : ℕ) (t : Fields) → Leads s n floor link r o t → true ≡ repeats t
   known_at lo h e j i q r o t l =
       told (names s n link) (arity t) t (At j k) (spells s n floor link (arity t) r o t l refl)
-      (i, (passed-more s n floor link low at k p lo r o t l, q ∙ name_here s n link at k p.reached h e))
+      (i, (passed_more s n floor link low at k p lo r o t l, q ∙ name_here s n link at k p.reached h e))
 
   pub known_none : at ≤ low → Tells (names s n link) k Nothing → (r o : ℕ) (t : Fields) → Leads s n floor link r o t → false ≡ repeats t
   known_none h d r o t l = told (names s n link) k t Nothing (spells s n floor link k r o t l (passed_low s n floor link low at k p h r o t l)) d

@@ -136,8 +136,8 @@ module _ (space : Space) (swap : Bool) (s w : List ℕ) (l r : ℕ) (x : Head) (
                 feeds = (st.behind, (refl, ((end_next name' nullable' shape' parts' rest' rf f.1.1.0.0, f.1.1.0.1), omega (arith, f.1.1.1))));
               }
 
-      pub row-named-place : ¬ (p ≡ 0) → {row : Row} → row ≡ row_of found x y y.next → RowIs space swap s w Feed.NameThenPlace l r p row
-      row-named-place z {row} e =
+      pub row_named_place : ¬ (p ≡ 0) → {row : Row} → row ≡ row_of found x y y.next → RowIs space swap s w Feed.NameThenPlace l r p row
+      row_named_place z {row} e =
           subst (RowIs space swap s w Feed.NameThenPlace l r p) (sym e)
           (record { fed = go; unfed = λ name nullable shape parts rest rf pf tf nf a b c f z. lacking a b f.0 f.1.1.1 z })
         where

@@ -216,8 +216,8 @@ module _ (n : ℕ) (s : List ℕ) (want : List ℕ) (start floor link : ℕ) (q 
     finds_past h = q 0 (λ space en r o up t a. absurd (held_past t past (omega arith) a))
 
     module _ (h : Head) (e : h ≡ head_at s link) where
-      pub finds-here : true ≡ same_bytes want (label_at s n h.name h.nlen) → Finds n s want start link
-      finds-here b = q link go
+      pub finds_here : true ≡ same_bytes want (label_at s n h.name h.nlen) → Finds n s want start link
+      finds_here b = q link go
         where
           go : (space : Space) → n ≡ space.n → Seeks space s want floor link link
           go space en r o up end a = absurd (omega (arith, a.source.leads.is))
@@ -225,9 +225,9 @@ module _ (n : ℕ) (s : List ℕ) (want : List ℕ) (start floor link : ℕ) (q 
               picks_here n s want link h e (omega arith) b space en (field label nullable shape parts rest)
               (record { floor = floor; at = r; label = o; up = up; held = a }) (inl refl)
 
-      pub finds-on : false ≡ same_bytes want (label_at s n h.name h.nlen) → Searched n s want start link h.next
+      pub finds_on : false ≡ same_bytes want (label_at s n h.name h.nlen) → Searched n s want start link h.next
       unfolding has_name
-      finds-on b found f = q found go
+      finds_on b found f = q found go
         where
           go : (space : Space) → n ≡ space.n → Seeks space s want floor link found
           go space en r o up end a = absurd (omega (arith, a.source.leads.is))
@@ -324,27 +324,27 @@ module _ (n : ℕ) (s t : List ℕ) (floor l r key : ℕ) (old : List ℕ) (low 
           → Held space s floor i a o up (field name nullable shape parts rest) → want ≡ name
       want_is space en x = ew ∙ ap (λ (m : ℕ). label_at s m g.name g.nlen) en ∙ read_name x.source g e
 
-      pub match-lack : found ≡ 0 → Matched n s t floor l r key old table false
+      pub match_lack : found ≡ 0 → Matched n s t floor l r key old table false
       unfolding fields_have_same_names
-      match-lack z = matched false go
+      match_lack z = matched false go
         where
           go : (space : Space) → n ≡ space.n → Asks fields_have_same_names space s t low i r false
           go space en a o up end rf x y = absurd (omega (arith, x.source.leads.is))
           go space en a o up (field name nullable shape parts rest) rf x y =
               rw (sym (ap (λ (m : List ℕ). has_name m rf) (want_is space en x)) ∙ (f space rf en y).missing z)
 
-      pub match-on : n ≤ 1024 → i < n → found < 1024 → ¬ (found ≡ 0) → {new : List ℕ} → new ≡ noted table (key + i) r found
+      pub match_on : n ≤ 1024 → i < n → found < 1024 → ¬ (found ≡ 0) → {new : List ℕ} → new ≡ noted table (key + i) r found
           → Matching n s t floor l r key old i g.next new
       unfolding fields_have_same_names
-      match-on few hi small z {new} en =
+      match_on few hi small z {new} en =
           record {
             long = ap length en ∙ noted_long table (key + i) r found ∙ q.long;
-            notes = subst (Notes n s t key old) (sym en) (notes_trans n s t key old table (noted table (key + i) r found) q.notes (noted_says n s t key table i r found (omega arith) (omega arith) past-none says));
+            notes = subst (Notes n s t key old) (sym en) (notes_trans n s t key old table (noted table (key + i) r found) q.notes (noted_says n s t key table i r found (omega arith) (omega arith) past_none says));
             whole = λ b m. q.whole b (go b m);
           }
         where
-          past-none : 0 < found
-          past-none = omega arith
+          past_none : 0 < found
+          past_none = omega arith
 
           says : (space : Space) → n ≡ space.n → Pairs space s t i r found
           says space es name nullable shape parts rest rf x y =
@@ -354,7 +354,7 @@ module _ (n : ℕ) (s t : List ℕ) (floor l r key : ℕ) (old : List ℕ) (low 
               → (space : Space) → n ≡ space.n → Asks fields_have_same_names space s t low i r b
           go b m space es a o up end rf x y = absurd (omega (arith, x.source.leads.is))
           go b m space es a o up (field name nullable shape parts rest) rf x y =
-              let here = (says space es name nullable shape parts rest rf (record { floor = low; at = a; label = o; up = up; held = x }) y).present past-none in
+              let here = (says space es name nullable shape parts rest rf (record { floor = low; at = a; label = o; up = up; held = x }) y).present past_none in
               rw (end_has name here.nullable here.shape here.parts here.rest rf here.ends) (m space es _ _ _ rest rf (held_next x g e) y)
 
 -- the returns of the test for arities
@@ -417,9 +417,9 @@ module _ (space : Space) (s t : List ℕ) (floor l r : ℕ) where
 
     module _ (n : ℕ) (en : n ≡ space.n) (g h : Head) (z : ¬ (r ≡ 0)) (eg : g ≡ head_at s l) (eh : h ≡ head_at t r) (want : List ℕ) (ew : want ≡ label_at s n g.name g.nlen) {named : Bool}
         (k : named ≡ same_bytes want (label_at t n h.name h.nlen)) where
-      names-are : {a o up : ℕ} {name : List ℕ} {nullable : Bool} {shape : Shape} {parts rest : Fields} (name' : List ℕ) {nullable' : Bool} {shape' : Shape} {parts' rest' : Fields}
+      names_are : {a o up : ℕ} {name : List ℕ} {nullable : Bool} {shape : Shape} {parts rest : Fields} (name' : List ℕ) {nullable' : Bool} {shape' : Shape} {parts' rest' : Fields}
           → Held space s floor l a o up (field name nullable shape parts rest) → Chain space t r (field name' nullable' shape' parts' rest') → same_bytes name name' ≡ named
-      names-are name' x y =
+      names_are name' x y =
           ap (λ (u : List ℕ). same_bytes u name') (sym (ew ∙ ap (λ (m : ℕ). label_at s m g.name g.nlen) en ∙ read_name x.source g eg))
           ∙ name_is n t want r h eh k space en y.held.source
 
@@ -427,14 +427,14 @@ module _ (space : Space) (s t : List ℕ) (floor l r : ℕ) where
       unfolding same_order
       order_other e a o up end rf x y = absurd (omega (arith, x.source.leads.is))
       order_other e a o up (field name nullable shape parts rest) end x y = refl
-      order_other e a o up (field name nullable shape parts rest) (field name' nullable' shape' parts' rest') x y = rw (names-are name' x y ∙ e)
+      order_other e a o up (field name nullable shape parts rest) (field name' nullable' shape' parts' rest') x y = rw (names_are name' x y ∙ e)
 
-      pub order-on : named ≡ true → (b : Bool) → Asks same_order space s t l g.next h.next b → Asks same_order space s t floor l r b
+      pub order_on : named ≡ true → (b : Bool) → Asks same_order space s t l g.next h.next b → Asks same_order space s t floor l r b
       unfolding same_order
-      order-on e b f a o up end rf x y = absurd (omega (arith, x.source.leads.is))
-      order-on e b f a o up (field name nullable shape parts rest) end x y = absurd (z y.held.source.leads.is)
-      order-on e b f a o up (field name nullable shape parts rest) (field name' nullable' shape' parts' rest') x y =
-          rw (names-are name' x y ∙ e) (f _ _ _ rest rest' (held_next x g eg) (record { floor = r; at = _; label = _; up = _; held = held_next y.held h eh }))
+      order_on e b f a o up end rf x y = absurd (omega (arith, x.source.leads.is))
+      order_on e b f a o up (field name nullable shape parts rest) end x y = absurd (z y.held.source.leads.is)
+      order_on e b f a o up (field name nullable shape parts rest) (field name' nullable' shape' parts' rest') x y =
+          rw (names_are name' x y ∙ e) (f _ _ _ rest rest' (held_next x g eg) (record { floor = r; at = _; label = _; up = _; held = held_next y.held h eh }))
 
 -- names in one order are all there, and a chain of one arity is that of its names
 order_within : (lf pf rf : Fields) → EndOf pf rf → same_order lf pf ≡ true → fields_have_same_names lf rf ≡ true

@@ -18,7 +18,7 @@ use Rattle.refusals.specs.declared.Progress.{Progress}
 use Rattle.sheet.proofs.Heads.{head_inside, by_quads_lem}
 use Rattle.refusals.proofs.Light.{plain_passes, plain_parts}
 use Rattle.refusals.proofs.Passing.{right_past}
-use Rattle.refusals.proofs.Walking.{walk_none, walk_bare, walk_bare_wrong, walk_parts_lost, walk-parts-wrong, walk-on, ready_past}
+use Rattle.refusals.proofs.Walking.{walk_none, walk_bare, walk_bare_wrong, walk_parts_lost, walk_parts_wrong, walk_on, ready_past}
 
 -- what a number tells
 module _ (s : List ℕ) (n up link : ℕ) (p : Progress) (k : ℕ) where
@@ -175,8 +175,8 @@ module _ (s : List ℕ) (n up link due found k : ℕ) (long : 16 * n ≤ length 
       came : Walks s n h.kind h.first (progress_of (due + 1) r) 0 (Came (progress_of (inner % 65536) (inner / 268435456)) (inner / 65536 % 4096))
       came = told_came s n h.kind h.first (progress_of (due + 1) r) 0 inner t ne
 
-      pub parts-ready : Ready n (progress_of (inner % 65536) (inner / 268435456)) (k + 1)
-      parts-ready =
+      pub parts_ready : Ready n (progress_of (inner % 65536) (inner / 268435456)) (k + 1)
+      parts_ready =
           let g = came.grows in
           record {
             few = ready.few;
@@ -186,14 +186,14 @@ module _ (s : List ℕ) (n up link due found k : ℕ) (long : 16 * n ≤ length 
             counted = omega (arith, g.1, ready.counted);
           }
 
-      pub parts-farther : due + 1 ≤ inner % 65536
-      parts-farther = came.grows.1
+      pub parts_farther : due + 1 ≤ inner % 65536
+      parts_farther = came.grows.1
 
-      pub parts-wrong : parts_right h.kind (inner / 65536 % 4096) ≡ false → Walks s n up link (progress_of due found) k Lost
-      parts-wrong = walk-parts-wrong s n up link (progress_of due found) k e lt h head_is (progress_of (due + 1) r) past
+      pub parts_wrong : parts_right h.kind (inner / 65536 % 4096) ≡ false → Walks s n up link (progress_of due found) k Lost
+      parts_wrong = walk_parts_wrong s n up link (progress_of due found) k e lt h head_is (progress_of (due + 1) r) past
           (progress_of (inner % 65536) (inner / 268435456)) (inner / 65536 % 4096) came
 
-      pub parts-on : parts_right h.kind (inner / 65536 % 4096) ≡ true → (o : Walked)
+      pub parts_on : parts_right h.kind (inner / 65536 % 4096) ≡ true → (o : Walked)
           → Walks s n up h.next (progress_of (inner % 65536) (inner / 268435456)) (k + 1) o → Walks s n up link (progress_of due found) k o
-      parts-on = walk-on s n up link (progress_of due found) k e lt h head_is (progress_of (due + 1) r) past
+      parts_on = walk_on s n up link (progress_of due found) k e lt h head_is (progress_of (due + 1) r) past
           (progress_of (inner % 65536) (inner / 268435456)) (inner / 65536 % 4096) came

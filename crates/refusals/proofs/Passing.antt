@@ -71,13 +71,13 @@ module _ (h : Head) (up found : ℕ) (room : found % 4294967296 < 1000000) (byte
   pub tested : (x y : ℕ) → (x ≡ cond f 4294967296 0) × (x ≤ 4294967296) → (y ≡ cond l 8589934592 0) × (y ≤ 8589934592) → Passed h up found (found % 4294967296 + bytes + x + y)
   tested x y ex ey =
       let r = packs 0 (found % 4294967296 + bytes) f l (omega arith) in
-      let at-is : (found % 4294967296 + bytes + x + y) % 4294967296 ≡ found % 4294967296 + bytes = (λ i. (found % 4294967296 + bytes + ex.0 i + ey.0 i) % 4294967296) ∙ ap (λ (q : Progress). q.at) r in
+      let at_is : (found % 4294967296 + bytes + x + y) % 4294967296 ≡ found % 4294967296 + bytes = (λ i. (found % 4294967296 + bytes + ex.0 i + ey.0 i) % 4294967296) ∙ ap (λ (q : Progress). q.at) r in
       record {
         past =
             λ due.
             (λ i. progress_of (due + 1) (found % 4294967296 + bytes + ex.0 i + ey.0 i))
             ∙ packs (due + 1) (found % 4294967296 + bytes) f l (omega arith)
             ∙ (λ i. record { due = due + 1; at = found % 4294967296 + all i; figure = ef i; label = el i });
-        few = omega (arith, at-is, few);
+        few = omega (arith, at_is, few);
         small = omega (arith, ex.1, ey.1, few, room);
       }

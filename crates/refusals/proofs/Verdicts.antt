@@ -55,23 +55,23 @@ module _ (s : List ℕ) where
     says_kind h = rw (whole, h)
 
     module _ (kinds : bad_kind s ≡ false) where
-      pub says-chain : bad_chain s ≡ true → record { number = 3; n = 0; m = 0 } ≡ verdict s
+      pub says_chain : bad_chain s ≡ true → record { number = 3; n = 0; m = 0 } ≡ verdict s
       unfolding verdict refusal
-      says-chain h = rw (whole, kinds, h)
+      says_chain h = rw (whole, kinds, h)
 
       module _ (chain : bad_chain s ≡ false) where
-        pub says-figure : bad_figure s ≡ true → record { number = 4; n = 0; m = 0 } ≡ verdict s
+        pub says_figure : bad_figure s ≡ true → record { number = 4; n = 0; m = 0 } ≡ verdict s
         unfolding verdict refusal
-        says-figure h = rw (whole, kinds, chain, h)
+        says_figure h = rw (whole, kinds, chain, h)
 
         module _ (figures : bad_figure s ≡ false) where
-          pub says-label : bad_label s ≡ true → record { number = 5; n = 0; m = 0 } ≡ verdict s
+          pub says_label : bad_label s ≡ true → record { number = 5; n = 0; m = 0 } ≡ verdict s
           unfolding verdict refusal
-          says-label h = rw (whole, kinds, chain, figures, h)
+          says_label h = rw (whole, kinds, chain, figures, h)
 
-          pub says-accepted : bad_label s ≡ false → (n m : ℕ) → n ≡ records_of s → m ≡ labels_of s → record { number = 0; n = n; m = m } ≡ verdict s
+          pub says_accepted : bad_label s ≡ false → (n m : ℕ) → n ≡ records_of s → m ≡ labels_of s → record { number = 0; n = n; m = m } ≡ verdict s
           unfolding verdict refusal
-          says-accepted h n m e f = rw (whole, kinds, chain, figures, h) (λ i. record { number = 0; n = e i; m = f i })
+          says_accepted h n m e f = rw (whole, kinds, chain, figures, h) (λ i. record { number = 0; n = e i; m = f i })
 
 -- of two records neither is a Struct with two parts of one name
 one_part : (t : Fields) → count t ≤ 1 → repeats t ≡ false
@@ -102,7 +102,7 @@ module _ (s : List ℕ) (n m : ℕ) (fits : Fits s n m) (kinds : bad_kind s ≡ 
   pub chain_lost : Walks s n 0 link outset 0 Lost → record { number = 3; n = 0; m = 0 } ≡ verdict s
   unfolding bad_chain
   chain_lost w =
-      says-chain s fits.whole kinds
+      says_chain s fits.whole kinds
       (ap not (all_not _ 0 (ap (λ (l : ℕ). linked s l 1 (read s)) (sym (root ∙ ap start fits.records)) ∙ whole_walk w)))
 
   pub chain_found : (p : Progress) (k : ℕ) → Walks s n 0 link outset 0 (Came p k) → Found s n m link p
@@ -122,7 +122,7 @@ module _ (s : List ℕ) (n m link : ℕ) (p : Progress) (found : Found s n m lin
   pub found_short : ¬ (p.due ≡ n) → record { number = 3; n = 0; m = 0 } ≡ verdict s
   unfolding bad_chain
   found_short h =
-      says-chain s found.fits.whole found.kinds
+      says_chain s found.fits.whole found.kinds
       (ap not (all_not _ 1 (ne_eqb (count (read s)) (records_of s - 1) (λ e. h (omega (arith, due_is, found.fits.records, found.fits.some))))))
 
   module _ (due : p.due ≡ n) where
@@ -134,22 +134,22 @@ module _ (s : List ℕ) (n m link : ℕ) (p : Progress) (found : Found s n m lin
         (all_cons _ (eq-eqb (count (read s)) (records_of s - 1) (omega (arith, due_is, found.fits.records))) all_nil))
 
     pub found_figure : p.figure ≡ true → record { number = 4; n = 0; m = 0 } ≡ verdict s
-    found_figure h = says-figure s found.fits.whole found.kinds chain_right (sym figure_is ∙ h)
+    found_figure h = says_figure s found.fits.whole found.kinds chain_right (sym figure_is ∙ h)
 
     module _ (figure : p.figure ≡ false) where
-      figures-right : bad_figure s ≡ false
-      figures-right = sym figure_is ∙ figure
+      figures_right : bad_figure s ≡ false
+      figures_right = sym figure_is ∙ figure
 
       mis : misplaced s 0 (walk s) ≡ true → record { number = 5; n = 0; m = 0 } ≡ verdict s
       unfolding bad_label
-      mis h = says-label s found.fits.whole found.kinds chain_right figures-right (one_is_lem _ 0 h)
+      mis h = says_label s found.fits.whole found.kinds chain_right figures_right (one_is_lem _ 0 h)
 
-      pub found-label : p.label ≡ true → record { number = 5; n = 0; m = 0 } ≡ verdict s
-      found-label h = mis (sym places_are ∙ ap (λ (b : Bool). b || not (eqb p.at (labels_of s))) h)
+      pub found_label : p.label ≡ true → record { number = 5; n = 0; m = 0 } ≡ verdict s
+      found_label h = mis (sym places_are ∙ ap (λ (b : Bool). b || not (eqb p.at (labels_of s))) h)
 
       module _ (label : p.label ≡ false) where
-        pub found-end : ¬ (p.at ≡ m) → record { number = 5; n = 0; m = 0 } ≡ verdict s
-        found-end h =
+        pub found_end : ¬ (p.at ≡ m) → record { number = 5; n = 0; m = 0 } ≡ verdict s
+        found_end h =
             mis
             (sym places_are ∙ ap (λ (b : Bool). b || not (eqb p.at (labels_of s))) label
             ∙ ap not (ne_eqb p.at (labels_of s) (λ e. h (omega (arith, found.fits.labels)))))
@@ -163,18 +163,18 @@ module _ (s : List ℕ) (n m link : ℕ) (p : Progress) (found : Found s n m lin
           holds : Holds s n 1 0 (read s)
           holds =
               subst (λ (k : ℕ). Holds s k 1 0 (read s)) (sym found.fits.records)
-              (sound_holds s plain (record { whole = found.fits.whole; kinds = found.kinds; chain = chain_right; figures = figures-right; places = placed }))
+              (sound_holds s plain (record { whole = found.fits.whole; kinds = found.kinds; chain = chain_right; figures = figures_right; places = placed }))
 
           module _ {b : Bool} (names : (o : ℕ) (t : Fields) → Holds s n 1 o t → 1 + count t ≡ n → b ≡ not (names_differ t)) where
-            pub found-twins : b ≡ true → record { number = 5; n = 0; m = 0 } ≡ verdict s
+            pub found_twins : b ≡ true → record { number = 5; n = 0; m = 0 } ≡ verdict s
             unfolding bad_label
-            found-twins h =
-                says-label s found.fits.whole found.kinds chain_right figures-right (one_is_lem _ 1 (sym (names 0 (read s) holds (omega (arith, due_is))) ∙ h))
+            found_twins h =
+                says_label s found.fits.whole found.kinds chain_right figures_right (one_is_lem _ 1 (sym (names 0 (read s) holds (omega (arith, due_is))) ∙ h))
 
-            pub found-sheet : b ≡ false → record { number = 0; n = n; m = m } ≡ verdict s
+            pub found_sheet : b ≡ false → record { number = 0; n = n; m = m } ≡ verdict s
             unfolding bad_label
-            found-sheet h =
-                says-accepted s found.fits.whole found.kinds chain_right figures-right
+            found_sheet h =
+                says_accepted s found.fits.whole found.kinds chain_right figures_right
                 (one_cons _ placed (one_cons _ (sym (names 0 (read s) holds (omega (arith, due_is))) ∙ h) one_nil)) n m found.fits.records found.fits.labels
 
 -- what a verdict says of the refusal number

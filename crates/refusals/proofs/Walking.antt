@@ -113,47 +113,47 @@ module _ (s : List ℕ) (n up link : ℕ) (p : Progress) (k : ℕ) where
         }
 
     module _ (inner : Progress) (parts : ℕ) (w : Walks s n h.kind h.first q 0 (Came inner parts)) where
-      arity-is : (f : ℕ) → n ≤ p.due + suc f → parts ≡ arity (parts_of_lem f)
-      arity-is f g = omega (arith, (inside w f g).1.1)
+      arity_is : (f : ℕ) → n ≤ p.due + suc f → parts ≡ arity (parts_of_lem f)
+      arity_is f g = omega (arith, (inside w f g).1.1)
 
-      inner-is : (f : ℕ) → n ≤ p.due + suc f → inner ≡ pass_all s q (met h.kind (p.due + 1) (parts_of_lem f))
-      inner-is f g = (inside w f g).1.0 ∙ ap (λ (j : ℕ). pass_all s q (met h.kind j (parts_of_lem f))) due_is
+      inner_is : (f : ℕ) → n ≤ p.due + suc f → inner ≡ pass_all s q (met h.kind (p.due + 1) (parts_of_lem f))
+      inner_is f g = (inside w f g).1.0 ∙ ap (λ (j : ℕ). pass_all s q (met h.kind j (parts_of_lem f))) due_is
 
-      inner-due : (f : ℕ) → n ≤ p.due + suc f → inner.due ≡ p.due + 1 + count (parts_of_lem f)
-      inner-due f g =
-          ap (λ (x : Progress). x.due) (inner-is f g)
+      inner_due : (f : ℕ) → n ≤ p.due + suc f → inner.due ≡ p.due + 1 + count (parts_of_lem f)
+      inner_due f g =
+          ap (λ (x : Progress). x.due) (inner_is f g)
           ∙ omega (arith, pass_due s q (met h.kind (p.due + 1) (parts_of_lem f)), met_length h.kind (p.due + 1) (parts_of_lem f), due_is)
 
-      parts-linked : (f : ℕ) → n ≤ p.due + suc f → linked s (head_at s p.due).first (p.due + 1) (parts_of_lem f) ≡ true
-      parts-linked f g = rw (← eh) (subst (λ (j : ℕ). linked s h.first j (parts_of_lem f) ≡ true) due_is (inside w f g).0)
+      parts_linked : (f : ℕ) → n ≤ p.due + suc f → linked s (head_at s p.due).first (p.due + 1) (parts_of_lem f) ≡ true
+      parts_linked f g = rw (← eh) (subst (λ (j : ℕ). linked s h.first j (parts_of_lem f) ≡ true) due_is (inside w f g).0)
 
-      pub walk-parts-wrong : parts_right h.kind parts ≡ false → Walks s n up link p k Lost
+      pub walk_parts_wrong : parts_right h.kind parts ≡ false → Walks s n up link p k Lost
       unfolding linked
-      walk-parts-wrong b =
+      walk_parts_wrong b =
           record {
             grows = tt;
-            says = steps (λ t. linked s link p.due t ≡ false) (λ f g. all_not _ 1 (rw (← eh, ← arity-is f g) b));
+            says = steps (λ t. linked s link p.due t ≡ false) (λ f g. all_not _ 1 (rw (← eh, ← arity_is f g) b));
           }
 
       -- what the walk of the rest says
       outside : {o : Walked} → Walks s n up h.next inner (k + 1) o → (f : ℕ) → n ≤ p.due + suc f → Says s up h.next inner (k + 1) (rest_of f) o
       unfolding rest_of parts_of_lem
       outside {o} v f g =
-          subst (λ (j : ℕ). Says s up h.next inner (k + 1) (walk_from f s n h.next j) o) (inner-due f g) (v.says f (omega (arith, inner-due f g)))
+          subst (λ (j : ℕ). Says s up h.next inner (k + 1) (walk_from f s n h.next j) o) (inner_due f g) (v.says f (omega (arith, inner_due f g)))
 
-      pub walk-rest-lost : Walks s n up h.next inner (k + 1) Lost → Walks s n up link p k Lost
+      pub walk_rest_lost : Walks s n up h.next inner (k + 1) Lost → Walks s n up link p k Lost
       unfolding linked
-      walk-rest-lost v =
+      walk_rest_lost v =
           record {
             grows = tt;
             says =
                 steps (λ t. linked s link p.due t ≡ false)
-                (λ f g. all_not _ 3 (rw (← eh) (subst (λ (j : ℕ). linked s h.next j (rest_of f) ≡ false) (inner-due f g) (outside v f g))));
+                (λ f g. all_not _ 3 (rw (← eh) (subst (λ (j : ℕ). linked s h.next j (rest_of f) ≡ false) (inner_due f g) (outside v f g))));
           }
 
-      pub walk-rest : parts_right h.kind parts ≡ true → (last : Progress) (j : ℕ) → Walks s n up h.next inner (k + 1) (Came last j) → Walks s n up link p k (Came last j)
+      pub walk_rest : parts_right h.kind parts ≡ true → (last : Progress) (j : ℕ) → Walks s n up h.next inner (k + 1) (Came last j) → Walks s n up link p k (Came last j)
       unfolding linked met arity
-      walk-rest b last j v =
+      walk_rest b last j v =
           record {
             grows = (v.grows.0, omega (arith, v.grows.1, w.grows.1, due_is));
             says =
@@ -161,12 +161,12 @@ module _ (s : List ℕ) (n up link : ℕ) (p : Progress) (k : ℕ) where
                 (λ t. (linked s link p.due t ≡ true) × ((last ≡ pass_all s p (met up p.due t)) × (j ≡ k + arity t)))
                 (λ f g. (
                   all_cons _ (eq-eqb link p.due e)
-                      (all_cons _ (rw (← eh, ← arity-is f g) b)
-                      (all_cons _ (parts-linked f g)
-                      (all_cons _ (rw (← eh) (subst (λ (i : ℕ). linked s h.next i (rest_of f) ≡ true) (inner-due f g) (outside v f g).0)) all_nil))),
+                      (all_cons _ (rw (← eh, ← arity_is f g) b)
+                      (all_cons _ (parts_linked f g)
+                      (all_cons _ (rw (← eh) (subst (λ (i : ℕ). linked s h.next i (rest_of f) ≡ true) (inner_due f g) (outside v f g).0)) all_nil))),
                   (
                     (outside v f g).1.0
-                        ∙ ap₂ (λ (x : Progress) (i : ℕ). pass_all s x (met up i (rest_of f))) (inner-is f g) (inner-due f g)
+                        ∙ ap₂ (λ (x : Progress) (i : ℕ). pass_all s x (met up i (rest_of f))) (inner_is f g) (inner_due f g)
                         ∙ sym (pass_append s q (met h.kind (p.due + 1) (parts_of_lem f)) (met up (p.due + 1 + count (parts_of_lem f)) (rest_of f)))
                         ∙ ap (λ (x : Progress). pass_all s x (met h.kind (p.due + 1) (parts_of_lem f) ++ met up (p.due + 1 + count (parts_of_lem f)) (rest_of f)))
                         (eq ∙ ap (λ (x : Head). pass_head x up p) eh),
@@ -175,9 +175,9 @@ module _ (s : List ℕ) (n up link : ℕ) (p : Progress) (k : ℕ) where
                 ));
           }
 
-      pub walk-on : parts_right h.kind parts ≡ true → (o : Walked) → Walks s n up h.next inner (k + 1) o → Walks s n up link p k o
-      walk-on b (Came last j) v = walk-rest b last j v
-      walk-on b Lost v = walk-rest-lost v
+      pub walk_on : parts_right h.kind parts ≡ true → (o : Walked) → Walks s n up h.next inner (k + 1) o → Walks s n up link p k o
+      walk_on b (Came last j) v = walk_rest b last j v
+      walk_on b Lost v = walk_rest_lost v
 
 -- a record without parts
 module _ (s : List ℕ) (n up link : ℕ) (p : Progress) (k : ℕ) (e : link ≡ p.due) (lt : p.due < n) (h : Head) (eh : h ≡ head_at s p.due)
@@ -186,7 +186,7 @@ module _ (s : List ℕ) (n up link : ℕ) (p : Progress) (k : ℕ) (e : link ≡
   none = walk_none s n h.kind h.first q 0 (ready_past s n up link p k e lt h eh q eq 0 (omega arith) ready few) z
 
   pub walk_bare : parts_right h.kind 0 ≡ true → (o : Walked) → Walks s n up h.next q (k + 1) o → Walks s n up link p k o
-  walk_bare = walk-on s n up link p k e lt h eh q eq q 0 none
+  walk_bare = walk_on s n up link p k e lt h eh q eq q 0 none
 
   pub walk_bare_wrong : parts_right h.kind 0 ≡ false → Walks s n up link p k Lost
-  walk_bare_wrong = walk-parts-wrong s n up link p k e lt h eh q eq q 0 none
+  walk_bare_wrong = walk_parts_wrong s n up link p k e lt h eh q eq q 0 none

@@ -73,14 +73,14 @@ module _ (space : Space) (w : List ℕ) (d : Spot) (c : DataType) (room : Room w
     goal_is {at} {label} p q z =
         λ i.
         record {
-          at = at-is i;
+          at = at_is i;
           label = label_is i;
           nlen = sym (name_length_lem (record { floor = last.floor; at = last.at; label = last.label; up = last.up; held = last.held }) h last_head) i;
           nullable = (z ∙ read_nullable last.held.source h last_head) i;
         }
       where
-        at-is : at ≡ last.at
-        at-is = omega (arith, p, last_at)
+        at_is : at ≡ last.at
+        at_is = omega (arith, p, last_at)
 
         label_is : label ≡ last.label
         label_is = omega (arith, q, last_labelled, last_label)
@@ -117,11 +117,11 @@ module _ (space : Space) (w : List ℕ) (d : Spot) (c : DataType) (room : Room w
     -- the core was written anew
     module _ (h : Head) (e : h ≡ head_at (region space w) (d.at - 1)) (x : DataType) {u : List ℕ} (kept : Kept space v u last.at (last.label + length last.name))
         (few : size x + size c < space.n) (short : letters x + letters c ≤ space.m) where
-      core-answered : (o : Out) (m : Option DataType) → Means space v u (goal h e) (size core + size x) (letters core + letters x) o m
+      core_answered : (o : Out) (m : Option DataType) → Means space v u (goal h e) (size core + size x) (letters core + letters x) o m
           → AnswerIs space u o (and_then m (λ t. some (with_core c.shape c.parts t)))
       unfolding goal count labels
-      core-answered (Done f) none b = b
-      core-answered (Done f) (some t) b =
+      core_answered (Done f) none b = b
+      core_answered (Done f) (some t) b =
           let n = b last.name (named h e) in
           record {
             records = n.records ∙ sym (last.many t);
@@ -133,9 +133,9 @@ module _ (space : Space) (w : List ℕ) (d : Spot) (c : DataType) (room : Room w
                 (λ j lo hi. get_or-drop space.half u j 0 ∙ kept.between (space.half + j) (omega arith) (omega arith) ∙ sym (get_or-drop space.half v j 0) ∙ same j)
                 n.holds;
           }
-      core-answered No none b = tt
-      core-answered No (some t) b = b
-      core-answered Full m b =
+      core_answered No none b = tt
+      core_answered No (some t) b = b
+      core_answered Full m b =
           ⊎_elim (λ q. omega (arith, last.records))
           (λ q.
           omega
@@ -183,5 +183,5 @@ module _ (rules : Rules) (space : Space) {s w : List ℕ} {link : ℕ} {d : Spot
             let i : l.link ≡ at = omega (arith, p, last_at space w d c room inside k low, link_is l.held.source) in
             let typed = subst (λ (i : ℕ). Typed space v i core) i (core_typed space w d c room inside k low v a) in
             subst (AnswerIs space u o) (sym f.is)
-            (core-answered space w d c room inside k low v a h e x n.writes.kept few short o (coercion rules core x)
+            (core_answered space w d c room inside k low v a h e x n.writes.kept few short o (coercion rules core x)
             (n.means core x typed t (omega (arith, l.records))))

@@ -240,10 +240,10 @@ module _ (rules : Rules) (space : Space) (Is : DataType → Type 0) {s w : List 
           m.means (type_of shape parts) c (listed_typed a) k (omega (arith, fits_few name nullable shape parts rest f)) (omega (arith, fits_short name nullable shape parts rest f))
 
       -- the candidate gives way to the next
-      pub folds-on : {u : List ℕ} {d' : Spot} → ((c : DataType) → Is c → TypeRight c) → (o : Out) → Steps (coercion rules) space Is s w v link (Done d')
+      pub folds_on : {u : List ℕ} {d' : Spot} → ((c : DataType) → Is c → TypeRight c) → (o : Out) → Steps (coercion rules) space Is s w v link (Done d')
           → Folds (fold_from rules) space (Candidate space v d') s v u link h.next o → Folds (fold_from rules) space Is s w u floor link o
       unfolding fold_from types_of
-      folds-on {u} {d'} right o m g = record { within = within_trans m.within g.within; means = go }
+      folds_on {u} {d'} right o m g = record { within = within_trans m.within g.within; means = go }
         where
           more : (c x : DataType) (rest : Fields) → TypeRight c → Typed space s link x → Listed space s link h.next rest → size c + (size x + count rest) < space.n
               → letters c + (letters x + length (labels rest)) ≤ space.m → (r : Option DataType) → coercion rules x c ≡ r → AnswerIs space v (Done d') r
@@ -259,9 +259,9 @@ module _ (rules : Rules) (space : Space) (Is : DataType → Type 0) {s w : List 
               (coercion rules (type_of shape parts) c) refl (first m c name nullable shape parts rest k a f))
 
       -- there is no common type
-      pub folds-no : Steps (coercion rules) space Is s w v link No → Folds (fold_from rules) space Is s w v floor link No
+      pub folds_no : Steps (coercion rules) space Is s w v link No → Folds (fold_from rules) space Is s w v floor link No
       unfolding fold_from types_of
-      folds-no m = record { within = m.within; means = go }
+      folds_no m = record { within = m.within; means = go }
         where
           go : (c : DataType) (types : Fields) → Is c → Listed space s floor link types → Fits space (size c) (letters c) types → AnswerIs space v No (fold_from rules c (types_of types))
           go c end k a f = absurd (some_listed past a)
@@ -270,8 +270,8 @@ module _ (rules : Rules) (space : Space) (Is : DataType → Type 0) {s w : List 
               (stops rules space v (types_of rest) (coercion rules (type_of shape parts) c) (first m c name nullable shape parts rest k a f))
 
       -- there is always room
-      pub folds-full : Steps (coercion rules) space Is s w v link Full → Folds (fold_from rules) space Is s w v floor link No
-      folds-full m = record { within = m.within; means = go }
+      pub folds_full : Steps (coercion rules) space Is s w v link Full → Folds (fold_from rules) space Is s w v floor link No
+      folds_full m = record { within = m.within; means = go }
         where
           go : (c : DataType) (types : Fields) → Is c → Listed space s floor link types → Fits space (size c) (letters c) types → AnswerIs space v No (fold_from rules c (types_of types))
           go c end k a f = absurd (some_listed past a)
@@ -423,9 +423,9 @@ module _ (rules : Rules) (space : Space) {s : List ℕ} {link : ℕ} (past : 0 <
       of_two u o k (field name nullable shape parts (field name₂ nullable₂ shape₂ parts₂ (field name₃ nullable₃ shape₃ parts₃ rest))) a f =
           let b = (listed_next (listed_next a h e) h₂ e₂).held.source.leads in absurd (omega (arith, b.is, b.above))
 
-      pub pair-on : {w : List ℕ} (u : List ℕ) (o : Out) → Steps (coercion rules) space (Typed space s h.next) s w u link o → Reached (pair_answer rules) space s w u 0 link o
+      pub pair_on : {w : List ℕ} (u : List ℕ) (o : Out) → Steps (coercion rules) space (Typed space s h.next) s w u link o → Reached (pair_answer rules) space s w u 0 link o
       unfolding count labels
-      pair-on u o g =
+      pair_on u o g =
           record {
             within = g.within;
             means =

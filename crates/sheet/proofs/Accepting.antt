@@ -93,38 +93,38 @@ module _ (s : List ℕ) (n : ℕ) (plain : Plain s) (long : length s ≡ 16 * n 
 
     -- the zone, where there is one
     module _ (z : zoned_in h ≡ true) where
-      zone-placed : placed (o + h.nlen) (zone_at h) (zone_len h) ≡ true
+      zone_placed : placed (o + h.nlen) (zone_at h) (zone_len h) ≡ true
       unfolding label_right
-      zone-placed =
+      zone_placed =
           let g : implies (zoned_in h) (placed (o + h.nlen) (zone_at h) (zone_len h)) ≡ true = all_at _ 2 placed' in
           rw z at g
 
-      zone-inside : o + h.nlen + zone_len h ≤ labels_of s
-      zone-inside =
+      zone_inside : o + h.nlen + zone_len h ≤ labels_of s
+      zone_inside =
           let g : o + (h.nlen + cond (zoned_in h) (zone_len h) 0) ≤ labels_of s = in' in
           let g' : o + (h.nlen + zone_len h) ≤ labels_of s = rw z at g in
           omega arith
 
       zone_length_lem : length (label_at s n (zone_at h) (zone_len h)) ≡ zone_len h
-      zone_length_lem = label_length (o + h.nlen) (zone_at h) (zone_len h) zone-inside zone-placed
+      zone_length_lem = label_length (o + h.nlen) (zone_at h) (zone_len h) zone_inside zone_placed
 
-      quad-low : h.quad < 16777216
+      quad_low : h.quad < 16777216
       unfolding record_right
-      quad-low =
+      quad_low =
           let g : implies (zoned_in h) (ltb h.quad 16777216) ≡ true = all_at _ 3 right in
           ltb-true h.quad 16777216 (rw z at g)
 
-      quad-zone : offset (o + length name) (label_at s n (zone_at h) (zone_len h)) + 65536 * length (label_at s n (zone_at h) (zone_len h)) ≡ h.quad
-      quad-zone =
+      quad_zone : offset (o + length name) (label_at s n (zone_at h) (zone_len h)) + 65536 * length (label_at s n (zone_at h) (zone_len h)) ≡ h.quad
+      quad_zone =
           let e : offset (o + h.nlen) (label_at s n (zone_at h) (zone_len h)) ≡ zone_at h =
-          offset_made (o + h.nlen) (label_at s n (zone_at h) (zone_len h)) (zone_at h) (zone_len h) zone_length_lem zone-placed in
-          rw name_length_lem (omega (arith, e, zone_length_lem, quad-low))
+          offset_made (o + h.nlen) (label_at s n (zone_at h) (zone_len h)) (zone_at h) (zone_len h) zone_length_lem zone_placed in
+          rw name_length_lem (omega (arith, e, zone_length_lem, quad_low))
 
     quad_made : quad_of (o + length name) (size_in h) (zone_of s n h) ≡ h.quad
     quad_made = go (zoned_in h) refl
       where
         go : (b : Bool) → zoned_in h ≡ b → quad_of (o + length name) (cond b 0 h.quad) (cond b (present (label_at s n (zone_at h) (zone_len h))) absent) ≡ h.quad
-        go true z = quad-zone z
+        go true z = quad_zone z
         go false z = refl
 
     pub head_made : h ≡ head_of o name (nullable_in h) (shape_of s n h) h.first h.next
@@ -142,7 +142,7 @@ module _ (s : List ℕ) (n : ℕ) (plain : Plain s) (long : length s ≡ 16 * n 
       where
         go : (b : Bool) → zoned_in h ≡ b → Span s (16 * n + o + length name) (zone_bytes (cond b (present (label_at s n (zone_at h) (zone_len h))) absent))
         go true z =
-            span_move (omega (arith, name_length_lem)) (label_span (o + h.nlen) (zone_at h) (zone_len h) (zone-inside z) (zone-placed z))
+            span_move (omega (arith, name_length_lem)) (label_span (o + h.nlen) (zone_at h) (zone_len h) (zone_inside z) (zone_placed z))
         go false z = span_nil
 
     pub own_span : Span s (16 * n + o) (own_labels name (shape_of s n h))
@@ -152,7 +152,7 @@ module _ (s : List ℕ) (n : ℕ) (plain : Plain s) (long : length s ≡ 16 * n 
     zone_label = go (zoned_in h) refl
       where
         go : (b : Bool) → zoned_in h ≡ b → Label (zone_bytes (cond b (present (label_at s n (zone_at h) (zone_len h))) absent))
-        go true z = label_label (o + h.nlen) (zone_at h) (zone_len h) (omega arith) (zone-inside z) (zone-placed z)
+        go true z = label_label (o + h.nlen) (zone_at h) (zone_len h) (omega arith) (zone_inside z) (zone_placed z)
         go false z = record { short = omega arith; plain = λ i. omega arith }
 
     pub own_labelled : length (own_labels name (shape_of s n h)) ≡ labelled h

@@ -128,11 +128,11 @@ module _ {space : Space} {s : List ℕ} {at : ℕ} where
 
     module _ (z : w ≡ true) (g : Head) (eg : g ≡ head_at s h.first) where
       -- the value stands behind its wrapper
-      value-above : {t : DataType} → Typed space s at t → at < g.next
-      value-above a = second_above (typed_two (is_wrapper_lem a ∙ z) refl a) (held_first a.chain.held h e) g eg
+      value_above : {t : DataType} → Typed space s at t → at < g.next
+      value_above a = second_above (typed_two (is_wrapper_lem a ∙ z) refl a) (held_first a.chain.held h e) g eg
 
       pub core_lost : g.next ≤ at → CoreAt space s at at
-      core_lost h = record { is = λ t a. absurd (omega (arith, value-above a)) }
+      core_lost h = record { is = λ t a. absurd (omega (arith, value_above a)) }
 
       pub core_down : {k : ℕ} → CoreAt space s g.next k → CoreAt space s at k
       core_down {k} c =
@@ -349,20 +349,20 @@ module _ (mask : ℕ) where
         (stamp_stays inner t _ (typed_right inner core_typed).0.0 (typed_right t a).0.0 (rv.kind ∙ kv) (rx.kind ∙ kx) zone unit)
 
     module _ (b : is_plain x && is_plain v ≡ true) {new old : Leaf} (en : new ≡ leaf_of x) (eo : old ≡ leaf_of v) where
-      new-valued : Valued new t
-      new-valued = plain_valued x (and_fst _ _ b) en ex a
+      new_valued : Valued new t
+      new_valued = plain_valued x (and_fst _ _ b) en ex a
 
-      core-valued : Valued old inner
-      core-valued = plain_valued v (and_snd (is_plain x) _ b) eo ev core_typed
+      core_valued : Valued old inner
+      core_valued = plain_valued v (and_snd (is_plain x) _ b) eo ev core_typed
 
       -- a candidate that is no wrapper
-      pub keeps-alone : h.kind < 32 → ((l r u : DataType) → Valued new l → Valued old r → Valued old u → coercion rules l r ≡ some u) → coercion rules t c ≡ some c
-      keeps-alone low f = subst (λ (k : DataType). coercion rules t k ≡ some k) (core_bare c.shape c.parts bare) (f t inner inner new-valued core-valued core-valued)
+      pub keeps_alone : h.kind < 32 → ((l r u : DataType) → Valued new l → Valued old r → Valued old u → coercion rules l r ≡ some u) → coercion rules t c ≡ some c
+      keeps_alone low f = subst (λ (k : DataType). coercion rules t k ≡ some k) (core_bare c.shape c.parts bare) (f t inner inner new_valued core_valued core_valued)
         where
           bare : is_wrapper c.shape.kind ≡ false
           bare = let e = (typed_reads d eh).kind in rw (ne_eqb c.shape.kind 37 (λ q. omega arith), ne_eqb c.shape.kind 38 (λ q. omega arith)) refl
 
       -- one that is
-      pub keeps-under : 32 ≤ h.kind → (v.kind ≡ 27 → ⊥) → ((l r u : DataType) → Valued old l → Valued new r → Valued old u → coercion rules l r ≡ some u) → coercion rules t c ≡ some c
-      keeps-under high n f =
-          keeps_core high (leaf_low x (and_fst _ _ b) refl) (leaf_low v (and_snd (is_plain x) _ b) refl) n (f inner t inner core-valued new-valued core-valued)
+      pub keeps_under : 32 ≤ h.kind → (v.kind ≡ 27 → ⊥) → ((l r u : DataType) → Valued old l → Valued new r → Valued old u → coercion rules l r ≡ some u) → coercion rules t c ≡ some c
+      keeps_under high n f =
+          keeps_core high (leaf_low x (and_fst _ _ b) refl) (leaf_low v (and_snd (is_plain x) _ b) refl) n (f inner t inner core_valued new_valued core_valued)

@@ -179,15 +179,15 @@ module _ (rules : Rules) (pairs : is_list_question rules.question ≡ false) whe
 
     -- a wrapper and a core
     module _ (v : DataType) where
-      pub left-has : l.shape.kind ≡ k → is_wrapper r.shape.kind ≡ false → value_in l.parts ≡ some v → has l r ≡ has v r || (is_null r && may_become rules.mask k)
-      left-has el n ev =
+      pub left_has : l.shape.kind ≡ k → is_wrapper r.shape.kind ≡ false → value_in l.parts ≡ some v → has l r ≡ has v r || (is_null r && may_become rules.mask k)
+      left_has el n ev =
           asks kinds l r (inl (foreign l el))
           ∙ rw
           (alike_apart l r (λ e. eqb-false r.shape.kind k (kinds_bare kinds r.shape.kind n) (sym e ∙ el)), way_left k l r v (is l el) (kinds_bare kinds r.shape.kind n) ev, wrapper_none j (coercion rules) l r (other l el) (kinds_bare (kinds_turned kinds) r.shape.kind n), null_right rules.mask l r (not_null l el), el)
           (ap (λ (b : Bool). b || (is_null r && may_become rules.mask k)) (or-false (has v r)))
 
-      pub right-has : r.shape.kind ≡ k → is_wrapper l.shape.kind ≡ false → value_in r.parts ≡ some v → has l r ≡ has l v || (is_null l && may_become rules.mask k)
-      right-has er n ev =
+      pub right_has : r.shape.kind ≡ k → is_wrapper l.shape.kind ≡ false → value_in r.parts ≡ some v → has l r ≡ has l v || (is_null l && may_become rules.mask k)
+      right_has er n ev =
           asks kinds l r (inr (foreign r er))
           ∙ rw
           (alike_apart l r (λ e. eqb-false l.shape.kind k (kinds_bare kinds l.shape.kind n) (e ∙ er)), way_right k l r v (kinds_bare kinds l.shape.kind n) (is r er) ev, wrapper_none j (coercion rules) l r (kinds_bare (kinds_turned kinds) l.shape.kind n) (other r er), null_left rules.mask l r (not_null r er), er)

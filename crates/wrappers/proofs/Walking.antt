@@ -77,11 +77,11 @@ module _ (mask left : ℕ) where
     allows_none z = record { is = λ space x a h. rw (bare ek ew z a) refl }
 
     module _ (z : w ≡ true) {m : Bool} (em : m ≡ may_become mask k) {v : ℕ} (ev : v ≡ (head_at s (head_at s l).first).next) where
-      pub allows-now : m ≡ true → Tells (allowed mask) left s l true
-      allows-now y = record { is = λ space x a h. rw (off ek ew z ev a) (rw (sym em ∙ y) refl) }
+      pub allows_now : m ≡ true → Tells (allowed mask) left s l true
+      allows_now y = record { is = λ space x a h. rw (off ek ew z ev a) (rw (sym em ∙ y) refl) }
 
-      pub allows-down : {b : Bool} → m ≡ false → ¬ (left ≡ 0) → Tells (allowed mask) (left - 1) s v b → Tells (allowed mask) left s l b
-      allows-down y n c =
+      pub allows_down : {b : Bool} → m ≡ false → ¬ (left ≡ 0) → Tells (allowed mask) (left - 1) s v b → Tells (allowed mask) left s l b
+      allows_down y n c =
           record {
             is =
                 λ space x a h.
@@ -163,8 +163,8 @@ module _ (mask left : ℕ) (swap : Bool) (s w : List ℕ) (l r : ℕ) where
         told : may_merge mask x y ≡ b
         told = may_hint mask x y ∙ ap (λ (i : ℕ). wrappers_may i mask x y) (sym cores) ∙ sym (c.is space x y a d q)
 
-      pub learns-found : b ≡ true → Learns hint mask (left + 1) swap s w l r h
-      learns-found e = record { is = λ space x y a d q f. rw (told a d q ∙ e) (cores a d q) }
+      pub learns_found : b ≡ true → Learns hint mask (left + 1) swap s w l r h
+      learns_found e = record { is = λ space x y a d q f. rw (told a d q ∙ e) (cores a d q) }
 
       pub learns_none : b ≡ false → Learns hint mask (left + 1) swap s w l r 0
       learns_none e = record { is = λ space x y a d q f. rw (told a d q ∙ e) refl }

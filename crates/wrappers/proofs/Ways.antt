@@ -20,7 +20,7 @@ use Rattle.buffers.specs.Plain.{is_list_question}
 use Rattle.wrappers.specs.Ways.{is_wrapper, wrappers_of, core_kind, meets, may_merge, dictionary_may}
 use Rattle.wrappers.proofs.Meeting.{judged, judged_same, judged_cross, judged_bare, judged_core, judged_refused, judged_spent}
 use Rattle.wrappers.proofs.Cores.{Whole, bare, wrap, core_in, wrapper_is, bare_wrappers, bare_core, wrap_wrappers, wrap_core, core_kind_lem, inner}
-use Rattle.wrappers.proofs.Unwrapping.{given, given_none, Kinds, dictionary_first, run_ends_first, wrapper_none, has, way_left, way_right, both_has, cross_has, left-has, right-has, null_left_has, null_right_has}
+use Rattle.wrappers.proofs.Unwrapping.{given, given_none, Kinds, dictionary_first, run_ends_first, wrapper_none, has, way_left, way_right, both_has, cross_has, left_has, right_has, null_left_has, null_right_has}
 
 -- the other kind of wrapper
 kinds_of : (k : ℕ) → is_wrapper k ≡ true → (j : ℕ) × Kinds k j
@@ -79,7 +79,7 @@ module _ (rules : Rules) (pairs : is_list_question rules.question ≡ false) whe
   unfolding core_in
   told_core w e (bare w' e') = told_bare w e w' e'
   told_core {s} {p} w e (wrap {s = t} {p = q} u w' eu y) =
-      right-has rules pairs (kinds_of t.kind w').1 (type_of s p) (type_of t q) u refl w eu
+      right_has rules pairs (kinds_of t.kind w').1 (type_of s p) (type_of t q) u refl w eu
       ∙ ap (λ (h : Bool). h || (eqb s.kind 1 && may_become rules.mask t.kind)) (told_core w e y)
       ∙ rw (wrap_wrappers t q u w' eu, wrap_core t q u w' eu, bare_wrappers s p w, bare_core s p w)
       (sym (judged_core rules.mask (has rules pairs (type_of s p) (core_in y)) s.kind (core_kind u.shape u.parts) (wrappers_of u.shape u.parts) t.kind))
@@ -89,10 +89,10 @@ module _ (rules : Rules) (pairs : is_list_question rules.question ≡ false) whe
       (below : (t : Shape) (q : Fields) (y : Whole t q) → Told x y)
     where
       -- two wrappers
-      told-both : (t : Shape) (q : Fields) (u : DataType) (w' : is_wrapper t.kind ≡ true) (eu : value_in q ≡ some u) (y : Whole u.shape u.parts)
+      told_both : (t : Shape) (q : Fields) (u : DataType) (w' : is_wrapper t.kind ≡ true) (eu : value_in q ≡ some u) (y : Whole u.shape u.parts)
           → Told (wrap {s = s} {p = p} v w ev x) y → Told (wrap {s = s} {p = p} v w ev x) (wrap {s = t} {p = q} u w' eu y)
       unfolding core_in
-      told-both t q u w' eu y beside = go (eqb s.kind t.kind) refl
+      told_both t q u w' eu y beside = go (eqb s.kind t.kind) refl
         where
           answer : Bool
           answer = has rules pairs (core_in x) (core_in y)
@@ -123,18 +123,18 @@ module _ (rules : Rules) (pairs : is_list_question rules.question ≡ false) whe
               ∙ rw (wrap_wrappers s p v w ev, wrap_core s p v w ev, wrap_wrappers t q u w' eu, wrap_core t q u w' eu)
               (sym (judged_cross rules.mask answer a ks b ns s.kind t.kind e))
 
-      told-wrap : {t : Shape} {q : Fields} (y : Whole t q) → Told (wrap {s = s} {p = p} v w ev x) y
+      told_wrap : {t : Shape} {q : Fields} (y : Whole t q) → Told (wrap {s = s} {p = p} v w ev x) y
       unfolding core_in
-      told-wrap (bare {s = t} {p = q} w' e) =
-          left-has rules pairs (kinds_of s.kind w).1 (type_of s p) (type_of t q) v refl w' ev
+      told_wrap (bare {s = t} {p = q} w' e) =
+          left_has rules pairs (kinds_of s.kind w).1 (type_of s p) (type_of t q) v refl w' ev
           ∙ ap (λ (h : Bool). h || (eqb t.kind 1 && may_become rules.mask s.kind)) (below t q (bare w' e))
           ∙ rw (wrap_wrappers s p v w ev, wrap_core s p v w ev, bare_wrappers t q w', bare_core t q w')
           (sym (judged_bare rules.mask (has rules pairs (core_in x) (type_of t q)) (core_kind v.shape v.parts) (wrappers_of v.shape v.parts) t.kind [] s.kind))
-      told-wrap (wrap {s = t} {p = q} u w' eu y) = told-both t q u w' eu y (told-wrap y)
+      told_wrap (wrap {s = t} {p = q} u w' eu y) = told_both t q u w' eu y (told_wrap y)
 
   pub has_told : {s : Shape} {p : Fields} {t : Shape} {q : Fields} (x : Whole s p) (y : Whole t q) → Told x y
   has_told (bare w e) y = told_core w e y
-  has_told (wrap {s} {p} v w ev x) y = told-wrap s p v w ev x (λ t q y. has_told x y) y
+  has_told (wrap {s} {p} v w ev x) y = told_wrap s p v w ev x (λ t q y. has_told x y) y
 
   module _ (l r : DataType) (x : Whole l.shape l.parts) (y : Whole r.shape r.parts) where
     -- a pair that wrappers and Nulls rule out has no common type

@@ -2,7 +2,7 @@ use mathlib.Core.Path.{refl, ◌∙◌}
 use native.Mathlib.Omega.{arith}
 use Rattle.buffers.specs.declared.Out.TheVariants.{Done, Full}
 use Rattle.buffers.proofs.Frames.{kept_trans, kept_wider}
-use Rattle.buffers.proofs.Chained.{room_kept, chain_none, chain_past, chain-on, chain_stop, chain_parts_stop, chain_last, chain_plain, left_on}
+use Rattle.buffers.proofs.Chained.{room_kept, chain_none, chain_past, chain_on, chain_stop, chain_parts_stop, chain_last, chain_plain, left_on}
 use Rattle.buffers.proofs.copy.+copy_fields.Goals as goal
 
 pub loop-link-init : goal.loop-link-init
@@ -67,4 +67,4 @@ loop-link-smaller t c =
 
 pub loop-link-preserved : goal.loop-link-preserved
 loop-link-preserved t c =
-    let rec = c.in-Done.ensures in let b = c.in-Done-copy_fields.ensures in left_on (c.loop-link.invariant) (kept_trans rec.kept (kept_wider _ _ rec.grows.1.0 rec.grows.1.1 b.kept)) b.grows.0 (omega (arith, rec.grows.1.0, b.grows.1.0)) (chain-on (c.args.space) (c.args.sheet.now) (c.args.swap) (c.loop-link.link) (c.loop-link.spot) _ (c.loop-link.invariant.room) _ (c.look-h.ensures.0) (c.loop-link-test.true) _ _ rec _ _ b)
+    let rec = c.in-Done.ensures in let b = c.in-Done-copy_fields.ensures in left_on (c.loop-link.invariant) (kept_trans rec.kept (kept_wider _ _ rec.grows.1.0 rec.grows.1.1 b.kept)) b.grows.0 (omega (arith, rec.grows.1.0, b.grows.1.0)) (chain_on (c.args.space) (c.args.sheet.now) (c.args.swap) (c.loop-link.link) (c.loop-link.spot) _ (c.loop-link.invariant.room) _ (c.look-h.ensures.0) (c.loop-link-test.true) _ _ rec _ _ b)

@@ -4,15 +4,15 @@ use borrow.Author.Tests.{ltb-true}
 use Rattle.sheet.proofs.Tests.{and_fst, and_snd}
 use Rattle.buffers.proofs.Chained.{room_kept}
 use Rattle.buffers.proofs.Fielding.{field_ready}
-use Rattle.merge.proofs.Joining.{rows_end, rows_spent, rows_unfed, rows_crowded, rows_none, rows_full, rows-rest-none, rows-rest-full, rows-done}
-use Rattle.merge.proofs.Asking.{handed, coerce_spent, coerce_same, coerce-plain, coerce-bare, coerce_list, coerce_pair, coerce_unlike, coerce_wrapper}
+use Rattle.merge.proofs.Joining.{rows_end, rows_spent, rows_unfed, rows_crowded, rows_none, rows_full, rows_rest_none, rows_rest_full, rows_done}
+use Rattle.merge.proofs.Asking.{handed, coerce_spent, coerce_same, coerce_plain, coerce_bare, coerce_list, coerce_pair, coerce_unlike, coerce_wrapper}
 use Rattle.merge.proofs.Merging.{any_known, none_known, any_hint, none_hint, merges_full, tabled_over}
 use Rattle.buffers.proofs.Tying.{tied_kept}
-use Rattle.merge.proofs.Rewrapping.{index_none, index_full, value_none, value-full, wrapper-on, viewed_tabled}
+use Rattle.merge.proofs.Rewrapping.{index_none, index_full, value_none, value_full, wrapper_on, viewed_tabled}
 use Rattle.merge.proofs.Parents.{under_full, under_on, head_crowded, both_on, field_crowded, field_alone, field_on, map_left_end, map_right_end, map_on, after_passes}
-use Rattle.merge.proofs.Turning.{and_are, both_are, resolve_dictionary, resolve_runs, resolve_nested, wrap_both, wrap_left, wrap_right, wrap_none, unwrap_done, unwrap_full, unwrap_nested, way_merged, way_spent, wrapper_none, wrapper_both, wrapper-left-same, wrapper-left, wrapper-right-same, wrapper-right, nested_list, nested-listed, nested-struct, nested-map, nested-plain, list_merged}
+use Rattle.merge.proofs.Turning.{and_are, both_are, resolve_dictionary, resolve_runs, resolve_nested, wrap_both, wrap_left, wrap_right, wrap_none, unwrap_done, unwrap_full, unwrap_nested, way_merged, way_spent, wrapper_none, wrapper_both, wrapper_left_same, wrapper_left, wrapper_right_same, wrapper_right, nested_list, nested_listed, nested_struct, nested_map, nested_plain, list_merged}
 use Rattle.buffers.specs.Plain.{rules_of}
-use Rattle.merge.proofs.Structs.{struct_none, struct_merged, listed_unlike, listed-none, listed-named, listed_ordered}
+use Rattle.merge.proofs.Structs.{struct_none, struct_merged, listed_unlike, listed_none, listed_named, listed_ordered}
 use Rattle.merge.proofs.coerce.+merging.Goals as goal
 
 pub both_parts-returns-then-space-g : goal.both_parts-returns-then-space-g
@@ -93,7 +93,7 @@ common-plain_rule-requires t c =
 
 pub common-returns-then-both : goal.common-returns-then-both
 common-returns-then-both t c =
-    record { merges_hinted = any_hint _ _ c.args.swap (coerce-plain c.args.question c.args.mask c.args.space c.args.left c.args.swap _ _ _ _ _ (handed c.args.known _ _ c.is_list_question-list.ensures c.first_difference-d.ensures c.if-d-eq0.false) _ _ c.kind_at-k.ensures c.kind_at-j.ensures (sym c.both.ensures ∙ c.if-both.true) c.plain_rule.ensures); tabled_2 = tabled_over c.requires.room.0 (c.plain_rule.ensures 0).writes.kept c.requires.tabled }
+    record { merges_hinted = any_hint _ _ c.args.swap (coerce_plain c.args.question c.args.mask c.args.space c.args.left c.args.swap _ _ _ _ _ (handed c.args.known _ _ c.is_list_question-list.ensures c.first_difference-d.ensures c.if-d-eq0.false) _ _ c.kind_at-k.ensures c.kind_at-j.ensures (sym c.both.ensures ∙ c.if-both.true) c.plain_rule.ensures); tabled_2 = tabled_over c.requires.room.0 (c.plain_rule.ensures 0).writes.kept c.requires.tabled }
 
 pub common-nested-requires : goal.common-nested-requires
 common-nested-requires t c =
@@ -101,7 +101,7 @@ common-nested-requires t c =
 
 pub common-returns-then-both-2 : goal.common-returns-then-both-2
 common-returns-then-both-2 t c =
-    record { merges_hinted = any_hint _ _ c.args.swap (coerce-bare c.args.question c.args.mask c.args.space c.args.left c.args.swap _ _ _ _ _ (handed c.args.known _ _ c.is_list_question-list.ensures c.first_difference-d.ensures c.if-d-eq0.false) _ _ c.kind_at-k.ensures c.kind_at-j.ensures (sym c.both-2.ensures ∙ c.if-both-2.true) c.if-left-eq0.false c.nested.ensures.merges_known); tabled_2 = c.nested.ensures.tabled_2 }
+    record { merges_hinted = any_hint _ _ c.args.swap (coerce_bare c.args.question c.args.mask c.args.space c.args.left c.args.swap _ _ _ _ _ (handed c.args.known _ _ c.is_list_question-list.ensures c.first_difference-d.ensures c.if-d-eq0.false) _ _ c.kind_at-k.ensures c.kind_at-j.ensures (sym c.both-2.ensures ∙ c.if-both-2.true) c.if-left-eq0.false c.nested.ensures.merges_known); tabled_2 = c.nested.ensures.tabled_2 }
 
 pub common-resolve-requires : goal.common-resolve-requires
 common-resolve-requires t c =
@@ -169,11 +169,11 @@ list_struct-under-requires-then-have_same_names t c =
 
 pub list_struct-returns-then-have_same_names : goal.list_struct-returns-then-have_same_names
 list_struct-returns-then-have_same_names t c =
-    record { merges_known = listed-named _ _ _ c.args.swap _ _ _ _ _ _ _ c.look-a.ensures.0 c.look-b.ensures.0 c.same_arity.ensures c.if-not-same_arity.false c.have_same_names.ensures.by_index c.args.known _ c.if-have_same_names.true c.requires.l_value.0 c.requires.l_value.1 _ _ c.under-then-have_same_names.ensures.under; tabled_2 = c.under-then-have_same_names.ensures.tabled_2 }
+    record { merges_known = listed_named _ _ _ c.args.swap _ _ _ _ _ _ _ c.look-a.ensures.0 c.look-b.ensures.0 c.same_arity.ensures c.if-not-same_arity.false c.have_same_names.ensures.by_index c.args.known _ c.if-have_same_names.true c.requires.l_value.0 c.requires.l_value.1 _ _ c.under-then-have_same_names.ensures.under; tabled_2 = c.under-then-have_same_names.ensures.tabled_2 }
 
 pub list_struct-returns : goal.list_struct-returns
 list_struct-returns t c =
-    record { merges_known = listed-none _ _ _ c.args.swap _ _ _ _ _ _ _ c.look-a.ensures.0 c.look-b.ensures.0 c.same_arity.ensures c.if-not-same_arity.false c.have_same_names.ensures.by_index c.if-have_same_names.false; tabled_2 = record { partners = c.have_same_names.ensures.table_len_unchanged.1 c.requires.tabled.partners } }
+    record { merges_known = listed_none _ _ _ c.args.swap _ _ _ _ _ _ _ c.look-a.ensures.0 c.look-b.ensures.0 c.same_arity.ensures c.if-not-same_arity.false c.have_same_names.ensures.by_index c.if-have_same_names.false; tabled_2 = record { partners = c.have_same_names.ensures.table_len_unchanged.1 c.requires.tabled.partners } }
 
 pub map_rule-returns-then-space-at : goal.map_rule-returns-then-space-at
 map_rule-returns-then-space-at t c =
@@ -221,7 +221,7 @@ nested-list_struct-requires t c =
 
 pub nested-returns-then-is_list_question : goal.nested-returns-then-is_list_question
 nested-returns-then-is_list_question t c =
-    record { merges_known = nested-listed c.args.known _ _ _ _ _ c.args.swap _ _ _ _ _ c.kind_at-k.ensures c.kind_at-j.ensures _ _ (and_are c.is_list.ensures c.is_list-2.ensures c.both.ensures ∙ c.if-both.false) (sym c.both-2.ensures ∙ c.if-both-2.true) (sym c.is_list_question.ensures ∙ c.if-is_list_question.true) c.list_struct.ensures.merges_known; tabled_2 = c.list_struct.ensures.tabled_2 }
+    record { merges_known = nested_listed c.args.known _ _ _ _ _ c.args.swap _ _ _ _ _ c.kind_at-k.ensures c.kind_at-j.ensures _ _ (and_are c.is_list.ensures c.is_list-2.ensures c.both.ensures ∙ c.if-both.false) (sym c.both-2.ensures ∙ c.if-both-2.true) (sym c.is_list_question.ensures ∙ c.if-is_list_question.true) c.list_struct.ensures.merges_known; tabled_2 = c.list_struct.ensures.tabled_2 }
 
 pub nested-struct_rule-requires : goal.nested-struct_rule-requires
 nested-struct_rule-requires t c =
@@ -229,7 +229,7 @@ nested-struct_rule-requires t c =
 
 pub nested-returns-then-both-2 : goal.nested-returns-then-both-2
 nested-returns-then-both-2 t c =
-    record { merges_known = nested-struct c.args.known _ _ _ _ _ c.args.swap _ _ _ _ _ c.kind_at-k.ensures c.kind_at-j.ensures _ _ (and_are c.is_list.ensures c.is_list-2.ensures c.both.ensures ∙ c.if-both.false) (sym c.both-2.ensures ∙ c.if-both-2.true) (sym c.is_list_question.ensures ∙ c.if-is_list_question.false) c.struct_rule.ensures.merges_known; tabled_2 = c.struct_rule.ensures.tabled_2 }
+    record { merges_known = nested_struct c.args.known _ _ _ _ _ c.args.swap _ _ _ _ _ c.kind_at-k.ensures c.kind_at-j.ensures _ _ (and_are c.is_list.ensures c.is_list-2.ensures c.both.ensures ∙ c.if-both.false) (sym c.both-2.ensures ∙ c.if-both-2.true) (sym c.is_list_question.ensures ∙ c.if-is_list_question.false) c.struct_rule.ensures.merges_known; tabled_2 = c.struct_rule.ensures.tabled_2 }
 
 pub nested-map_rule-requires : goal.nested-map_rule-requires
 nested-map_rule-requires t c =
@@ -237,7 +237,7 @@ nested-map_rule-requires t c =
 
 pub nested-returns-then-both-3 : goal.nested-returns-then-both-3
 nested-returns-then-both-3 t c =
-    record { merges_known = nested-map c.args.known _ _ _ _ _ c.args.swap _ _ _ _ _ c.kind_at-k.ensures c.kind_at-j.ensures _ _ (and_are c.is_list.ensures c.is_list-2.ensures c.both.ensures ∙ c.if-both.false) (sym c.both-2.ensures ∙ c.if-both-2.false) (sym c.both-3.ensures ∙ c.if-both-3.true) c.map_rule.ensures.merges_known; tabled_2 = c.map_rule.ensures.tabled_2 }
+    record { merges_known = nested_map c.args.known _ _ _ _ _ c.args.swap _ _ _ _ _ c.kind_at-k.ensures c.kind_at-j.ensures _ _ (and_are c.is_list.ensures c.is_list-2.ensures c.both.ensures ∙ c.if-both.false) (sym c.both-2.ensures ∙ c.if-both-2.false) (sym c.both-3.ensures ∙ c.if-both-3.true) c.map_rule.ensures.merges_known; tabled_2 = c.map_rule.ensures.tabled_2 }
 
 pub nested-plain_rule-requires : goal.nested-plain_rule-requires
 nested-plain_rule-requires t c =
@@ -245,7 +245,7 @@ nested-plain_rule-requires t c =
 
 pub nested-returns : goal.nested-returns
 nested-returns t c =
-    record { merges_known = nested-plain c.args.known _ _ _ _ _ c.args.swap _ _ _ _ _ c.kind_at-k.ensures c.kind_at-j.ensures _ _ (and_are c.is_list.ensures c.is_list-2.ensures c.both.ensures ∙ c.if-both.false) (sym c.both-2.ensures ∙ c.if-both-2.false) (sym c.both-3.ensures ∙ c.if-both-3.false) c.plain_rule.ensures; tabled_2 = tabled_over c.requires.room.0 (c.plain_rule.ensures 0).writes.kept c.requires.tabled }
+    record { merges_known = nested_plain c.args.known _ _ _ _ _ c.args.swap _ _ _ _ _ c.kind_at-k.ensures c.kind_at-j.ensures _ _ (and_are c.is_list.ensures c.is_list-2.ensures c.both.ensures ∙ c.if-both.false) (sym c.both-2.ensures ∙ c.if-both-2.false) (sym c.both-3.ensures ∙ c.if-both-3.false) c.plain_rule.ensures; tabled_2 = tabled_over c.requires.room.0 (c.plain_rule.ensures 0).writes.kept c.requires.tabled }
 
 pub resolve-resolve_wrapper-requires : goal.resolve-resolve_wrapper-requires
 resolve-resolve_wrapper-requires t c =
@@ -401,7 +401,7 @@ wrapper-copy_type-requires t c =
 
 pub wrapper-returns-then-same_sides : goal.wrapper-returns-then-same_sides
 wrapper-returns-then-same_sides t c =
-    record { merges_hinted = way_merged (rules_of c.args.question c.args.mask) _ _ _ c.args.swap _ _ _ _ _ c.way-t.ensures _ _ (any_hint _ _ c.args.swap (any_known _ c.args.swap (wrapper-left-same _ _ _ c.args.swap _ _ _ _ _ c.kind_at-k.ensures c.kind_at-j.ensures (c.way-t.ensures.wrapper c.if-kind-eq0.false) _ _ c.if-k-kind.true c.if-j-kind.false c.value_at-a.ensures c.same_sides.ensures c.if-same_sides.true c.copy_type.ensures))); tabled_2 = tabled_over c.requires.room.0 c.copy_type.ensures.writes.kept c.requires.tabled }
+    record { merges_hinted = way_merged (rules_of c.args.question c.args.mask) _ _ _ c.args.swap _ _ _ _ _ c.way-t.ensures _ _ (any_hint _ _ c.args.swap (any_known _ c.args.swap (wrapper_left_same _ _ _ c.args.swap _ _ _ _ _ c.kind_at-k.ensures c.kind_at-j.ensures (c.way-t.ensures.wrapper c.if-kind-eq0.false) _ _ c.if-k-kind.true c.if-j-kind.false c.value_at-a.ensures c.same_sides.ensures c.if-same_sides.true c.copy_type.ensures))); tabled_2 = tabled_over c.requires.room.0 c.copy_type.ensures.writes.kept c.requires.tabled }
 
 pub wrapper-common-requires-then-k-kind : goal.wrapper-common-requires-then-k-kind
 wrapper-common-requires-then-k-kind t c =
@@ -409,7 +409,7 @@ wrapper-common-requires-then-k-kind t c =
 
 pub wrapper-returns-then-k-kind : goal.wrapper-returns-then-k-kind
 wrapper-returns-then-k-kind t c =
-    record { merges_hinted = way_merged (rules_of c.args.question c.args.mask) _ _ _ c.args.swap _ _ _ _ _ c.way-t.ensures _ _ (wrapper-left _ _ _ c.args.swap _ _ _ _ _ c.kind_at-k.ensures c.kind_at-j.ensures (c.way-t.ensures.wrapper c.if-kind-eq0.false) _ _ c.if-k-kind.true c.if-j-kind.false c.value_at-a.ensures c.same_sides.ensures c.args.mask c.args.hint c.way-t.result.hint (c.way-t.ensures.on c.args.space) c.args.known c.if-same_sides.false c.common-then-k-kind.ensures.merges_hinted); tabled_2 = c.common-then-k-kind.ensures.tabled_2 }
+    record { merges_hinted = way_merged (rules_of c.args.question c.args.mask) _ _ _ c.args.swap _ _ _ _ _ c.way-t.ensures _ _ (wrapper_left _ _ _ c.args.swap _ _ _ _ _ c.kind_at-k.ensures c.kind_at-j.ensures (c.way-t.ensures.wrapper c.if-kind-eq0.false) _ _ c.if-k-kind.true c.if-j-kind.false c.value_at-a.ensures c.same_sides.ensures c.args.mask c.args.hint c.way-t.result.hint (c.way-t.ensures.on c.args.space) c.args.known c.if-same_sides.false c.common-then-k-kind.ensures.merges_hinted); tabled_2 = c.common-then-k-kind.ensures.tabled_2 }
 
 pub wrapper-same_sides-requires-then-j-kind-2 : goal.wrapper-same_sides-requires-then-j-kind-2
 wrapper-same_sides-requires-then-j-kind-2 t c =
@@ -421,7 +421,7 @@ wrapper-copy_type-requires-then-same_sides-2 t c =
 
 pub wrapper-returns-then-same_sides-2 : goal.wrapper-returns-then-same_sides-2
 wrapper-returns-then-same_sides-2 t c =
-    record { merges_hinted = way_merged (rules_of c.args.question c.args.mask) _ _ _ c.args.swap _ _ _ _ _ c.way-t.ensures _ _ (any_hint _ _ c.args.swap (any_known _ c.args.swap (wrapper-right-same _ _ _ c.args.swap _ _ _ _ _ c.kind_at-k.ensures c.kind_at-j.ensures (c.way-t.ensures.wrapper c.if-kind-eq0.false) _ _ c.if-k-kind.false c.if-j-kind-2.true c.value_at-b.ensures c.same_sides-then-j-kind-2.ensures c.if-same_sides-2.true c.copy_type-then-same_sides-2.ensures))); tabled_2 = tabled_over c.requires.room.0 c.copy_type-then-same_sides-2.ensures.writes.kept c.requires.tabled }
+    record { merges_hinted = way_merged (rules_of c.args.question c.args.mask) _ _ _ c.args.swap _ _ _ _ _ c.way-t.ensures _ _ (any_hint _ _ c.args.swap (any_known _ c.args.swap (wrapper_right_same _ _ _ c.args.swap _ _ _ _ _ c.kind_at-k.ensures c.kind_at-j.ensures (c.way-t.ensures.wrapper c.if-kind-eq0.false) _ _ c.if-k-kind.false c.if-j-kind-2.true c.value_at-b.ensures c.same_sides-then-j-kind-2.ensures c.if-same_sides-2.true c.copy_type-then-same_sides-2.ensures))); tabled_2 = tabled_over c.requires.room.0 c.copy_type-then-same_sides-2.ensures.writes.kept c.requires.tabled }
 
 pub wrapper-common-requires-then-j-kind-2 : goal.wrapper-common-requires-then-j-kind-2
 wrapper-common-requires-then-j-kind-2 t c =
@@ -429,7 +429,7 @@ wrapper-common-requires-then-j-kind-2 t c =
 
 pub wrapper-returns-then-j-kind-2 : goal.wrapper-returns-then-j-kind-2
 wrapper-returns-then-j-kind-2 t c =
-    record { merges_hinted = way_merged (rules_of c.args.question c.args.mask) _ _ _ c.args.swap _ _ _ _ _ c.way-t.ensures _ _ (wrapper-right _ _ _ c.args.swap _ _ _ _ _ c.kind_at-k.ensures c.kind_at-j.ensures (c.way-t.ensures.wrapper c.if-kind-eq0.false) _ _ c.if-k-kind.false c.if-j-kind-2.true c.value_at-b.ensures c.same_sides-then-j-kind-2.ensures c.args.mask c.args.hint c.way-t.result.hint (c.way-t.ensures.on c.args.space) c.args.known c.if-same_sides-2.false c.common-then-j-kind-2.ensures.merges_hinted); tabled_2 = c.common-then-j-kind-2.ensures.tabled_2 }
+    record { merges_hinted = way_merged (rules_of c.args.question c.args.mask) _ _ _ c.args.swap _ _ _ _ _ c.way-t.ensures _ _ (wrapper_right _ _ _ c.args.swap _ _ _ _ _ c.kind_at-k.ensures c.kind_at-j.ensures (c.way-t.ensures.wrapper c.if-kind-eq0.false) _ _ c.if-k-kind.false c.if-j-kind-2.true c.value_at-b.ensures c.same_sides-then-j-kind-2.ensures c.args.mask c.args.hint c.way-t.result.hint (c.way-t.ensures.on c.args.space) c.args.known c.if-same_sides-2.false c.common-then-j-kind-2.ensures.merges_hinted); tabled_2 = c.common-then-j-kind-2.ensures.tabled_2 }
 
 pub wrapper-returns : goal.wrapper-returns
 wrapper-returns t c =
@@ -483,7 +483,7 @@ rewrapped-returns-in-Done-coerce_field t c =
     let cp = c.in-Done.ensures in
     let cf = c.in-Done-copy_index.ensures in
     let mf = c.in-Done-coerce_field.ensures.merges_field in
-    record { merges = wrapper-on _ _ _ _ _ _ _ _ _ _ c.requires.room.0 c.requires.kind_value.0 _ c.look-x.ensures.0 c.requires.kind_value.1.0 _ c.look-second.ensures.0 _ _ cp _ _ cf _ _ mf _ c.tie.ensures _ _ c.keep_wrapper.ensures; tabled_2 = viewed_tabled c.requires.room.0 c.keep_wrapper.ensures (tabled_over c.requires.room.0 (tied_kept _ _ _ _ _ c.tie.ensures 0 (omega (arith, cf.further, cf.grows.0.records))) c.coerce_field.ensures.tabled_2) }
+    record { merges = wrapper_on _ _ _ _ _ _ _ _ _ _ c.requires.room.0 c.requires.kind_value.0 _ c.look-x.ensures.0 c.requires.kind_value.1.0 _ c.look-second.ensures.0 _ _ cp _ _ cf _ _ mf _ c.tie.ensures _ _ c.keep_wrapper.ensures; tabled_2 = viewed_tabled c.requires.room.0 c.keep_wrapper.ensures (tabled_over c.requires.room.0 (tied_kept _ _ _ _ _ c.tie.ensures 0 (omega (arith, cf.further, cf.grows.0.records))) c.coerce_field.ensures.tabled_2) }
 
 pub rewrapped-returns-in-No-coerce_field : goal.rewrapped-returns-in-No-coerce_field
 rewrapped-returns-in-No-coerce_field t c =
@@ -495,7 +495,7 @@ pub rewrapped-returns-in-Full-coerce_field : goal.rewrapped-returns-in-Full-coer
 rewrapped-returns-in-Full-coerce_field t c =
     let cp = c.in-Done.ensures in
     let cf = c.in-Done-copy_index.ensures in
-    record { merges = value-full _ _ _ _ _ _ _ _ _ _ c.requires.room.0 c.requires.kind_value.0 _ c.look-x.ensures.0 c.requires.kind_value.1.0 _ c.look-second.ensures.0 _ _ cp _ _ cf _ c.in-Full-coerce_field.ensures.merges_field; tabled_2 = c.coerce_field.ensures.tabled_2 }
+    record { merges = value_full _ _ _ _ _ _ _ _ _ _ c.requires.room.0 c.requires.kind_value.0 _ c.look-x.ensures.0 c.requires.kind_value.1.0 _ c.look-second.ensures.0 _ _ cp _ _ cf _ c.in-Full-coerce_field.ensures.merges_field; tabled_2 = c.coerce_field.ensures.tabled_2 }
 
 pub rewrapped-returns-in-No-copy_index : goal.rewrapped-returns-in-No-copy_index
 rewrapped-returns-in-No-copy_index t c =
@@ -531,19 +531,19 @@ pub rows-returns-in-Done-rows : goal.rows-returns-in-Done-rows
 rows-returns-in-Done-rows t c =
     let done = none_hint c.args.swap c.in-Done.ensures.merges_hinted in
     let more = c.in-Done-rows.ensures.rowed in
-    record { rowed = rows-done c.args.known _ _ c.args.space c.args.left c.args.swap _ _ c.args.feed _ _ _ _ c.requires.room.0 c.requires.room.1 _ c.look-x.ensures.0 c.if-l-eq0.false _ (c.row-row.ensures c.requires.tabled.partners) c.if-partner-eq0.false _ _ c.name_field.ensures _ c.row_known-own.ensures c.if-not-name_field.false _ _ done _ _ _ _ more c.next_link.ensures.0 c.tie.ensures; tabled_2 = tabled_over c.requires.room.0 (tied_kept _ _ _ _ _ c.tie.ensures 0 (omega (arith, done.writes.passes.1.0, done.writes.passes.0.records))) c.rows.ensures.tabled_2 }
+    record { rowed = rows_done c.args.known _ _ c.args.space c.args.left c.args.swap _ _ c.args.feed _ _ _ _ c.requires.room.0 c.requires.room.1 _ c.look-x.ensures.0 c.if-l-eq0.false _ (c.row-row.ensures c.requires.tabled.partners) c.if-partner-eq0.false _ _ c.name_field.ensures _ c.row_known-own.ensures c.if-not-name_field.false _ _ done _ _ _ _ more c.next_link.ensures.0 c.tie.ensures; tabled_2 = tabled_over c.requires.room.0 (tied_kept _ _ _ _ _ c.tie.ensures 0 (omega (arith, done.writes.passes.1.0, done.writes.passes.0.records))) c.rows.ensures.tabled_2 }
 
 pub rows-returns-in-No-rows : goal.rows-returns-in-No-rows
 rows-returns-in-No-rows t c =
     let done = none_hint c.args.swap c.in-Done.ensures.merges_hinted in
     let more = c.in-No-rows.ensures.rowed in
-    record { rowed = rows-rest-none c.args.known _ _ c.args.space c.args.left c.args.swap _ _ c.args.feed _ _ _ _ c.requires.room.0 c.requires.room.1 _ c.look-x.ensures.0 c.if-l-eq0.false _ (c.row-row.ensures c.requires.tabled.partners) c.if-partner-eq0.false _ _ c.name_field.ensures _ c.row_known-own.ensures c.if-not-name_field.false _ _ done _ more; tabled_2 = c.rows.ensures.tabled_2 }
+    record { rowed = rows_rest_none c.args.known _ _ c.args.space c.args.left c.args.swap _ _ c.args.feed _ _ _ _ c.requires.room.0 c.requires.room.1 _ c.look-x.ensures.0 c.if-l-eq0.false _ (c.row-row.ensures c.requires.tabled.partners) c.if-partner-eq0.false _ _ c.name_field.ensures _ c.row_known-own.ensures c.if-not-name_field.false _ _ done _ more; tabled_2 = c.rows.ensures.tabled_2 }
 
 pub rows-returns-in-Full-rows : goal.rows-returns-in-Full-rows
 rows-returns-in-Full-rows t c =
     let done = none_hint c.args.swap c.in-Done.ensures.merges_hinted in
     let more = c.in-Full-rows.ensures.rowed in
-    record { rowed = rows-rest-full c.args.known _ _ c.args.space c.args.left c.args.swap _ _ c.args.feed _ _ _ _ c.requires.room.0 c.requires.room.1 _ c.look-x.ensures.0 c.if-l-eq0.false _ (c.row-row.ensures c.requires.tabled.partners) c.if-partner-eq0.false _ _ c.name_field.ensures _ c.row_known-own.ensures c.if-not-name_field.false _ _ done _ more; tabled_2 = c.rows.ensures.tabled_2 }
+    record { rowed = rows_rest_full c.args.known _ _ c.args.space c.args.left c.args.swap _ _ c.args.feed _ _ _ _ c.requires.room.0 c.requires.room.1 _ c.look-x.ensures.0 c.if-l-eq0.false _ (c.row-row.ensures c.requires.tabled.partners) c.if-partner-eq0.false _ _ c.name_field.ensures _ c.row_known-own.ensures c.if-not-name_field.false _ _ done _ more; tabled_2 = c.rows.ensures.tabled_2 }
 
 pub rows-returns-in-No : goal.rows-returns-in-No
 rows-returns-in-No t c =

@@ -1,7 +1,7 @@
 use Prim.Native.Nat.{ℕ}
 use mathlib.Core.Path.{◌≡◌}
 use native.Mathlib.Omega.{arith}
-use Rattle.names.proofs.Naming.{names, name_here, passed_none, passed-high, passed-next, known_at, known_none}
+use Rattle.names.proofs.Naming.{names, name_here, passed_none, passed_high, passed_next, known_at, known_none}
 use Rattle.names.proofs.Marking.{differ_more}
 use Rattle.names.proofs.twins.compared.Goals as goal
 
@@ -11,7 +11,7 @@ loop-low-init c =
 
 pub returns-then-n-at : goal.returns-then-n-at
 returns-then-n-at c =
-    record { known = λ r o t l. absurd (passed-high _ _ _ _ _ _ _ c.loop-low.invariant.0 c.loop-low-test.true c.if-n-at.true r o t l); short = λ q. let z : ◌≡◌ {A = ℕ} 0 1 = cc in omega arith }
+    record { known = λ r o t l. absurd (passed_high _ _ _ _ _ _ _ c.loop-low.invariant.0 c.loop-low-test.true c.if-n-at.true r o t l); short = λ q. let z : ◌≡◌ {A = ℕ} 0 1 = cc in omega arith }
 
 pub returns-then-k-most : goal.returns-then-k-most
 returns-then-k-most c =
@@ -35,7 +35,7 @@ loop-low-smaller c =
 
 pub loop-low-preserved : goal.loop-low-preserved
 loop-low-preserved c =
-    (passed-next _ _ _ _ _ _ _ c.loop-low.invariant.0 c.loop-low-test.true _ c.head_at-h.ensures.0, differ_more (names c.args.s.now c.args.n c.args.link) c.loop-low.k _ (name_here c.args.s.now c.args.n c.args.link c.loop-low.at c.loop-low.k c.loop-low.invariant.0.reached _ c.head_at-h.ensures.0) (λ i l. c.named-j.ensures.before i (omega (arith, c.if-j-k.false))) c.loop-low.invariant.1)
+    (passed_next _ _ _ _ _ _ _ c.loop-low.invariant.0 c.loop-low-test.true _ c.head_at-h.ensures.0, differ_more (names c.args.s.now c.args.n c.args.link) c.loop-low.k _ (name_here c.args.s.now c.args.n c.args.link c.loop-low.at c.loop-low.k c.loop-low.invariant.0.reached _ c.head_at-h.ensures.0) (λ i l. c.named-j.ensures.before i (omega (arith, c.if-j-k.false))) c.loop-low.invariant.1)
 
 pub returns : goal.returns
 returns c =

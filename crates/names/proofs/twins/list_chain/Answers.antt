@@ -1,7 +1,7 @@
 use mathlib.Core.Path.{refl, ap, ◌∙◌}
 use native.Mathlib.Omega.{arith}
 use Rattle.names.specs.Twins.{number_of}
-use Rattle.names.proofs.Naming.{passed_none, passed_low, passed-high, passed-next, name_here, listed, numbered, kept_more}
+use Rattle.names.proofs.Naming.{passed_none, passed_low, passed_high, passed_next, name_here, listed, numbered, kept_more}
 use Rattle.names.proofs.twins.list_chain.Goals as goal
 
 pub loop-low-init : goal.loop-low-init
@@ -10,7 +10,7 @@ loop-low-init c =
 
 pub returns-then-n-at : goal.returns-then-n-at
 returns-then-n-at c =
-    (record { room = c.loop-low.invariant.1.room; whole = λ h r o t l. absurd (passed-high _ _ _ _ _ _ _ c.loop-low.invariant.0 c.loop-low-test.true c.if-n-at.true r o t l) }, numbered _ _ c.args.floor _ _ _ _ _ _ c.loop-low.invariant.1)
+    (record { room = c.loop-low.invariant.1.room; whole = λ h r o t l. absurd (passed_high _ _ _ _ _ _ _ c.loop-low.invariant.0 c.loop-low-test.true c.if-n-at.true r o t l) }, numbered _ _ c.args.floor _ _ _ _ _ _ c.loop-low.invariant.1)
 
 pub returns-then-k-recs : goal.returns-then-k-recs
 returns-then-k-recs c =
@@ -42,7 +42,7 @@ loop-low-smaller c =
 
 pub loop-low-preserved : goal.loop-low-preserved
 loop-low-preserved c =
-    (passed-next _ _ _ _ _ _ _ c.loop-low.invariant.0 c.loop-low-test.true _ c.head_at-h.ensures.0, kept_more _ _ c.args.floor _ _ _ _ _ _ c.loop-low.invariant.1 c.requires.1 c.if-k-recs.false c.loop-low.at _ c.loop-low.invariant.0.reached (c.number.ensures ∙ ap number_of (c.label_at.ensures ∙ name_here c.args.s.now c.args.n c.args.link c.loop-low.at c.loop-low.k c.loop-low.invariant.0.reached _ c.head_at-h.ensures.0)))
+    (passed_next _ _ _ _ _ _ _ c.loop-low.invariant.0 c.loop-low-test.true _ c.head_at-h.ensures.0, kept_more _ _ c.args.floor _ _ _ _ _ _ c.loop-low.invariant.1 c.requires.1 c.if-k-recs.false c.loop-low.at _ c.loop-low.invariant.0.reached (c.number.ensures ∙ ap number_of (c.label_at.ensures ∙ name_here c.args.s.now c.args.n c.args.link c.loop-low.at c.loop-low.k c.loop-low.invariant.0.reached _ c.head_at-h.ensures.0)))
 
 pub returns : goal.returns
 returns c =

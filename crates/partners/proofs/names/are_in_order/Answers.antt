@@ -1,6 +1,6 @@
 use native.Mathlib.Omega.{arith}
 use Rattle.buffers.specs.Partners.{same_order}
-use Rattle.partners.proofs.Naming.{label_short, asks_past, order_none, order_short, order_other, order-on}
+use Rattle.partners.proofs.Naming.{label_short, asks_past, order_none, order_short, order_other, order_on}
 use Rattle.partners.proofs.names.are_in_order.Goals as goal
 
 pub loop-low-init : goal.loop-low-init
@@ -33,7 +33,7 @@ loop-low-smaller c =
 
 pub loop-low-preserved : goal.loop-low-preserved
 loop-low-preserved c =
-    λ space en b k. c.loop-low.invariant space en b (order-on _ _ _ _ _ _ c.loop-low-test.true _ en _ _ c.if-j-eq0.false c.head_at-g.ensures.0 c.head_at-h.ensures.0 _ c.label_at.ensures c.is_named.ensures c.if-not-is_named.false b k)
+    λ space en b k. c.loop-low.invariant space en b (order_on _ _ _ _ _ _ c.loop-low-test.true _ en _ _ c.if-j-eq0.false c.head_at-g.ensures.0 c.head_at-h.ensures.0 _ c.label_at.ensures c.is_named.ensures c.if-not-is_named.false b k)
 
 pub returns : goal.returns
 returns c =

@@ -1,5 +1,5 @@
 use native.Mathlib.Omega.{arith}
-use Rattle.partners.proofs.Naming.{label_short, match_from, match_none, match_past, match-lack, match-on}
+use Rattle.partners.proofs.Naming.{label_short, match_from, match_none, match_past, match_lack, match_on}
 use Rattle.partners.proofs.names.are_listed.Goals as goal
 
 pub loop-low-init : goal.loop-low-init
@@ -20,7 +20,7 @@ look_up-j-requires c =
 
 pub returns-then-j-eq0 : goal.returns-then-j-eq0
 returns-then-j-eq0 c =
-    match-lack _ _ _ _ _ _ _ _ _ _ _ c.loop-low.invariant c.loop-low-test.true _ c.head_at-g.ensures.0 _ c.label_at.ensures _ c.look_up-j.ensures.1 c.if-j-eq0.true
+    match_lack _ _ _ _ _ _ _ _ _ _ _ c.loop-low.invariant c.loop-low-test.true _ c.head_at-g.ensures.0 _ c.label_at.ensures _ c.look_up-j.ensures.1 c.if-j-eq0.true
 
 pub overflow_add-key : goal.overflow_add-key
 overflow_add-key c =
@@ -36,7 +36,7 @@ loop-low-smaller c =
 
 pub loop-low-preserved : goal.loop-low-preserved
 loop-low-preserved c =
-    match-on _ _ _ _ _ _ _ _ _ _ _ c.loop-low.invariant c.loop-low-test.true _ c.head_at-g.ensures.0 _ c.label_at.ensures _ c.look_up-j.ensures.1 c.requires.0.0 c.if-n-i.false c.look_up-j.ensures.0 c.if-j-eq0.false c.note.ensures
+    match_on _ _ _ _ _ _ _ _ _ _ _ c.loop-low.invariant c.loop-low-test.true _ c.head_at-g.ensures.0 _ c.label_at.ensures _ c.look_up-j.ensures.1 c.requires.0.0 c.if-n-i.false c.look_up-j.ensures.0 c.if-j-eq0.false c.note.ensures
 
 pub returns : goal.returns
 returns c =

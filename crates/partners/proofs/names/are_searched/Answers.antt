@@ -1,5 +1,5 @@
 use native.Mathlib.Omega.{arith}
-use Rattle.partners.proofs.Naming.{label_short, match_from, match_none, match_rest, match_past, match-lack, match-on}
+use Rattle.partners.proofs.Naming.{label_short, match_from, match_none, match_rest, match_past, match_lack, match_on}
 use Rattle.partners.proofs.names.are_searched.Goals as goal
 
 pub loop-low-init : goal.loop-low-init
@@ -28,7 +28,7 @@ find-j-requires c =
 
 pub returns-then-j-eq0 : goal.returns-then-j-eq0
 returns-then-j-eq0 c =
-    match-lack _ _ _ _ _ _ _ _ _ _ _ c.loop-low.invariant.0 c.loop-low-test.true _ c.head_at-g.ensures.0 _ c.label_at.ensures _ c.find-j.ensures.1 c.if-j-eq0.true
+    match_lack _ _ _ _ _ _ _ _ _ _ _ c.loop-low.invariant.0 c.loop-low-test.true _ c.head_at-g.ensures.0 _ c.label_at.ensures _ c.find-j.ensures.1 c.if-j-eq0.true
 
 pub overflow_add-key : goal.overflow_add-key
 overflow_add-key c =
@@ -48,7 +48,7 @@ loop-low-smaller c =
 
 pub loop-low-preserved : goal.loop-low-preserved
 loop-low-preserved c =
-    (match-on _ _ _ _ _ _ _ _ _ _ _ c.loop-low.invariant.0 c.loop-low-test.true _ c.head_at-g.ensures.0 _ c.label_at.ensures _ c.find-j.ensures.1 c.requires.0 c.if-n-i.false c.find-j.ensures.0 c.if-j-eq0.false c.note.ensures, omega (arith, c.loop-low.invariant.1, c.if-k-eq4.false))
+    (match_on _ _ _ _ _ _ _ _ _ _ _ c.loop-low.invariant.0 c.loop-low-test.true _ c.head_at-g.ensures.0 _ c.label_at.ensures _ c.find-j.ensures.1 c.requires.0 c.if-n-i.false c.find-j.ensures.0 c.if-j-eq0.false c.note.ensures, omega (arith, c.loop-low.invariant.1, c.if-k-eq4.false))
 
 pub returns : goal.returns
 returns c =

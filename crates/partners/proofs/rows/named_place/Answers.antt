@@ -1,4 +1,4 @@
-use Rattle.partners.proofs.Feeding.{row_no_place, row-named-place}
+use Rattle.partners.proofs.Feeding.{row_no_place, row_named_place}
 use Rattle.partners.proofs.rows.named_place.Goals as goal
 
 pub returns-then-p-eq0 : goal.returns-then-p-eq0
@@ -7,4 +7,4 @@ returns-then-p-eq0 c =
 
 pub returns : goal.returns
 returns c =
-    λ ex ey f. row-named-place _ c.args.swap _ _ _ _ _ ex _ _ ey _ (c.partner.ensures ex f) c.if-p-eq0.false c.row_of-2.ensures
+    λ ex ey f. row_named_place _ c.args.swap _ _ _ _ _ ex _ _ ey _ (c.partner.ensures ex f) c.if-p-eq0.false c.row_of-2.ensures

@@ -1,6 +1,6 @@
 use native.Mathlib.Omega.{arith}
 use mathlib.Core.Path.{sym, ◌∙◌}
-use Rattle.partners.proofs.Naming.{finds_from, finds_none, finds_past, finds-here, finds-on}
+use Rattle.partners.proofs.Naming.{finds_from, finds_none, finds_past, finds_here, finds_on}
 use Rattle.partners.proofs.search.find.Goals as goal
 
 pub loop-floor-init : goal.loop-floor-init
@@ -17,7 +17,7 @@ is_named-requires c =
 
 pub returns-then-is_named : goal.returns-then-is_named
 returns-then-is_named c =
-    (omega (arith, c.if-n-j.false, c.requires.0), finds-here _ _ _ _ _ _ c.loop-floor.invariant c.loop-floor-test.true _ c.head_at-h.ensures.0 (sym c.if-is_named.true ∙ c.is_named.ensures))
+    (omega (arith, c.if-n-j.false, c.requires.0), finds_here _ _ _ _ _ _ c.loop-floor.invariant c.loop-floor-test.true _ c.head_at-h.ensures.0 (sym c.if-is_named.true ∙ c.is_named.ensures))
 
 pub loop-floor-smaller : goal.loop-floor-smaller
 loop-floor-smaller c =
@@ -25,7 +25,7 @@ loop-floor-smaller c =
 
 pub loop-floor-preserved : goal.loop-floor-preserved
 loop-floor-preserved c =
-    finds-on _ _ _ _ _ _ c.loop-floor.invariant c.loop-floor-test.true _ c.head_at-h.ensures.0 (sym c.if-is_named.false ∙ c.is_named.ensures)
+    finds_on _ _ _ _ _ _ c.loop-floor.invariant c.loop-floor-test.true _ c.head_at-h.ensures.0 (sym c.if-is_named.false ∙ c.is_named.ensures)
 
 pub returns : goal.returns
 returns c =

@@ -1,7 +1,7 @@
 use native.Mathlib.Omega.{arith}
 use mathlib.Core.Path.{sym, ◌∙◌}
 use Rattle.refusals.proofs.Walking.{walk_none, walk_lost, walk_past}
-use Rattle.refusals.proofs.Packing.{tells_lost, tells_came, row_ready, row_tells, past_ready, leaf_on, leaf_wrong, parts_lost, parts-ready, parts-farther, parts-wrong, parts-on}
+use Rattle.refusals.proofs.Packing.{tells_lost, tells_came, row_ready, row_tells, past_ready, leaf_on, leaf_wrong, parts_lost, parts_ready, parts_farther, parts_wrong, parts_on}
 use Rattle.refusals.proofs.walk.+walk_chain_walk_records.Goals as goal
 
 pub walk_chain-row_walk-r-requires : goal.walk_chain-row_walk-r-requires
@@ -83,15 +83,15 @@ walk_records-returns-then-inner-eq0 t c =
 
 pub walk_records-loop-link-smaller : goal.walk_records-loop-link-smaller
 walk_records-loop-link-smaller t c =
-    omega (arith, c.if-n-due.false, parts-farther c.args.s.now _ _ _ _ _ _ c.requires.0 c.if-link-due.false c.if-n-due.false _ c.head_from-h.ensures.0 _ c.pass_record-found.ensures c.loop-link.invariant.0 _ c.walk_chain-inner.ensures c.if-inner-eq0.false)
+    omega (arith, c.if-n-due.false, parts_farther c.args.s.now _ _ _ _ _ _ c.requires.0 c.if-link-due.false c.if-n-due.false _ c.head_from-h.ensures.0 _ c.pass_record-found.ensures c.loop-link.invariant.0 _ c.walk_chain-inner.ensures c.if-inner-eq0.false)
 
 pub walk_records-loop-link-preserved : goal.walk_records-loop-link-preserved
 walk_records-loop-link-preserved t c =
-    (parts-ready c.args.s.now _ _ _ _ _ _ c.requires.0 c.if-link-due.false c.if-n-due.false _ c.head_from-h.ensures.0 _ c.pass_record-found.ensures c.loop-link.invariant.0 _ c.walk_chain-inner.ensures c.if-inner-eq0.false, (omega (arith, c.loop-link.invariant.1.0, parts-farther c.args.s.now _ _ _ _ _ _ c.requires.0 c.if-link-due.false c.if-n-due.false _ c.head_from-h.ensures.0 _ c.pass_record-found.ensures c.loop-link.invariant.0 _ c.walk_chain-inner.ensures c.if-inner-eq0.false), (c.walk_chain-inner.ensures.small, λ o v. c.loop-link.invariant.1.1.1 o (parts-on c.args.s.now _ _ _ _ _ _ c.requires.0 c.if-link-due.false c.if-n-due.false _ c.head_from-h.ensures.0 _ c.pass_record-found.ensures c.loop-link.invariant.0 _ c.walk_chain-inner.ensures c.if-inner-eq0.false (sym c.parts_right-in-loop-link.ensures ∙ c.if-parts_right-2.true) o v))))
+    (parts_ready c.args.s.now _ _ _ _ _ _ c.requires.0 c.if-link-due.false c.if-n-due.false _ c.head_from-h.ensures.0 _ c.pass_record-found.ensures c.loop-link.invariant.0 _ c.walk_chain-inner.ensures c.if-inner-eq0.false, (omega (arith, c.loop-link.invariant.1.0, parts_farther c.args.s.now _ _ _ _ _ _ c.requires.0 c.if-link-due.false c.if-n-due.false _ c.head_from-h.ensures.0 _ c.pass_record-found.ensures c.loop-link.invariant.0 _ c.walk_chain-inner.ensures c.if-inner-eq0.false), (c.walk_chain-inner.ensures.small, λ o v. c.loop-link.invariant.1.1.1 o (parts_on c.args.s.now _ _ _ _ _ _ c.requires.0 c.if-link-due.false c.if-n-due.false _ c.head_from-h.ensures.0 _ c.pass_record-found.ensures c.loop-link.invariant.0 _ c.walk_chain-inner.ensures c.if-inner-eq0.false (sym c.parts_right-in-loop-link.ensures ∙ c.if-parts_right-2.true) o v))))
 
 pub walk_records-returns-else-parts_right-2 : goal.walk_records-returns-else-parts_right-2
 walk_records-returns-else-parts_right-2 t c =
-    tells_lost _ _ _ _ _ _ (c.loop-link.invariant.1.1.1 _ (parts-wrong c.args.s.now _ _ _ _ _ _ c.requires.0 c.if-link-due.false c.if-n-due.false _ c.head_from-h.ensures.0 _ c.pass_record-found.ensures c.loop-link.invariant.0 _ c.walk_chain-inner.ensures c.if-inner-eq0.false (sym c.parts_right-in-loop-link.ensures ∙ c.if-parts_right-2.false)))
+    tells_lost _ _ _ _ _ _ (c.loop-link.invariant.1.1.1 _ (parts_wrong c.args.s.now _ _ _ _ _ _ c.requires.0 c.if-link-due.false c.if-n-due.false _ c.head_from-h.ensures.0 _ c.pass_record-found.ensures c.loop-link.invariant.0 _ c.walk_chain-inner.ensures c.if-inner-eq0.false (sym c.parts_right-in-loop-link.ensures ∙ c.if-parts_right-2.false)))
 
 pub walk_records-overflow_mul-result : goal.walk_records-overflow_mul-result
 walk_records-overflow_mul-result t c =

@@ -2,7 +2,7 @@ use native.Mathlib.Omega.{arith}
 use mathlib.Core.Path.{refl}
 use Rattle.buffers.specs.Plain.{rules_of}
 use Rattle.buffers.specs.declared.Question.TheVariants as Question
-use Rattle.resolution.proofs.Folding.{room_within, entry_typed, entry_right, folds_alone, folds_lost, folds_null, folds-on, folds-no, folds-full, not_compared, steps_as}
+use Rattle.resolution.proofs.Folding.{room_within, entry_typed, entry_right, folds_alone, folds_lost, folds_null, folds_on, folds_no, folds_full, not_compared, steps_as}
 use Rattle.resolution.proofs.fold.fold_first.Goals as goal
 
 pub loop-last-init : goal.loop-last-init
@@ -41,12 +41,12 @@ fold_from-requires c =
 pub returns-in-Done : goal.returns-in-Done
 returns-in-Done c =
     let m = c.in-Done.ensures in
-    c.loop-last.invariant.1.1.0 _ _ (folds-on (rules_of Question.List _) _ _ c.loop-last-test.true _ c.head_at-h.ensures.0 c.if-h-ne1.true entry_right _ (steps_as entry_typed m) c.fold_from.ensures)
+    c.loop-last.invariant.1.1.0 _ _ (folds_on (rules_of Question.List _) _ _ c.loop-last-test.true _ c.head_at-h.ensures.0 c.if-h-ne1.true entry_right _ (steps_as entry_typed m) c.fold_from.ensures)
 
 pub returns-in-No : goal.returns-in-No
 returns-in-No c =
-    c.loop-last.invariant.1.1.0 _ _ (folds-no (rules_of Question.List _) _ _ c.loop-last-test.true _ c.head_at-h.ensures.0 c.if-h-ne1.true (steps_as entry_typed c.in-No.ensures))
+    c.loop-last.invariant.1.1.0 _ _ (folds_no (rules_of Question.List _) _ _ c.loop-last-test.true _ c.head_at-h.ensures.0 c.if-h-ne1.true (steps_as entry_typed c.in-No.ensures))
 
 pub returns-in-Full : goal.returns-in-Full
 returns-in-Full c =
-    c.loop-last.invariant.1.1.0 _ _ (folds-full (rules_of Question.List _) _ _ c.loop-last-test.true _ c.head_at-h.ensures.0 c.if-h-ne1.true (steps_as entry_typed c.in-Full.ensures))
+    c.loop-last.invariant.1.1.0 _ _ (folds_full (rules_of Question.List _) _ _ c.loop-last-test.true _ c.head_at-h.ensures.0 c.if-h-ne1.true (steps_as entry_typed c.in-Full.ensures))

@@ -3,7 +3,7 @@ use mathlib.Core.Path.{refl, ◌∙◌}
 use Rattle.buffers.specs.Plain.{rules_of}
 use Rattle.buffers.specs.declared.Question.TheVariants as Question
 use Rattle.resolution.proofs.Shifting.{core_second, on_candidate}
-use Rattle.resolution.proofs.Folding.{candidate_right, room_within, folds_end, folds_lost, folds_null, folds_kept, folds-on, folds-no, folds-full}
+use Rattle.resolution.proofs.Folding.{candidate_right, room_within, folds_end, folds_lost, folds_null, folds_kept, folds_on, folds_no, folds_full}
 use Rattle.resolution.proofs.fold.fold_from.Goals as goal
 
 pub loop-last-init : goal.loop-last-init
@@ -81,11 +81,11 @@ returns c =
 
 pub returns-in-No : goal.returns-in-No
 returns-in-No c =
-    c.loop-last.invariant.1.1.0 _ _ (folds-no (rules_of Question.List _) _ _ c.loop-last-test.true _ c.head_at-h.ensures.0 c.if-h-ne1.true c.in-No.ensures)
+    c.loop-last.invariant.1.1.0 _ _ (folds_no (rules_of Question.List _) _ _ c.loop-last-test.true _ c.head_at-h.ensures.0 c.if-h-ne1.true c.in-No.ensures)
 
 pub returns-in-Full : goal.returns-in-Full
 returns-in-Full c =
-    c.loop-last.invariant.1.1.0 _ _ (folds-full (rules_of Question.List _) _ _ c.loop-last-test.true _ c.head_at-h.ensures.0 c.if-h-ne1.true c.in-Full.ensures)
+    c.loop-last.invariant.1.1.0 _ _ (folds_full (rules_of Question.List _) _ _ c.loop-last-test.true _ c.head_at-h.ensures.0 c.if-h-ne1.true c.in-Full.ensures)
 
 pub loop-last-preserved-in-Done : goal.loop-last-preserved-in-Done
 loop-last-preserved-in-Done c =
@@ -94,7 +94,7 @@ loop-last-preserved-in-Done c =
       (
         m.within.long ∙ c.loop-last.invariant.1.0,
         (
-          (λ v o g. c.loop-last.invariant.1.1.0 v o (folds-on (rules_of Question.List _) _ _ c.loop-last-test.true _ c.head_at-h.ensures.0 c.if-h-ne1.true candidate_right o m g)),
+          (λ v o g. c.loop-last.invariant.1.1.0 v o (folds_on (rules_of Question.List _) _ _ c.loop-last-test.true _ c.head_at-h.ensures.0 c.if-h-ne1.true candidate_right o m g)),
           λ n. absurd (n refl),
         ),
       ),

@@ -1,7 +1,7 @@
 use native.Mathlib.Omega.{arith}
 use mathlib.Core.Path.{refl, sym, ◌∙◌}
 use Rattle.buffers.specs.Plain.{rules_of}
-use Rattle.resolution.proofs.Folding.{not_compared, reached_empty, reached_lost, pair_one, pair_many, pair-on}
+use Rattle.resolution.proofs.Folding.{not_compared, reached_empty, reached_lost, pair_one, pair_many, pair_on}
 use Rattle.resolution.proofs.Leaves.{steps_joined}
 use Rattle.resolution.proofs.fold.pair.Goals as goal
 
@@ -27,7 +27,7 @@ lay_joint-requires c =
 
 pub returns-then-is_plain-2 : goal.returns-then-is_plain-2
 returns-then-is_plain-2 c =
-    pair-on (rules_of c.args.question c.args.mask) _ (omega (arith, c.if-link-eq0.false)) _ c.head_at-x.ensures.0 c.if-next-eq0.false _ c.head_at-y.ensures.0 c.if-y-ne0.false _ _
+    pair_on (rules_of c.args.question c.args.mask) _ (omega (arith, c.if-link-eq0.false)) _ c.head_at-x.ensures.0 c.if-next-eq0.false _ c.head_at-y.ensures.0 c.if-y-ne0.false _ _
     (steps_joined _ _ _ _ c.head_at-x.ensures.0 c.head_at-y.ensures.0 c.leaf_of.ensures.0 c.leaf_of-then-is_plain-2.ensures.0 (sym c.is_plain.ensures ∙ c.if-is_plain.true) (sym c.is_plain-then-is_plain.ensures ∙ c.if-is_plain-2.true) c.common_type-joint.ensures c.lay_joint.ensures)
 
 pub meet-requires : goal.meet-requires
@@ -36,4 +36,4 @@ meet-requires c =
 
 pub returns : goal.returns
 returns c =
-    pair-on (rules_of c.args.question c.args.mask) _ (omega (arith, c.if-link-eq0.false)) _ c.head_at-x.ensures.0 c.if-next-eq0.false _ c.head_at-y.ensures.0 c.if-y-ne0.false _ _ c.meet.ensures
+    pair_on (rules_of c.args.question c.args.mask) _ (omega (arith, c.if-link-eq0.false)) _ c.head_at-x.ensures.0 c.if-next-eq0.false _ c.head_at-y.ensures.0 c.if-y-ne0.false _ _ c.meet.ensures

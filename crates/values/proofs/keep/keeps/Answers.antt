@@ -3,12 +3,12 @@ use mathlib.Core.Bool.{◌&&◌}
 use lib.Dec.{leb}
 use borrow.Author.Tests.{leb-true}
 use Rattle.sheet.proofs.Tests.{never, and_fst, and_snd}
-use Rattle.values.proofs.Keeping.{keeps-alone, keeps-under, keeps_zoned}
+use Rattle.values.proofs.Keeping.{keeps_alone, keeps_under, keeps_zoned}
 use Rattle.values.proofs.keep.keeps.Goals as goal
 
 pub returns-then-not-wrapped : goal.returns-then-not-wrapped
 returns-then-not-wrapped c =
-    λ z at t y a d. keeps-alone c.args.mask _ _ _ c.head_at-x.ensures.0 c.head_at-v.ensures.0 c.head_at-wrapped.ensures.0 at t y a d (sym (c.both.ensures ∙ ap₂ ◌&&◌ c.is_plain.ensures c.is_plain-2.ensures) ∙ c.if-both.true) c.leaf_of-new.ensures.0 c.leaf_of-old.ensures.0 c.if-not-wrapped.true (c.is_common.ensures z)
+    λ z at t y a d. keeps_alone c.args.mask _ _ _ c.head_at-x.ensures.0 c.head_at-v.ensures.0 c.head_at-wrapped.ensures.0 at t y a d (sym (c.both.ensures ∙ ap₂ ◌&&◌ c.is_plain.ensures c.is_plain-2.ensures) ∙ c.if-both.true) c.leaf_of-new.ensures.0 c.leaf_of-old.ensures.0 c.if-not-wrapped.true (c.is_common.ensures z)
 
 pub returns-then-v-eq27 : goal.returns-then-v-eq27
 returns-then-v-eq27 c =
@@ -16,7 +16,7 @@ returns-then-v-eq27 c =
 
 pub returns-then-both : goal.returns-then-both
 returns-then-both c =
-    λ z at t y a d. keeps-under c.args.mask _ _ _ c.head_at-x.ensures.0 c.head_at-v.ensures.0 c.head_at-wrapped.ensures.0 at t y a d (sym (c.both.ensures ∙ ap₂ ◌&&◌ c.is_plain.ensures c.is_plain-2.ensures) ∙ c.if-both.true) c.leaf_of-new.ensures.0 c.leaf_of-old.ensures.0 c.if-not-wrapped.false c.if-v-eq27.false (c.is_common-then-both.ensures z)
+    λ z at t y a d. keeps_under c.args.mask _ _ _ c.head_at-x.ensures.0 c.head_at-v.ensures.0 c.head_at-wrapped.ensures.0 at t y a d (sym (c.both.ensures ∙ ap₂ ◌&&◌ c.is_plain.ensures c.is_plain-2.ensures) ∙ c.if-both.true) c.leaf_of-new.ensures.0 c.leaf_of-old.ensures.0 c.if-not-wrapped.false c.if-v-eq27.false (c.is_common-then-both.ensures z)
 
 pub returns : goal.returns
 returns c =

@@ -1,6 +1,6 @@
 use native.Mathlib.Omega.{arith}
 use mathlib.Core.Path.{refl}
-use Rattle.wrappers.proofs.Walking.{wrapper_low, allows_spent, allows_none, allows-now, allows-down}
+use Rattle.wrappers.proofs.Walking.{wrapper_low, allows_spent, allows_none, allows_now, allows_down}
 use Rattle.wrappers.proofs.walk.+allows.Goals as goal
 
 pub returns-then-left-eq0 : goal.returns-then-left-eq0
@@ -13,7 +13,7 @@ may_become-requires t c =
 
 pub returns-then-may_become : goal.returns-then-may_become
 returns-then-may_become t c =
-    allows-now _ _ c.kind_at-k.ensures c.is_wrapper.ensures c.if-is_wrapper.true c.may_become.ensures refl c.if-may_become.true
+    allows_now _ _ c.kind_at-k.ensures c.is_wrapper.ensures c.if-is_wrapper.true c.may_become.ensures refl c.if-may_become.true
 
 pub overflow_sub-left : goal.overflow_sub-left
 overflow_sub-left t c =
@@ -25,7 +25,7 @@ allows-requires t c =
 
 pub returns-then-is_wrapper : goal.returns-then-is_wrapper
 returns-then-is_wrapper t c =
-    allows-down _ _ c.kind_at-k.ensures c.is_wrapper.ensures c.if-is_wrapper.true c.may_become.ensures c.value_at.ensures c.if-may_become.false c.if-left-eq0.false c.allows.ensures
+    allows_down _ _ c.kind_at-k.ensures c.is_wrapper.ensures c.if-is_wrapper.true c.may_become.ensures c.value_at.ensures c.if-may_become.false c.if-left-eq0.false c.allows.ensures
 
 pub returns : goal.returns
 returns t c =

@@ -1,4 +1,4 @@
-use Rattle.wrappers.proofs.Walking.{learns_known, learns-found, learns_none}
+use Rattle.wrappers.proofs.Walking.{learns_known, learns_found, learns_none}
 use Rattle.wrappers.proofs.walk.learn.Goals as goal
 
 pub returns-then-hint-ne0 : goal.returns-then-hint-ne0
@@ -7,7 +7,7 @@ returns-then-hint-ne0 c =
 
 pub returns-then-wrappers_may : goal.returns-then-wrappers_may
 returns-then-wrappers_may c =
-    learns-found _ _ c.args.swap _ _ _ _ _ c.core_kind-k.ensures c.core_kind-j.ensures c.core_hint-h.ensures c.wrappers_may.ensures c.if-wrappers_may.true
+    learns_found _ _ c.args.swap _ _ _ _ _ c.core_kind-k.ensures c.core_kind-j.ensures c.core_hint-h.ensures c.wrappers_may.ensures c.if-wrappers_may.true
 
 pub returns : goal.returns
 returns c =
