@@ -9,12 +9,14 @@ pub mod pairs;
 pub mod plain;
 pub mod questions;
 
-ghost use Rattle.std.specs.Prelude.{◌≡◌, ◌+◌, ◌*◌, ◌^◌, ◌<◌, ◌≤◌, min, length, take, drop, ◌++◌, IsTrue, ◌↔◌};
+ghost use Rattle.std.specs.Prelude.{◌≡◌, ◌+◌, ◌*◌, ◌^◌, ◌<◌, ◌≤◌, length};
 
 use crate::plain::{Plain, nothing, same};
 use anyhow::Context;
+use reading::read_full;
+use std::fs::File;
+use std::io;
 use std::io::Read;
-use std::{fs, io};
 
 // The answers that were compared, how many differ, and the first that does; and whether the file is too short or too long.
 #[derive(Clone, Copy)]
@@ -96,16 +98,7 @@ fn compared(wanted: &[u8], l: Plain, r: Plain, t: Tally) -> Tally
     counted(b, l, r, questions::COMPARE, plain_at(wanted, 8))
 }
 
-// Moves the next of the stored bytes to the front of `place`, as many as there are and as it has room for, and tells how many.
-fn read_full(stored: &mut &[u8], place: &mut [u8]) -> usize
-    ensures count { result ≡ min (length stored.old.now) (length place.old) }
-    ensures copied { place.new ≡ take result stored.old.now ++ drop result place.old }
-    ensures rest { stored.new.now ≡ drop result stored.old.now }
-{
-    stored.read(place).unwrap()
-}
-
-fn run_pair(stored: &mut &[u8], l: Plain, r: Plain, t: Tally) -> Tally
+fn run_pair<R: Read>(stored: &mut R, l: Plain, r: Plain, t: Tally) -> Tally
     requires { (t.answers < 2 ^ 32) × (t.wrong ≤ t.answers) }
     ensures { (result.answers ≤ t.answers + 3) × (result.wrong ≤ result.answers) }
 {
@@ -119,7 +112,7 @@ fn run_pair(stored: &mut &[u8], l: Plain, r: Plain, t: Tally) -> Tally
 }
 
 // Every right of one left.
-fn run_left(stored: &mut &[u8], types: &[u8], count: usize, l: Plain, t: Tally) -> Tally
+fn run_left<R: Read>(stored: &mut R, types: &[u8], count: usize, l: Plain, t: Tally) -> Tally
     requires count_in_bounds { (count * 4 ≤ length types.now) × (count ≤ 256) }
     requires answers_bound { (t.answers < 2 ^ 31) × (t.wrong ≤ t.answers) }
     ensures { (result.answers ≤ t.answers + 768) × (result.wrong ≤ result.answers) }
@@ -133,7 +126,7 @@ fn run_left(stored: &mut &[u8], types: &[u8], count: usize, l: Plain, t: Tally) 
     o
 }
 
-fn run_types(stored: &mut &[u8], types: &[u8], count: usize) -> Tally
+fn run_types<R: Read>(stored: &mut R, types: &[u8], count: usize) -> Tally
     requires { (count * 4 ≤ length types.now) × (count ≤ 256) }
     ensures { result.wrong ≤ result.answers }
 {
@@ -146,15 +139,13 @@ fn run_types(stored: &mut &[u8], types: &[u8], count: usize) -> Tally
     o
 }
 
-fn at_end(stored: &mut &[u8]) -> bool
-    ensures { IsTrue result ↔ (length stored.old.now ≡ 0) }
-{
+fn at_end<R: Read>(stored: &mut R) -> bool {
     let mut one = [0u8; 1];
     read_full(stored, &mut one) == 0
 }
 
 // No type at all where the file is too short for its types.
-fn run_in(stored: &mut &[u8], types: &mut [u8]) -> Tally
+fn run_in<R: Read>(stored: &mut R, types: &mut [u8]) -> Tally
     requires { length types.old ≤ 1024 }
     ensures { result.wrong ≤ result.answers }
 {
@@ -165,7 +156,7 @@ fn run_in(stored: &mut &[u8], types: &mut [u8]) -> Tally
     run_types(stored, types, length / 4)
 }
 
-fn run_some(stored: &mut &[u8], space: &mut [u8], count: usize) -> Tally
+fn run_some<R: Read>(stored: &mut R, space: &mut [u8], count: usize) -> Tally
     requires { length space.old ≡ 1024 }
     ensures { result.wrong ≤ result.answers }
 {
@@ -177,15 +168,14 @@ fn run_some(stored: &mut &[u8], space: &mut [u8], count: usize) -> Tally
 }
 
 // There is room for 256 types.
-fn run(pairs: &[u8]) -> Tally
+fn run<R: Read>(stored: &mut R) -> Tally
     ensures { result.wrong ≤ result.answers }
 {
-    let mut stored = pairs;
     let mut space = [0u8; 1024];
     let mut head = [0u8; 2];
-    read_full(&mut stored, &mut head);
-    let mut o = run_some(&mut stored, &mut space, wide(head[0]) + 256 * wide(head[1]));
-    if !at_end(&mut stored) {
+    read_full(stored, &mut head);
+    let mut o = run_some(stored, &mut space, wide(head[0]) + 256 * wide(head[1]));
+    if !at_end(stored) {
         o.broken = true;
     }
     o
@@ -243,7 +233,7 @@ fn summary(rt: &impl Print, t: Tally) -> io::Result<()>
 }
 
 fn main(rt: HostRuntime) -> anyhow::Result<()> {
-    let pairs = fs::read(&rt, "plain").context("plain")?;
-    summary(&rt, run(&pairs))?;
+    let mut file = File::open(&rt, "plain").context("plain")?;
+    summary(&rt, run(&mut file))?;
     Ok(())
 }

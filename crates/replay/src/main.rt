@@ -7,13 +7,15 @@
 pub mod spaces;
 pub mod stored;
 
-ghost use Rattle.std.specs.Prelude.{◌≡◌, ◌+◌, ◌^◌, ◌<◌, ◌≤◌, min, length, take, drop, ◌++◌, IsTrue, ◌↔◌};
+ghost use Rattle.std.specs.Prelude.{◌≡◌, ◌+◌, ◌^◌, ◌<◌, ◌≤◌, length};
 
 use crate::stored::{Entry, LIST, TYPE, UNION, Vector};
 use answers::Answer;
 use anyhow::Context;
+use reading::read_full;
+use std::fs::File;
+use std::io;
 use std::io::Read;
-use std::{fs, io};
 
 // Room for a stored sheet, for its answer and for an output; a work space has twice as much.
 const ROOM: usize = 20000;
@@ -119,24 +121,13 @@ fn run_read(v: Vector, sheet: &[u8], answer: &[u8]) -> Given
     )
 }
 
-// Moves the next of the stored bytes to the front of `place`, as many as there are and as it has room for, and tells how many.
-fn read_full(calls: &mut &[u8], place: &mut [u8]) -> usize
-    ensures count { result ≡ min (length calls.old.now) (length place.old) }
-    ensures copied { place.new ≡ take result calls.old.now ++ drop result place.old }
-    ensures rest { calls.new.now ≡ drop result calls.old.now }
-{
-    calls.read(place).unwrap()
-}
-
 // Whether there were bytes enough to fill `place`.
-fn read(calls: &mut &[u8], place: &mut [u8]) -> bool
-    ensures { IsTrue result ↔ (length place.old ≤ length calls.old.now) }
-{
+fn read<R: Read>(calls: &mut R, place: &mut [u8]) -> bool {
     read_full(calls, place) == place.len()
 }
 
 // Reads the sheet and the answer of a vector and runs it.
-fn run_stored(calls: &mut &[u8], v: Vector, sheet: &mut [u8], answer: &mut [u8]) -> Turn
+fn run_stored<R: Read>(calls: &mut R, v: Vector, sheet: &mut [u8], answer: &mut [u8]) -> Turn
     requires { (length sheet.old ≤ 20000) × ((v.output ≤ 19936) × (v.work ≤ 39936)) }
 {
     if !read(calls, sheet) {
@@ -148,7 +139,7 @@ fn run_stored(calls: &mut &[u8], v: Vector, sheet: &mut [u8], answer: &mut [u8])
     Turn::Ran(v, run_read(v, sheet, answer))
 }
 
-fn run_fitting(calls: &mut &[u8], v: Vector) -> Turn
+fn run_fitting<R: Read>(calls: &mut R, v: Vector) -> Turn
     requires { (v.sheet ≤ 20000) × ((v.answer ≤ 20000) × ((v.output ≤ 19936) × (v.work ≤ 39936))) }
 {
     let mut sheet = [0u8; ROOM];
@@ -159,7 +150,7 @@ fn run_fitting(calls: &mut &[u8], v: Vector) -> Turn
 }
 
 // A vector without a question, or that does not fit the room for it, counts as broken.
-fn run_vector(calls: &mut &[u8], v: Vector) -> Turn {
+fn run_vector<R: Read>(calls: &mut R, v: Vector) -> Turn {
     if !stored::is_question(v.question) {
         return Turn::Broken;
     }
@@ -172,13 +163,13 @@ fn run_vector(calls: &mut &[u8], v: Vector) -> Turn {
     run_fitting(calls, v)
 }
 
-fn read_entry(calls: &mut &[u8]) -> Entry {
+fn read_entry<R: Read>(calls: &mut R) -> Entry {
     let mut head = [0u8; 32];
     let got = read_full(calls, &mut head);
     stored::entry_of(&head, got)
 }
 
-fn turn_of(calls: &mut &[u8]) -> Turn {
+fn turn_of<R: Read>(calls: &mut R) -> Turn {
     match read_entry(calls) {
         Entry::End => Turn::End,
         Entry::Broken => Turn::Broken,
@@ -258,14 +249,13 @@ fn after(t: Tally, turn: Turn) -> Tally
 }
 
 // The vectors are counted down from more than are stored.
-fn run(stored: &[u8]) -> Tally
+fn run<R: Read>(calls: &mut R) -> Tally
     ensures { result.wrong ≤ result.calls }
 {
-    let mut calls = stored;
     let mut t = nothing_run();
     let mut left: u64 = 100000;
     while left > 0 {
-        t = after(t, turn_of(&mut calls));
+        t = after(t, turn_of(calls));
         if t.ended || t.broken {
             return t;
         }
@@ -334,7 +324,7 @@ fn summary(rt: &impl Print, t: Tally) -> io::Result<()>
 }
 
 fn main(rt: HostRuntime) -> anyhow::Result<()> {
-    let calls = fs::read(&rt, "calls.bin").context("calls.bin")?;
-    summary(&rt, run(&calls))?;
+    let mut file = File::open(&rt, "calls.bin").context("calls.bin")?;
+    summary(&rt, run(&mut file))?;
     Ok(())
 }

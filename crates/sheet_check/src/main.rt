@@ -5,12 +5,14 @@
 // A read or a write that fails ends the program with its error.
 #![tactic(auto)]
 
-ghost use Rattle.std.specs.Prelude.{◌≡◌, ◌+◌, ◌^◌, ◌<◌, ◌≤◌, min, length, take, drop, ◌++◌};
+ghost use Rattle.std.specs.Prelude.{◌≡◌, ◌+◌, ◌^◌, ◌<◌, ◌≤◌};
 
 use anyhow::Context;
+use reading::read_full;
 use sheet::{Checked, Refusal};
+use std::fs::File;
+use std::io;
 use std::io::Read;
-use std::{fs, io};
 
 // A refusal number, or 0 with the n and m of an accepted sheet.
 #[derive(Clone, Copy)]
@@ -83,16 +85,7 @@ fn pair(low: u8, high: u8) -> usize
     wide(low) + 256 * wide(high)
 }
 
-// Moves the next of the stored bytes to the front of `place`, as many as there are and as it has room for, and tells how many.
-fn read_full(stored: &mut &[u8], place: &mut [u8]) -> usize
-    ensures count { result ≡ min (length stored.old.now) (length place.old) }
-    ensures copied { place.new ≡ take result stored.old.now ++ drop result place.old }
-    ensures rest { stored.new.now ≡ drop result stored.old.now }
-{
-    stored.read(place).unwrap()
-}
-
-fn next_entry(stored: &mut &[u8]) -> Entry {
+fn next_entry<R: Read>(stored: &mut R) -> Entry {
     let mut head = [0u8; 12];
     let got = read_full(stored, &mut head);
     if got == 0 {
@@ -111,7 +104,7 @@ fn next_entry(stored: &mut &[u8]) -> Entry {
 }
 
 // Fills `place` with the sheet and has it checked.
-fn run_in(place: &mut [u8], stored: &mut &[u8], wanted: Verdict) -> Turn {
+fn run_in<R: Read>(place: &mut [u8], stored: &mut R, wanted: Verdict) -> Turn {
     if read_full(stored, place) < place.len() {
         return Turn::Broken;
     }
@@ -119,7 +112,7 @@ fn run_in(place: &mut [u8], stored: &mut &[u8], wanted: Verdict) -> Turn {
 }
 
 // A sheet that does not fit the space counts as broken.
-fn run_sheet(space: &mut [u8], stored: &mut &[u8], wanted: Verdict, length: usize) -> Turn {
+fn run_sheet<R: Read>(space: &mut [u8], stored: &mut R, wanted: Verdict, length: usize) -> Turn {
     if length > space.len() {
         return Turn::Broken;
     }
@@ -127,7 +120,7 @@ fn run_sheet(space: &mut [u8], stored: &mut &[u8], wanted: Verdict, length: usiz
 }
 
 // The space holds more than the longest sheet that can be accepted, which has 32,768 bytes.
-fn turn_of(stored: &mut &[u8]) -> Turn {
+fn turn_of<R: Read>(stored: &mut R) -> Turn {
     let mut space = [0u8; 40000];
     match next_entry(stored) {
         Entry::End => Turn::End,
@@ -194,14 +187,13 @@ fn after(t: Tally, turn: Turn) -> Tally
 }
 
 // The entries are counted down from more than are stored.
-fn run(sheets: &[u8]) -> Tally
+fn run<R: Read>(stored: &mut R) -> Tally
     ensures { result.wrong ≤ result.sheets }
 {
-    let mut stored = sheets;
     let mut t = nothing_run();
     let mut left: u64 = 100000;
     while left > 0 {
-        t = after(t, turn_of(&mut stored));
+        t = after(t, turn_of(stored));
         if t.ended || t.broken {
             return t;
         }
@@ -248,7 +240,7 @@ fn summary(rt: &impl Print, t: Tally) -> io::Result<()>
 }
 
 fn main(rt: HostRuntime) -> anyhow::Result<()> {
-    let sheets = fs::read(&rt, "sheets").context("sheets")?;
-    summary(&rt, run(&sheets))?;
+    let mut file = File::open(&rt, "sheets").context("sheets")?;
+    summary(&rt, run(&mut file))?;
     Ok(())
 }

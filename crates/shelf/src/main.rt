@@ -1,19 +1,16 @@
 // Reads a sheet from standard input and prints what each of the three calls answers to it, with every mask bit from 1 to 38 set.
 //
 // A line is the question and then the kind, byte 2, signed scale and number of records of the answer, its header left out; or
-// `none`; or `refused` and the number. A read or a write that fails ends the program with its error.
+// `none`; or `refused` and the number. A write that fails ends the program with its error.
 #![tactic(auto)]
 
 ghost use Rattle.std.specs.Prelude.{◌<◌};
 
 use answers::Answer;
+use reading::read_full;
 use std::io;
-use std::io::Read;
 
 const MASK: u64 = 549755813886;
-
-// One byte more than a sheet can have.
-const ROOM: u64 = 32769;
 
 fn wide(b: u8) -> u64
     ensures { result < 256 }
@@ -79,7 +76,7 @@ fn answer_all(rt: &impl Print, sheet: &[u8]) -> io::Result<()> {
 
 // No sheet has more than 32,768 bytes (1,024 records and 16,384 label bytes): what has one more is refused as torn.
 fn main(rt: HostRuntime) -> io::Result<()> {
-    let mut sheet = Vec::new(rt.alloc());
-    rt.reader().take(ROOM).read_to_end(&mut sheet)?;
-    answer_all(&rt, &sheet)
+    let mut space = [0u8; 32769];
+    let length = read_full(&mut rt.reader(), &mut space);
+    answer_all(&rt, &space[..length])
 }

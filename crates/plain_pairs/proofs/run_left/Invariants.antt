@@ -3,8 +3,8 @@ use Rattle.std.proofs.Common.{◌+◌, ◌*◌, ◌-◌, ◌≤◌}
 use Rattle.plain_pairs.proofs.run_left.Given as goal
 
 abbrev pub invariant-loop-i : goal.invariant-loop-i
-invariant-loop-i l =
+invariant-loop-i g l =
     (l.i ≤ l.count) × ((l.o.answers ≤ l.initial.o.answers + 3 * l.i) × (l.o.wrong ≤ l.o.answers))
 
 abbrev pub decreases-loop-i : goal.decreases-loop-i
-decreases-loop-i l = l.count - l.i
+decreases-loop-i g l = l.count - l.i

@@ -3,7 +3,7 @@ use Rattle.std.proofs.Common.{◌+◌, ◌≤◌}
 use Rattle.replay.proofs.run.Given as goal
 
 abbrev pub invariant-loop-left : goal.invariant-loop-left
-invariant-loop-left l = (l.t.calls + l.left ≤ 100000) × (l.t.wrong ≤ l.t.calls)
+invariant-loop-left g l = (l.t.calls + l.left ≤ 100000) × (l.t.wrong ≤ l.t.calls)
 
 abbrev pub decreases-loop-left : goal.decreases-loop-left
-decreases-loop-left l = l.left
+decreases-loop-left g l = l.left

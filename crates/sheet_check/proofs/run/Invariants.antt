@@ -3,7 +3,7 @@ use Rattle.std.proofs.Common.{◌+◌, ◌≤◌}
 use Rattle.sheet_check.proofs.run.Given as goal
 
 abbrev pub invariant-loop-left : goal.invariant-loop-left
-invariant-loop-left l = (l.t.sheets + l.left ≤ 100000) × (l.t.wrong ≤ l.t.sheets)
+invariant-loop-left g l = (l.t.sheets + l.left ≤ 100000) × (l.t.wrong ≤ l.t.sheets)
 
 abbrev pub decreases-loop-left : goal.decreases-loop-left
-decreases-loop-left l = l.left
+decreases-loop-left g l = l.left

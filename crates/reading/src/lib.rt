@@ -1,0 +1,31 @@
+// Filling a buffer from a reader, for the programs.
+#![tactic(auto)]
+
+ghost use Rattle.std.specs.Prelude.{◌≤◌, length};
+
+use std::io::Read;
+
+// What one read gives. A read that fails gives nothing.
+fn read_some<R: Read>(reader: &mut R, place: &mut [u8]) -> usize
+    ensures { result ≤ length place.new }
+{
+    match reader.read(place) {
+        Ok(n) => n,
+        Err(_) => 0,
+    }
+}
+
+// Fills a buffer from the front until it is full, the reader ends or a read fails, and tells how many bytes it put there.
+pub fn read_full<R: Read>(reader: &mut R, place: &mut [u8]) -> usize
+    ensures { result ≤ length place.new }
+{
+    let mut got = 0;
+    while got < place.len() {
+        let n = read_some(reader, &mut place[got..]);
+        if n == 0 {
+            return got;
+        }
+        got += n;
+    }
+    got
+}
