@@ -1,4 +1,5 @@
 use mathlib.Core.Path.{sym}
+use native.Mathlib.Omega.{arith}
 use Rattle.refusals.proofs.Scans.{torn_short, torn_none, torn_many, torn_labels, torn_length, torn_rest, not_torn}
 use Rattle.refusals.proofs.header.is_torn.Goals as goal
 
@@ -24,7 +25,7 @@ returns-then-m-gt16384 c =
 
 pub returns-then-is_rest_zero : goal.returns-then-is_rest_zero
 returns-then-is_rest_zero c =
-    sym (not_torn _ _ _ c.word_at-n.ensures.0 c.word_at-m.ensures.0 c.if-s-lt16.false c.if-n-lt1.false c.if-n-gt1024.false c.if-m-gt16384.false c.if-s-n.false c.is_rest_zero.ensures c.if-is_rest_zero.true).whole
+    sym (not_torn _ _ _ c.word_at-n.ensures.0 c.word_at-m.ensures.0 c.if-s-lt16.false c.if-n-lt1.false c.if-n-gt1024.false (omega arith) c.if-s-n.false c.is_rest_zero.ensures c.if-is_rest_zero.true).whole
 
 pub returns-else-is_rest_zero : goal.returns-else-is_rest_zero
 returns-else-is_rest_zero c =

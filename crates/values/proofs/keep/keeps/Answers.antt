@@ -1,5 +1,6 @@
 use mathlib.Core.Path.{ap₂, sym, ◌∙◌}
 use mathlib.Core.Bool.{◌&&◌}
+use native.Mathlib.Omega.{arith}
 use lib.Dec.{leb}
 use borrow.Author.Tests.{leb-true}
 use Rattle.sheet.proofs.Tests.{never, and_fst, and_snd}
@@ -16,7 +17,7 @@ returns-then-v-eq27 c =
 
 pub returns-then-both : goal.returns-then-both
 returns-then-both c =
-    λ z at t y a d. keeps_under c.args.mask _ _ _ c.head_at-x.ensures.0 c.head_at-v.ensures.0 c.head_at-wrapped.ensures.0 at t y a d (sym (c.both.ensures ∙ ap₂ ◌&&◌ c.is_plain.ensures c.is_plain-2.ensures) ∙ c.if-both.true) c.leaf_of-new.ensures.0 c.leaf_of-old.ensures.0 c.if-not-wrapped.false c.if-v-eq27.false (c.is_common-then-both.ensures z)
+    λ z at t y a d. keeps_under c.args.mask _ _ _ c.head_at-x.ensures.0 c.head_at-v.ensures.0 c.head_at-wrapped.ensures.0 at t y a d (sym (c.both.ensures ∙ ap₂ ◌&&◌ c.is_plain.ensures c.is_plain-2.ensures) ∙ c.if-both.true) c.leaf_of-new.ensures.0 c.leaf_of-old.ensures.0 c.if-not-wrapped.false (λ q. omega (arith, q)) (c.is_common-then-both.ensures z)
 
 pub returns : goal.returns
 returns c =
