@@ -10,24 +10,24 @@ returns-then-p-n c =
 
 pub returns-then-p : goal.returns-then-p
 returns-then-p c =
-    found_figure _ _ _ _ _ c.requires c.if-p-n.false c.if-p.true
+    found_figure _ _ _ _ _ c.requires (omega arith) c.if-p.true
 
 pub returns-then-p-2 : goal.returns-then-p-2
 returns-then-p-2 c =
-    found_label _ _ _ _ _ c.requires c.if-p-n.false c.if-p.false c.if-p-2.true
+    found_label _ _ _ _ _ c.requires (omega arith) c.if-p.false c.if-p-2.true
 
 pub returns-then-p-m : goal.returns-then-p-m
 returns-then-p-m c =
-    found_end _ _ _ _ _ c.requires c.if-p-n.false c.if-p.false c.if-p-2.false c.if-p-m.true
+    found_end _ _ _ _ _ c.requires (omega arith) c.if-p.false c.if-p-2.false c.if-p-m.true
 
 pub returns-then-n-lt4 : goal.returns-then-n-lt4
 returns-then-n-lt4 c =
-    found_sheet _ _ _ _ _ c.requires c.if-p-n.false c.if-p.false c.if-p-2.false c.if-p-m.false (λ j. (c.type_inv.s j).fits) (λ o t h e. ap not (sym (few_differ t (omega (arith, e, c.if-n-lt4.true))))) refl
+    found_sheet _ _ _ _ _ c.requires (omega arith) c.if-p.false c.if-p-2.false c.if-p-m.false (λ j. (c.type_inv.s j).fits) (λ o t h e. ap not (sym (few_differ t (omega (arith, e, c.if-n-lt4.true))))) refl
 
 pub returns-then-twins : goal.returns-then-twins
 returns-then-twins c =
-    found_twins _ _ _ _ _ c.requires c.if-p-n.false c.if-p.false c.if-p-2.false c.if-p-m.false (λ j. (c.type_inv.s j).fits) c.twins.ensures c.if-twins.true
+    found_twins _ _ _ _ _ c.requires (omega arith) c.if-p.false c.if-p-2.false c.if-p-m.false (λ j. (c.type_inv.s j).fits) c.twins.ensures c.if-twins.true
 
 pub returns : goal.returns
 returns c =
-    found_sheet _ _ _ _ _ c.requires c.if-p-n.false c.if-p.false c.if-p-2.false c.if-p-m.false (λ j. (c.type_inv.s j).fits) c.twins.ensures c.if-twins.false
+    found_sheet _ _ _ _ _ c.requires (omega arith) c.if-p.false c.if-p-2.false c.if-p-m.false (λ j. (c.type_inv.s j).fits) c.twins.ensures c.if-twins.false

@@ -1,3 +1,4 @@
+use native.Mathlib.Omega.{arith}
 use Rattle.answers.proofs.Refusing.{mask_odd, mask_right, mask_high}
 use Rattle.answers.proofs.refuse.is_bad_mask.Goals as goal
 
@@ -11,4 +12,4 @@ returns-then-mask-lt549755813888 c =
 
 pub returns : goal.returns
 returns c =
-    mask_high _ c.if-mask-ne0.false c.if-mask-lt549755813888.false
+    mask_high _ c.if-mask-ne0.false (omega arith)
