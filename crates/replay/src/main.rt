@@ -1,7 +1,7 @@
 // Runs the stored calls of data/calls.bin and compares what they answer, and what they leave in the output and the work space, with what is stored.
 //
-// oracle/vectors/README.md has the form of the file and says how it was made. A read or a write that fails ends the program with
-// its error.
+// oracle/vectors/README.md has the form of the file and says how it was made. A file that cannot be opened, or a write that
+// fails, ends the program with its error.
 #![tactic(auto)]
 
 pub mod spaces;
