@@ -1,13 +1,15 @@
 // Filling a buffer from a reader, for the programs.
 #![tactic(auto)]
 
-ghost use Rattle.std.specs.Prelude.{◌≤◌, length};
+ghost use Rattle.std.specs.Io.KnownBytes.{Consumes};
+ghost use Rattle.std.specs.Prelude.{◌≤◌, length, take};
 
 use std::io::Read;
 
 // What one read gives. A read that fails gives nothing.
 fn read_some<R: Read>(reader: &mut R, place: &mut [u8]) -> usize
-    ensures { result ≤ length place.new }
+    ensures count { result ≤ length place.new }
+    ensures bytes { Consumes (R.remaining reader.old) (R.remaining reader.new) (take result place.new) }
 {
     match reader.read(place) {
         Ok(n) => n,
@@ -16,8 +18,10 @@ fn read_some<R: Read>(reader: &mut R, place: &mut [u8]) -> usize
 }
 
 // Fills a buffer from the front until it is full, the reader ends or a read fails, and tells how many bytes it put there.
+// Where it is known what the reader has left, these are its next bytes, and it has lost them.
 pub fn read_full<R: Read>(reader: &mut R, place: &mut [u8]) -> usize
-    ensures { result ≤ length place.new }
+    ensures count { result ≤ length place.new }
+    ensures bytes { Consumes (R.remaining reader.old) (R.remaining reader.new) (take result place.new) }
 {
     let mut got = 0;
     while got < place.len() {
