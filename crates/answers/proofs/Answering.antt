@@ -3,7 +3,7 @@ use mathlib.Core.Path.{◌≡◌, refl, ap, sym, ◌∙◌}
 use mathlib.Core.HLevel.{Discrete, hedberg}
 use mathlib.Core.Bool.{Bool, true, false}
 use mathlib.Core.List.{List, is_set}
-use mathlib.Core.Option.{some}
+use Rattle.std.specs.Prelude.{Some}
 use Prim.Native.Nat.{ℕ, ◌+◌, ◌/◌, ◌%◌, ◌<◌}
 use native.Mathlib.Nat.{ℕ_set}
 use native.Mathlib.Decide.{ℕ_discrete}
@@ -54,16 +54,16 @@ answers_prop c t a b =
     λ i. record { reply = hedberg reply_discrete _ _ a.reply b.reply i; bytes = is_set ℕ_set _ _ a.bytes b.bytes i }
 
 -- the outcome of a list call whose types have an answer
-pub outcome_of : (c : Call) (ts : List DataType) (t : DataType) → Asks c ts → type_union_resolution (asking c.mask) ts ≡ some t → outcome c ≡ settled c (some t)
+pub outcome_of : (c : Call) (ts : List DataType) (t : DataType) → Asks c ts → type_union_resolution (asking c.mask) ts ≡ Some t → outcome c ≡ settled c (Some t)
 unfolding outcome
 outcome_of c ts t a h =
-    let e : answer c ≡ some t =
+    let e : answer c ≡ Some t =
     ap (λ (q : Question). answer_of q (record { question = q; mask = c.mask }) (types_of (read c.sheet))) a.question
     ∙ ap (type_union_resolution (asking c.mask)) a.reads ∙ h in
     rw a.unrefused (ap (settled c) e)
 
 -- a call answers what its types have for an answer
-pub answers_of : (c : Call) (ts : List DataType) (t : DataType) → Asks c ts → type_union_resolution (asking c.mask) ts ≡ some t → Answers c t
+pub answers_of : (c : Call) (ts : List DataType) (t : DataType) → Asks c ts → type_union_resolution (asking c.mask) ts ≡ Some t → Answers c t
 answers_of c ts t a h =
     let e = outcome_of c ts t a h in
     record {

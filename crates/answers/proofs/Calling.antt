@@ -2,10 +2,11 @@
 use mathlib.Core.Path.{◌≡◌, refl, ap, sym, ◌∙◌}
 use mathlib.Core.Bool.{Bool, true, false, cond}
 use mathlib.Core.List.{List, ◌++◌}
-use mathlib.Core.Option.{Option, none, some}
+use Rattle.std.specs.Prelude.{Option, None, Some}
 use Prim.Native.Nat.{ℕ, ◌+◌, ◌*◌, ◌≤◌}
 use native.Mathlib.Omega.{arith}
-use lib.ListN.{length, drop, replicate}
+use lib.ListN.{length, take, drop, replicate}
+use lib.Seq.{length-take-le}
 use lib.Dec.{ltb}
 use borrow.Author.Tests.{ne_eqb, ltb-false}
 use Rattle.sheet.specs.Encode.{encode}
@@ -27,11 +28,15 @@ use Rattle.buffers.specs.Plain.{asked, rules_of}
 use Rattle.buffers.specs.declared.Question.{Question}
 use Rattle.buffers.specs.declared.Space.{Space}
 use Rattle.buffers.specs.declared.Spot.{Spot}
-use Rattle.buffers.specs.declared.Out.{Out}
-use Rattle.buffers.specs.declared.Out.TheVariants.{Done, No, Full}
+use Rattle.buffers.specs.Out.{Out}
+use Rattle.std.specs.Prelude.{Ok, Err}
+use Rattle.buffers.specs.declared.Failure.{Failure}
+use Rattle.buffers.specs.declared.Failure.TheVariants.{NoType, Full}
 use Rattle.resolution.specs.Reached.{front, Listed, Fits, AnswerIs, Reached}
 use Rattle.answers.specs.Call.{Call, bad_mask, bad_pair, refusal, Reply, refused, nothing, written, Outcome, cleared, at_front, settled, answer, outcome}
-use Rattle.answers.specs.Code.{call_of, Measured, Spared, is_short, later_refusal, zeroed, Emits, Reports}
+use Rattle.answers.specs.declared.Refusal as Own
+use Rattle.answers.specs.Code as Code
+use Rattle.answers.specs.Code.{call_of, Measured, Spared, is_short, later_refusal, Emits}
 use Rattle.answers.proofs.Emitting.{drop_same}
 use Rattle.answers.proofs.Refusing.{measured_n, measured_m, measured_half, measured_few, measured_short, measured_leads, accepted_refusal, sheet_refusal}
 
@@ -40,27 +45,26 @@ refused_outcome : (c : Call) (k : ℕ) → ¬ (k ≡ 0) → refusal c ≡ k → 
 unfolding outcome
 refused_outcome c k h e = rw (e, ne_eqb k 0 h)
 
-pub refused_sheet : (c : Call) (r : Refusal) (k : ℕ) → record { number = number_of r; n = 0; m = 0 } ≡ Sheet.verdict c.sheet → k ≡ number_of r
-    → record { reply = refused k; output = c.output; work = c.work } ≡ outcome c
-refused_sheet c r k h e =
+pub refused_sheet : (c : Call) (r : Refusal) → record { number = number_of r; n = 0; m = 0 } ≡ Sheet.verdict c.sheet
+    → record { reply = refused (number_of r); output = c.output; work = c.work } ≡ outcome c
+refused_sheet c r h =
     let z : Sheet.refusal c.sheet ≡ number_of r = checked_number c.sheet (number_of r) 0 0 h in
-    refused_outcome c k (λ x. number_some r (sym e ∙ x)) (sheet_refusal c (λ x. number_some r (sym z ∙ x)) ∙ z ∙ sym e)
+    refused_outcome c (number_of r) (number_some r) (sheet_refusal c (λ x. number_some r (sym z ∙ x)) ∙ z)
 
 pub torn_call : (c : Call) → Sheet.torn c.sheet ≡ true → record { reply = refused 1; output = c.output; work = c.work } ≡ outcome c
-torn_call c h = refused_sheet c Torn 1 (says_torn c.sheet h) refl
+torn_call c h = refused_sheet c Torn (says_torn c.sheet h)
 
-module _ (c : Call) (space : Space) (measured : Measured c.sheet space) (k : ℕ)
-    (e : k ≡ later_refusal c.question c.sheet c.mask (length c.output) (length c.work)) where
-  refusal_is : refusal c ≡ k
-  refusal_is = accepted_refusal c measured.unrefused ∙ sym e
+some_number : (r : Own.Refusal) → ¬ (Code.number_of r ≡ 0)
+some_number (Own.Refusal.Sheet r) = number_some r
+some_number Own.Refusal.Mask = λ h. omega arith
+some_number Own.Refusal.Pair = λ h. omega arith
+some_number Own.Refusal.Space = λ h. omega arith
 
-  pub refused_later : ¬ (k ≡ 0) → record { reply = refused k; output = c.output; work = c.work } ≡ outcome c
-  refused_later h = refused_outcome c k h refusal_is
-
-  -- a call that is not refused is answered
-  pub answered : {o : Outcome} → k ≡ 0 → o ≡ settled c (answer c) → o ≡ outcome c
-  unfolding outcome
-  answered h s = rw (refusal_is ∙ h) s
+-- a call that meets one of 6 to 8
+pub refused_later : (c : Call) (r : Own.Refusal) → Sheet.refusal c.sheet ≡ 0
+    → Code.number_of r ≡ later_refusal c.question c.sheet c.mask (length c.output) (length c.work)
+    → record { reply = refused (Code.number_of r); output = c.output; work = c.work } ≡ outcome c
+refused_later c r accepted e = refused_outcome c (Code.number_of r) (some_number r) (accepted_refusal c accepted ∙ sym e)
 
 -- the room of a call that is not refused
 none_later : (q : Question) (s : List ℕ) (mask o w : ℕ) → later_refusal (asked q) s mask o w ≡ 0 → is_short (length s) o w ≡ false
@@ -72,24 +76,16 @@ none_later q s mask o w h = go (bad_mask mask) (bad_pair (asked q) s) (is_short 
     go false false true h = absurd (omega arith)
     go false false false h = refl
 
-pub spared : (q : Question) (s : List ℕ) (mask : ℕ) (out w : List ℕ) (space : Space) (k : ℕ) → Measured s space
-    → k ≡ later_refusal (asked q) s mask (length out) (length w) → k ≡ 0 → Spared space out w
-spared q s mask out w space k measured e z =
-    let h = none_later q s mask (length out) (length w) (sym e ∙ z) in
-    record {
-      output = omega (arith, measured.half, ltb-false (length out) (length s) (or_fst (ltb (length out) (length s)) _ h));
-      work = omega (arith, measured.half, ltb-false (length w) (2 * length s) (or_snd (ltb (length out) (length s)) _ h));
-    }
+module _ (q : Question) (s : List ℕ) (mask : ℕ) (out w : List ℕ) (space : Space) (plain : Plain s) (measured : Measured s space)
+    (unrefused : 0 ≡ later_refusal (asked q) s mask (length out) (length w)) where
+  spared : Spared space out w
+  spared =
+      let h = none_later q s mask (length out) (length w) (sym unrefused) in
+      record {
+        output = omega (arith, measured.half, ltb-false (length out) (length s) (or_fst (ltb (length out) (length s)) _ h));
+        work = omega (arith, measured.half, ltb-false (length w) (2 * length s) (or_snd (ltb (length out) (length s)) _ h));
+      }
 
--- what was written is reported
-pub reported : (space : Space) (d : Spot) (v out out' v' : List ℕ) → Emits space d v out out' → v' ≡ zeroed (2 * space.half) v
-    → Reports space d v out (record { reply = written (16 * d.at + d.label); output = out'; work = v' })
-reported space d v out out' v' h e t x =
-    let n : 16 * d.at + d.label ≡ length (encode (single t)) = omega (arith, x.records, x.letters, encode_length (single t)) in
-    let o = h t x in
-    λ i. record { reply = written (n i); output = o i; work = e i }
-
-module _ (q : Question) (s : List ℕ) (mask : ℕ) (out w : List ℕ) (space : Space) (plain : Plain s) (measured : Measured s space) (spared : Spared space out w) where
   pub room : Room w space
   room =
       record {
@@ -123,14 +119,14 @@ module _ (q : Question) (s : List ℕ) (mask : ℕ) (out w : List ℕ) (space : 
     abbrev Reach : Out → Type 0
     Reach o = Reached (answer_of (asked q) (rules_of q mask)) space s w v 0 (start space.n) o
 
-    done_type : (d : Spot) → Reach (Done d) → (t : DataType) × ((found ≡ some t) × Wrote space v front d (single t))
+    done_type : (d : Spot) → Reach (Ok d) → (t : DataType) × ((found ≡ Some t) × Wrote space v front d (single t))
     done_type d r = go found refl (r.means (read s) listed fits)
       where
-        go : (o : Option DataType) → found ≡ o → AnswerIs space v (Done d) o → (t : DataType) × ((found ≡ some t) × Wrote space v front d (single t))
-        go none e x = absurd x
-        go (some t) e x = (t, (e, x))
+        go : (o : Option DataType) → found ≡ o → AnswerIs space v (Ok d) o → (t : DataType) × ((found ≡ Some t) × Wrote space v front d (single t))
+        go None e x = absurd x
+        go (Some t) e x = (t, (e, x))
 
-    pub done_room : (d : Spot) → Reach (Done d) → Room v space × (Inside space d × (space.half ≤ length out))
+    pub done_room : (d : Spot) → Reach (Ok d) → Room v space × (Inside space d × (space.half ≤ length out))
     done_room d r =
         let f = done_type d r in
         let t = f.0 in
@@ -147,33 +143,40 @@ module _ (q : Question) (s : List ℕ) (mask : ℕ) (out w : List ℕ) (space : 
           ),
         )
 
-    no_type_lem : Reach No → found ≡ none
+    no_type_lem : Reach (Err NoType) → found ≡ None
     no_type_lem r = go found (r.means (read s) listed fits)
       where
-        go : (o : Option DataType) → AnswerIs space v No o → o ≡ none
-        go none x = refl
-        go (some t) x = absurd x
+        go : (o : Option DataType) → AnswerIs space v (Err NoType) o → o ≡ None
+        go None x = refl
+        go (Some t) x = absurd x
 
-    -- both halves are zero, and nothing else has changed
-    zeroed_is : {o : Out} → Reach o → zeroed (2 * space.half) v ≡ cleared s w
-    zeroed_is r =
-        ap (λ (l : List ℕ). replicate (2 * space.half) 0 ++ l) (drop_same (2 * space.half) v w r.within.long r.within.above)
+    -- both halves were filled with zeros, and nothing else has changed
+    zeroed_is : {o : Out} {zeros : List ℕ} → Reach o → zeros ≡ replicate (length (take (2 * space.half) v)) 0
+        → zeros ++ drop (2 * space.half) v ≡ cleared s w
+    zeroed_is r h =
+        let n : length (take (2 * space.half) v) ≡ 2 * space.half = length-take-le (2 * space.half) v (omega (arith, spared.work, r.within.long)) in
+        ap (λ (l : List ℕ). l ++ drop (2 * space.half) v) (h ∙ ap (λ (k : ℕ). replicate k 0) n)
+        ∙ ap (λ (l : List ℕ). replicate (2 * space.half) 0 ++ l) (drop_same (2 * space.half) v w r.within.long r.within.above)
         ∙ ap (λ (k : ℕ). replicate (2 * k) 0 ++ drop (2 * k) w) measured.half
 
-    pub done_settled : (d : Spot) {o : Outcome} → Reach (Done d) → Reports space d v out o → o ≡ settled (call_of q s mask out w) (answer (call_of q s mask out w))
-    done_settled d r h =
-        let f = done_type d r in
-        let t = f.0 in
-        let z = zeroed_is r in
-        h t f.1.1 ∙ (λ i. record { reply = written (length (encode (single t))); output = at_front (encode (single t)) out; work = z i })
-        ∙ ap (settled (call_of q s mask out w)) (sym f.1.0)
+    -- what is seen after a call that is not refused
+    answered : {o : Outcome} → o ≡ settled (call_of q s mask out w) found → o ≡ outcome (call_of q s mask out w)
+    unfolding outcome
+    answered h = rw (accepted_refusal (call_of q s mask out w) measured.unrefused ∙ sym unrefused) h
 
-    pub none_settled : {y : Reply} {v' : List ℕ} → Reach No → (y ≡ nothing) × (v' ≡ zeroed (2 * space.half) v)
-        → record { reply = y; output = out; work = v' } ≡ settled (call_of q s mask out w) (answer (call_of q s mask out w))
-    none_settled r h =
-        let y = h.0 in
-        let z = h.1 ∙ zeroed_is r in
-        (λ i. record { reply = y i; output = out; work = z i }) ∙ ap (settled (call_of q s mask out w)) (sym (no_type_lem r))
+    module _ {zeros : List ℕ} (cleared : zeros ≡ replicate (length (take (2 * space.half) v)) 0) where
+      pub type_outcome : (d : Spot) {k : ℕ} {out' : List ℕ} → Reach (Ok d) → (k ≡ 16 * d.at + d.label) × Emits space d v out out'
+          → record { reply = written k; output = out'; work = zeros ++ drop (2 * space.half) v } ≡ outcome (call_of q s mask out w)
+      type_outcome d {k} r e =
+          let f = done_type d r in
+          let t = f.0 in
+          let n : k ≡ length (encode (single t)) = omega (arith, e.0, f.1.1.records, f.1.1.letters, encode_length (single t)) in
+          let o = e.1 t f.1.1 in
+          let z = zeroed_is r cleared in
+          answered ((λ i. record { reply = written (n i); output = o i; work = z i }) ∙ ap (settled (call_of q s mask out w)) (sym f.1.0))
 
-    pub never_full : Reach Full → ⊥
-    never_full r = r.means (read s) listed fits
+      pub none_outcome : (f : Failure) → Reach (Err f) → record { reply = nothing; output = out; work = zeros ++ drop (2 * space.half) v } ≡ outcome (call_of q s mask out w)
+      none_outcome NoType r =
+          let z = zeroed_is r cleared in
+          answered ((λ i. record { reply = nothing; output = out; work = z i }) ∙ ap (settled (call_of q s mask out w)) (sym (no_type_lem r)))
+      none_outcome Full r = absurd (r.means (read s) listed fits)

@@ -1,4 +1,4 @@
--- What stands in an output after the writes, and in a work space that was cleared. Assumes nothing.
+-- What stands in an output after the writes. Assumes nothing.
 use mathlib.Core.Path.{◌≡◌, refl, ap, ap₂, sym, ◌∙◌}
 use mathlib.Core.List.{List, [], ◌∷◌, ◌++◌}
 use Prim.Native.Nat.{ℕ, zero, suc, ◌+◌, ◌*◌, ◌-◌, ◌<◌, ◌≤◌}
@@ -18,19 +18,6 @@ use Rattle.buffers.proofs.Puts.{put_list, put_part}
 use Rattle.buffers.proofs.Frames.{span_frame}
 use Rattle.resolution.specs.Reached.{front}
 use Rattle.answers.specs.Call.{at_front}
-use Rattle.answers.specs.Code.{zeroed}
-
--- one byte more is zero
-zero_suc : (w : List ℕ) (i : ℕ) → i < length w → set (zeroed i w) i 0 ≡ zeroed (suc i) w
-zero_suc [] i h = absurd (omega arith)
-zero_suc (b ∷ bs) zero h = refl
-zero_suc (b ∷ bs) (suc i) h = ap (λ (l : List ℕ). 0 ∷ l) (zero_suc bs i (omega arith))
-
-pub zero_next : {v : List ℕ} (w : List ℕ) (i : ℕ) → i < length w → v ≡ zeroed i w → set v i 0 ≡ zeroed (i + 1) w
-zero_next w i h e = ap (λ (l : List ℕ). set l i 0) e ∙ zero_suc w i h ∙ ap (λ (k : ℕ). zeroed k w) {x = suc i} {y = i + 1} (omega arith)
-
-pub zero_done : {v : List ℕ} (w : List ℕ) (i len : ℕ) → i ≤ len → len ≤ i → v ≡ zeroed i w → v ≡ zeroed len w
-zero_done w i len lo hi e = e ∙ ap (λ (k : ℕ). zeroed k w) {x = i} {y = len} (omega arith)
 
 -- bytes that are the same from k on
 pub drop_same : (k : ℕ) (a b : List ℕ) → length a ≡ length b → ((j : ℕ) → k ≤ j → get_or a j 0 ≡ get_or b j 0) → drop k a ≡ drop k b

@@ -2,7 +2,7 @@
 use mathlib.Core.Path.{◌≡◌, refl, ap, sym, ◌∙◌}
 use mathlib.Core.Bool.{Bool, true, false, cond, ◌||◌}
 use mathlib.Core.List.{List, [], ◌∷◌, ◌++◌, map, Memᴰ}
-use mathlib.Core.Option.{Option, none, some}
+use Rattle.std.specs.Prelude.{Option, None, Some}
 use Prim.Native.Nat.{ℕ, ◌+◌, ◌*◌, ◌-◌, ◌^◌, ◌≤◌}
 use native.Mathlib.Omega.{arith}
 use lib.Dec.{ltb, eqb}
@@ -43,7 +43,7 @@ abbrev pub two : ℕ → ℕ → ℕ → ℕ → ℕ → ℕ → List ℕ
 two k p s j q t = top 3 ++ (row k p s 2 ++ row j q t 0)
 
 abbrev pub one : ℕ → ℕ → ℕ → Option (List ℕ)
-one k p s = some (top 2 ++ row k p s 0)
+one k p s = Some (top 2 ++ row k p s 0)
 
 -- a header with labels, and a record with flags, the place of a zone, links and the place of a name
 abbrev pub top_with : ℕ → ℕ → List ℕ
@@ -89,11 +89,11 @@ by_place = top_with 4 2 ++ (row_with 35 0 0 0 2 0 0 0 ++ (row_with 3 1 0 0 0 3 0
 abbrev pub table : List Entry
 table =
     -- (1) empty: list none
-    entry list (top 1) none
+    entry list (top 1) None
     -- (2) Null, Null: list Null
     ∷ entry list (two 1 0 0 1 0 0) (one 1 0 0)
     -- (3) Binary, Null: list none
-    ∷ entry list (two 28 0 0 1 0 0) none
+    ∷ entry list (two 28 0 0 1 0 0) None
     -- (4) UInt64, Int8: Decimal128(20,0)
     ∷ all_three (two 10 0 0 3 0 0) (one 16 20 0)
     -- (5) UInt32, Int8: Int64
@@ -105,7 +105,7 @@ table =
     -- (8) Decimal32(9,0) with Decimal64(18,9): Decimal64(18,9)
     (all_three (two 14 9 0 15 18 9) (one 15 18 9)
     -- (9) the same with (18,10): none
-    (all_three (two 14 9 0 15 18 10) none
+    (all_three (two 14 9 0 15 18 10) None
     -- (10) Decimal128 (5,−3), (4,0): (8,0)
     (all_three (two 16 5 253 16 4 0) (one 16 8 0)
     -- (11) Utf8, Int32: union Utf8, list and compare Int32
@@ -114,11 +114,11 @@ table =
     ∷ entry compare (two 25 0 0 5 0 0) (one 5 0 0)
     -- (12) Date32, Int8: compare Date32, list none
     ∷ entry compare (two 18 0 0 3 0 0) (one 18 0 0)
-    ∷ entry list (two 18 0 0 3 0 0) none
+    ∷ entry list (two 18 0 0 3 0 0) None
     -- Int64, Decimal128(7,2): Decimal128(22,2)
     ∷ all_three (two 6 0 0 16 7 2) (one 16 22 2)
     -- the later zone wins, and nullability goes by place
-    (entry list zones (some later_zone) ∷ entry list structs (some by_place) ∷ []))))))))
+    (entry list zones (Some later_zone) ∷ entry list structs (Some by_place) ∷ []))))))))
 
 -- every mask bit from 1 to 38
 abbrev pub full_mask : ℕ
@@ -130,8 +130,8 @@ call_with e output work = record { question = e.question; sheet = e.sheet; mask 
 
 -- what is to be seen after it: none writes no output, a type stands at its front, and the work space is cleared as far as twice the sheet
 abbrev pub seen : List ℕ → List ℕ → List ℕ → Option (List ℕ) → Outcome
-seen sheet output work none = record { reply = nothing; output = output; work = cleared sheet work }
-seen sheet output work (some bytes) = record { reply = written (length bytes); output = at_front bytes output; work = cleared sheet work }
+seen sheet output work None = record { reply = nothing; output = output; work = cleared sheet work }
+seen sheet output work (Some bytes) = record { reply = written (length bytes); output = at_front bytes output; work = cleared sheet work }
 
 abbrev pub expected : Entry → List ℕ → List ℕ → Outcome
 expected e output work = seen e.sheet output work e.answer
@@ -195,20 +195,20 @@ refusal_lent e o w o' w' n h =
 -- an answer that was seen in one output and work space is seen in each
 settled_lent : (e : Entry) (o w o' w' : List ℕ) (a : Option DataType) (b : Option (List ℕ)) → settled (call_with e o w) a ≡ seen e.sheet o w b
     → settled (call_with e o' w') a ≡ seen e.sheet o' w' b
-settled_lent e o w o' w' none none h = refl
-settled_lent e o w o' w' none (some bytes) h =
+settled_lent e o w o' w' None None h = refl
+settled_lent e o w o' w' None (Some bytes) h =
     let i : nothing ≡ written (length bytes) = ap (λ (u : Outcome). u.reply) h in
     let z : ◌≡◌ {A = ℕ} 0 1 = cc in absurd (omega arith)
-settled_lent e o w o' w' (some t) none h =
+settled_lent e o w o' w' (Some t) None h =
     let i : written (length (encode (single t))) ≡ nothing = ap (λ (u : Outcome). u.reply) h in
     let z : ◌≡◌ {A = ℕ} 0 1 = cc in absurd (omega arith)
-settled_lent e o w o' w' (some t) (some bytes) h =
+settled_lent e o w o' w' (Some t) (Some bytes) h =
     let x = encode (single t) in
     let i : written (length x) ≡ written (length bytes) = ap (λ (u : Outcome). u.reply) h in
     let n : length x ≡ length bytes = cc in
     let f = sym (take_at x (drop (length x) o) (length bytes) n) ∙ ap (λ (u : Outcome). take (length bytes) u.output) h
     ∙ take_at bytes (drop (length bytes) o) (length bytes) refl in
-    ap (λ (y : List ℕ). seen e.sheet o' w' (some y)) f
+    ap (λ (y : List ℕ). seen e.sheet o' w' (Some y)) f
 
 outcome_lent : (e : Entry) (o w o' w' : List ℕ) → Enough e.sheet o' w' → outcome (call_with e o w) ≡ expected e o w
     → outcome (call_with e o' w') ≡ expected e o' w'
@@ -216,8 +216,8 @@ unfolding outcome
 outcome_lent e o w o' w' n h = go (eqb (refusal (call_with e o w)) 0) refl
   where
     shut : (k : ℕ) (b : Option (List ℕ)) → refused k ≡ (seen e.sheet o w b).reply → ⊥
-    shut k none i = let z : ◌≡◌ {A = ℕ} 0 1 = cc in omega arith
-    shut k (some bytes) i = let z : ◌≡◌ {A = ℕ} 0 1 = cc in omega arith
+    shut k None i = let z : ◌≡◌ {A = ℕ} 0 1 = cc in omega arith
+    shut k (Some bytes) i = let z : ◌≡◌ {A = ℕ} 0 1 = cc in omega arith
 
     go : (t : Bool) → eqb (refusal (call_with e o w)) 0 ≡ t → outcome (call_with e o' w') ≡ expected e o' w'
     go true x =
@@ -262,30 +262,30 @@ pairs l r answer rest = pair list l r answer ∷ pair union l r answer ∷ pair 
 
 abbrev pub words : List Words
 words =
-    record { question = list; types = []; answer = none }
-    ∷ pair list (kind Kind.null) (kind Kind.null) (some (kind Kind.null))
-    ∷ pair list (kind Kind.binary) (kind Kind.null) none
-    ∷ pairs (kind Kind.uint64) (kind Kind.int8) (some (dec Kind.decimal128 20 (128 + 0)))
-    (pairs (kind Kind.uint32) (kind Kind.int8) (some (kind Kind.int64))
-    (pairs (dec Kind.decimal32 9 (128 + 2)) (kind Kind.int64) (some (kind Kind.int64))
-    (pairs (dec Kind.decimal128 38 (128 + 0)) (dec Kind.decimal128 38 (128 + 10)) (some (dec Kind.decimal128 38 (128 + 10)))
-    (pairs (dec Kind.decimal32 9 (128 + 0)) (dec Kind.decimal64 18 (128 + 9)) (some (dec Kind.decimal64 18 (128 + 9)))
-    (pairs (dec Kind.decimal32 9 (128 + 0)) (dec Kind.decimal64 18 (128 + 10)) none
-    (pairs (dec Kind.decimal128 5 (128 - 3)) (dec Kind.decimal128 4 (128 + 0)) (some (dec Kind.decimal128 8 (128 + 0)))
-    (pair union (kind Kind.utf8) (kind Kind.int32) (some (kind Kind.utf8))
-    ∷ pair list (kind Kind.utf8) (kind Kind.int32) (some (kind Kind.int32))
-    ∷ pair compare (kind Kind.utf8) (kind Kind.int32) (some (kind Kind.int32))
-    ∷ pair compare (kind Kind.date32) (kind Kind.int8) (some (kind Kind.date32))
-    ∷ pair list (kind Kind.date32) (kind Kind.int8) none
-    ∷ pairs (kind Kind.int64) (dec Kind.decimal128 7 (128 + 2)) (some (dec Kind.decimal128 22 (128 + 2)))
-    (pair list (zoned_second 65) (zoned_second 66) (some (zoned_second 66))
-    ∷ pair list (struct_of (item 97 true (item 98 false end))) (struct_of (item 98 false (item 97 false end))) (some (struct_of (item 98 true (item 97 false end))))
+    record { question = list; types = []; answer = None }
+    ∷ pair list (kind Kind.null) (kind Kind.null) (Some (kind Kind.null))
+    ∷ pair list (kind Kind.binary) (kind Kind.null) None
+    ∷ pairs (kind Kind.uint64) (kind Kind.int8) (Some (dec Kind.decimal128 20 (128 + 0)))
+    (pairs (kind Kind.uint32) (kind Kind.int8) (Some (kind Kind.int64))
+    (pairs (dec Kind.decimal32 9 (128 + 2)) (kind Kind.int64) (Some (kind Kind.int64))
+    (pairs (dec Kind.decimal128 38 (128 + 0)) (dec Kind.decimal128 38 (128 + 10)) (Some (dec Kind.decimal128 38 (128 + 10)))
+    (pairs (dec Kind.decimal32 9 (128 + 0)) (dec Kind.decimal64 18 (128 + 9)) (Some (dec Kind.decimal64 18 (128 + 9)))
+    (pairs (dec Kind.decimal32 9 (128 + 0)) (dec Kind.decimal64 18 (128 + 10)) None
+    (pairs (dec Kind.decimal128 5 (128 - 3)) (dec Kind.decimal128 4 (128 + 0)) (Some (dec Kind.decimal128 8 (128 + 0)))
+    (pair union (kind Kind.utf8) (kind Kind.int32) (Some (kind Kind.utf8))
+    ∷ pair list (kind Kind.utf8) (kind Kind.int32) (Some (kind Kind.int32))
+    ∷ pair compare (kind Kind.utf8) (kind Kind.int32) (Some (kind Kind.int32))
+    ∷ pair compare (kind Kind.date32) (kind Kind.int8) (Some (kind Kind.date32))
+    ∷ pair list (kind Kind.date32) (kind Kind.int8) None
+    ∷ pairs (kind Kind.int64) (dec Kind.decimal128 7 (128 + 2)) (Some (dec Kind.decimal128 22 (128 + 2)))
+    (pair list (zoned_second 65) (zoned_second 66) (Some (zoned_second 66))
+    ∷ pair list (struct_of (item 97 true (item 98 false end))) (struct_of (item 98 false (item 97 false end))) (Some (struct_of (item 98 true (item 97 false end))))
     ∷ []))))))))
 
 -- a line of that table in bytes
 abbrev pub sheet_of : Option DataType → Option (List ℕ)
-sheet_of none = none
-sheet_of (some t) = some (encode (single t))
+sheet_of None = None
+sheet_of (Some t) = Some (encode (single t))
 
 abbrev pub spell : Words → Entry
 spell w = entry w.question (encode (listed w.types)) (sheet_of w.answer)

@@ -1,6 +1,7 @@
 -- The refusals of a call: the sheet's own, and 6 to 8. Assumes nothing.
 use mathlib.Core.Path.{◌≡◌, refl, ap, sym, subst, ◌∙◌}
 use mathlib.Core.Bool.{Bool, true, false, cond, not}
+use mathlib.Core.Logic.{◌⊎◌, inl, inr}
 use mathlib.Core.List.{List, [], ◌∷◌, ◌++◌}
 use Prim.Native.Nat.{ℕ, suc, ◌+◌, ◌*◌, ◌%◌, ◌<◌, ◌≤◌}
 use native.Mathlib.Omega.{arith}
@@ -19,22 +20,11 @@ use Rattle.refusals.proofs.Verdicts.{checked_number, verdict_is}
 use Rattle.sheet.proofs.Reading.{start_leads}
 use Rattle.sheet.proofs.Accepted.{accepted_holds, accepted_carried, accepted_n, accepted_m, accepted_length}
 use Rattle.coercion.specs.Data.{Question}
+use Rattle.buffers.specs.Plain.{asked}
+use Rattle.buffers.specs.declared.Question as Asked
 use Rattle.buffers.specs.declared.Space.{Space}
 use Rattle.answers.specs.Call.{Call, bad_mask, bad_pair, bad_space, refusal}
 use Rattle.answers.specs.Code.{is_short, later_refusal, Measured}
-
--- 6 mask
-pub mask_odd : (mask : ℕ) → ¬ (mask % 2 ≡ 0) → true ≡ bad_mask mask
-unfolding bad_mask
-mask_odd mask h = rw (ne_eqb (mask % 2) 0 h)
-
-pub mask_right : (mask : ℕ) → mask % 2 ≡ 0 → mask < 549755813888 → false ≡ bad_mask mask
-unfolding bad_mask
-mask_right mask e h = rw (eq-eqb (mask % 2) 0 e, lt-ltb mask 549755813888 h)
-
-pub mask_high : (mask : ℕ) → mask % 2 ≡ 0 → 549755813888 ≤ mask → true ≡ bad_mask mask
-unfolding bad_mask
-mask_high mask e h = rw (eq-eqb (mask % 2) 0 e, le-ltb mask 549755813888 h)
 
 -- 7 pair: how many types are listed, by the links from record to record
 pub pair_none : (s : List ℕ) (n : ℕ) → n ≤ 1 → (t : Fields) → Leads s n 0 (start n) 1 0 t → false ≡ eqb (arity t) 2
@@ -97,24 +87,11 @@ module _ (s : List ℕ) (space : Space) (plain : Plain s) (measured : Measured s
   measured_low = omega (arith, measured_half, measured_few, measured_short)
 
   -- a union or a comparison wants two types
-  pub pair_asked : {b : Bool} → ((t : Fields) → Leads s space.n 0 (start space.n) 1 0 t → b ≡ eqb (arity t) 2) → not b ≡ not (eqb (arity (read s)) 2)
-  pair_asked h = ap not (h (read s) measured_leads)
-
--- 6 to 8, one after the other
-module _ (q : Question) (s : List ℕ) (mask o w : ℕ) where
-  pub later_mask : bad_mask mask ≡ true → 6 ≡ later_refusal q s mask o w
-  later_mask h = rw h
-
-  module _ (right : bad_mask mask ≡ false) where
-    pub later_pair : bad_pair q s ≡ true → 7 ≡ later_refusal q s mask o w
-    later_pair h = rw (right, h)
-
-    module _ (two : bad_pair q s ≡ false) where
-      pub later_short : is_short (length s) o w ≡ true → 8 ≡ later_refusal q s mask o w
-      later_short h = rw (right, two, h)
-
-      pub later_none : is_short (length s) o w ≡ false → 0 ≡ later_refusal q s mask o w
-      later_none h = rw (right, two, h)
+  pub pair_asked : (q : Asked.Question) {b : Bool} → (q ≡ Asked.Question.Union) ⊎ (q ≡ Asked.Question.Compare)
+      → ((t : Fields) → Leads s space.n 0 (start space.n) 1 0 t → b ≡ eqb (arity t) 2) → not b ≡ bad_pair (asked q) s
+  unfolding bad_pair
+  pair_asked q (inl e) h = rw e (ap not (h (read s) measured_leads))
+  pair_asked q (inr e) h = rw e (ap not (h (read s) measured_leads))
 
 -- a condition that is not met leaves the others
 pass : (b : Bool) (n x y z : ℕ) → cond b (suc n) x ≡ 0 → (x ≡ 0 → y ≡ z) → cond b (suc n) y ≡ z

@@ -13,13 +13,30 @@ use Rattle.buffers.specs.declared.Space.{Space}
 use Rattle.buffers.specs.declared.Spot.{Spot}
 use Rattle.resolution.specs.Reached.{front}
 use Rattle.answers.specs.Call.{Call, bad_mask, bad_pair, Reply, refused, nothing, written, Outcome, at_front}
-use Rattle.answers.specs.declared.Answer.{Answer}
+use Rattle.std.specs.Prelude.{Option, None, Some, Result, Ok, Err}
+use Rattle.answers.specs.declared.Refusal.{Refusal}
+
+-- the paper's number for each refusal of a call
+abbrev pub number_of : Refusal → ℕ
+number_of (Refusal.Sheet r) = Sheet.number_of r
+number_of Refusal.Mask = 6
+number_of Refusal.Pair = 7
+number_of Refusal.Space = 8
+
+-- what a call answers: a type, by the byte length of its one-type sheet, or none; or why it is refused
+abbrev pub Answer : Type 0
+Answer = Result (Option ℕ) Refusal
 
 -- what an answer reports
 abbrev pub reply_of : Answer → Reply
-reply_of (Answer.Refused k) = refused k
-reply_of Answer.Nothing = nothing
-reply_of (Answer.Type k) = written k
+reply_of (Err r) = refused (number_of r)
+reply_of (Ok None) = nothing
+reply_of (Ok (Some k)) = written k
+
+-- the number of a refusal that may be met, 0 where none is
+abbrev pub number_met : Result Unit Refusal → ℕ
+number_met (Err r) = number_of r
+number_met (Ok u) = 0
 
 -- what is handed to a call, and what is seen after it
 abbrev pub call_of : Question → List ℕ → ℕ → List ℕ → List ℕ → Call
@@ -53,16 +70,6 @@ later_refusal question sheet mask output work =
     ∷ record { number = 8; met = is_short (length sheet) output work }
     ∷ [])
 
--- a work space whose first len bytes were set to zero
-abbrev pub zeroed : ℕ → List ℕ → List ℕ
-zeroed len work = replicate len 0 ++ drop len work
-
 -- the type that ends at d in the second half of a work space was written to the output
 abbrev pub Emits : Space → Spot → List ℕ → List ℕ → List ℕ → Type 0
 Emits space d work output after = (t : DataType) → Wrote space work front d (single t) → after ≡ at_front (encode (single t)) output
-
--- it was reported, and both halves were cleared
-abbrev pub Reports : Space → Spot → List ℕ → List ℕ → Outcome → Type 0
-Reports space d work output after =
-    (t : DataType) → Wrote space work front d (single t)
-    → after ≡ record { reply = written (length (encode (single t))); output = at_front (encode (single t)) output; work = zeroed (2 * space.half) work }

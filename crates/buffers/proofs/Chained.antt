@@ -16,8 +16,10 @@ use Rattle.buffers.specs.Writes.{side}
 use Rattle.buffers.specs.Region.{Room, region, Kept, Held, Inside, Short, Wrote, CopiedRecord, CopiedChain}
 use Rattle.buffers.specs.declared.Space.{Space}
 use Rattle.buffers.specs.declared.Spot.{Spot}
-use Rattle.buffers.specs.declared.Out.{Out}
-use Rattle.buffers.specs.declared.Out.TheVariants.{Done, No, Full}
+use Rattle.buffers.specs.Out.{Out}
+use Rattle.std.specs.Prelude.{Ok, Err}
+use Rattle.buffers.specs.declared.Failure.{Failure}
+use Rattle.buffers.specs.declared.Failure.TheVariants.{NoType, Full}
 use Rattle.buffers.proofs.Sources.{source_first, source_next}
 use Rattle.buffers.proofs.Frames.{stands_frame, wrote_frame, kept_trans, kept_wider, kept_self}
 use Rattle.buffers.proofs.Copying.{held_side}
@@ -59,7 +61,7 @@ module _ {space : Space} {s : List ℕ} {floor link r o up : ℕ} {name : List �
       }
 
 module _ (space : Space) (s : List ℕ) (swap : Bool) (link : ℕ) (to : Spot) where
-  pub chain_none : (w : List ℕ) → Inside space to → link ≡ 0 → CopiedChain space (side swap s w) w w link to (Done to)
+  pub chain_none : (w : List ℕ) → Inside space to → link ≡ 0 → CopiedChain space (side swap s w) w w link to (Ok to)
   unfolding count labels
   chain_none w inside z =
       record {
@@ -70,7 +72,7 @@ module _ (space : Space) (s : List ℕ) (swap : Bool) (link : ℕ) (to : Spot) w
             subst (λ (x : Fields). Wrote space w to to x) (sym (held_end t z a)) (record { records = omega arith; letters = omega arith; holds = tt });
       }
 
-  pub chain_past : (w : List ℕ) → ¬ (link ≡ 0) → space.n ≤ to.at → CopiedChain space (side swap s w) w w link to Full
+  pub chain_past : (w : List ℕ) → ¬ (link ≡ 0) → space.n ≤ to.at → CopiedChain space (side swap s w) w w link to (Err Full)
   unfolding count
   chain_past w z q = record { kept = kept_self w to.at to.label; grows = tt; means = go }
     where
@@ -79,7 +81,7 @@ module _ (space : Space) (s : List ℕ) (swap : Bool) (link : ℕ) (to : Spot) w
       go floor r o up (field name nullable shape parts rest) a = inl (omega arith)
 
   module _ (w : List ℕ) (room : Room w space) (h : Head) (eh : h ≡ head_at (side swap s w) link) (z : ¬ (link ≡ 0)) where
-    pub chain_full : (v : List ℕ) → CopiedRecord space (side swap s w) w v link to Full → CopiedChain space (side swap s w) w v link to Full
+    pub chain_full : (v : List ℕ) → CopiedRecord space (side swap s w) w v link to (Err Full) → CopiedChain space (side swap s w) w v link to (Err Full)
     unfolding count
     chain_full v c = record { kept = c.kept; grows = tt; means = go }
       where
@@ -88,7 +90,7 @@ module _ (space : Space) (s : List ℕ) (swap : Bool) (link : ℕ) (to : Spot) w
         go floor r o up (field name nullable shape parts rest) a =
             inr (omega (arith, c.means floor r o up name nullable shape parts rest a, labels_sum name nullable shape parts rest))
 
-    module _ (v : List ℕ) (d : Spot) (c : CopiedRecord space (side swap s w) w v link to (Done d)) where
+    module _ (v : List ℕ) (d : Spot) (c : CopiedRecord space (side swap s w) w v link to (Ok d)) where
       -- the same links, after the record was written
       first_held : {floor r o up : ℕ} {name : List ℕ} {nullable : Bool} {shape : Shape} {parts rest : Fields}
           → Held space (side swap s w) floor link r o up (field name nullable shape parts rest)
@@ -101,7 +103,7 @@ module _ (space : Space) (s : List ℕ) (swap : Bool) (link : ℕ) (to : Spot) w
       next_held u k a =
           held_side swap space s v u d.at d.label room.half k (held_side swap space s w v to.at to.label room.half c.kept (held_next a h eh))
 
-      pub chain_parts_full : (u : List ℕ) → CopiedChain space (side swap s v) v u h.first d Full → CopiedChain space (side swap s w) w u link to Full
+      pub chain_parts_full : (u : List ℕ) → CopiedChain space (side swap s v) v u h.first d (Err Full) → CopiedChain space (side swap s w) w u link to (Err Full)
       unfolding count
       chain_parts_full u b =
           record {
@@ -117,7 +119,7 @@ module _ (space : Space) (s : List ℕ) (swap : Bool) (link : ℕ) (to : Spot) w
               let l = labels_sum name nullable shape parts rest in
               ⊎_elim (λ x. inl (omega (arith, m.0))) (λ x. inr (omega (arith, m.1.0, l))) (b.means link (r + 1) _ shape.kind parts (first_held a))
 
-      module _ (u : List ℕ) (e : Spot) (b : CopiedChain space (side swap s v) v u h.first d (Done e)) where
+      module _ (u : List ℕ) (e : Spot) (b : CopiedChain space (side swap s v) v u h.first d (Ok e)) where
         kept_2 : Kept space w u to.at to.label
         kept_2 = kept_trans c.kept (kept_wider to.at to.label c.grows.1.0 c.grows.1.1 b.kept)
 
@@ -126,7 +128,7 @@ module _ (space : Space) (s : List ℕ) (swap : Bool) (link : ℕ) (to : Spot) w
             kept_trans kept_2
             (kept_wider to.at to.label (omega (arith, c.grows.1.0, b.grows.1.0)) (omega (arith, c.grows.1.1, b.grows.1.1)) k)
 
-        rest_full : (x : List ℕ) → CopiedChain space (side swap s u) u x h.next e Full → CopiedChain space (side swap s w) w x link to Full
+        rest_full : (x : List ℕ) → CopiedChain space (side swap s u) u x h.next e (Err Full) → CopiedChain space (side swap s w) w x link to (Err Full)
         unfolding count
         rest_full x k = record { kept = kept_3 x k.kept; grows = tt; means = go }
           where
@@ -139,7 +141,7 @@ module _ (space : Space) (s : List ℕ) (swap : Bool) (link : ℕ) (to : Spot) w
                 ⊎_elim (λ y. inl (omega (arith, m.0, p.records))) (λ y. inr (omega (arith, m.1.0, p.letters, l)))
                 (k.means link (r + 1 + count parts) _ up rest (next_held u b.kept a))
 
-        rest_done : (x : List ℕ) (f : Spot) → CopiedChain space (side swap s u) u x h.next e (Done f) → CopiedChain space (side swap s w) w x link to (Done f)
+        rest_done : (x : List ℕ) (f : Spot) → CopiedChain space (side swap s u) u x h.next e (Ok f) → CopiedChain space (side swap s w) w x link to (Ok f)
         unfolding count
         rest_done x f k =
             record {
@@ -176,29 +178,25 @@ module _ (space : Space) (s : List ℕ) (swap : Bool) (link : ℕ) (to : Spot) w
                 }
 
         pub chain_on : (o : Out) (x : List ℕ) → CopiedChain space (side swap s u) u x h.next e o → CopiedChain space (side swap s w) w x link to o
-        chain_on (Done f) x k = rest_done x f k
-        chain_on No x k = absurd k.means
-        chain_on Full x k = rest_full x k
+        chain_on (Ok f) x k = rest_done x f k
+        chain_on (Err NoType) x k = absurd k.means
+        chain_on (Err Full) x k = rest_full x k
 
 -- the same, as the loop over a chain has it
 module _ (space : Space) (s : List ℕ) (swap : Bool) (link : ℕ) (to : Spot) (w : List ℕ) (room : Room w space) (h : Head) (eh : h ≡ head_at (side swap s w) link) (z : ¬ (link ≡ 0)) where
-  pub chain_stop : (v : List ℕ) (o : Out) → ((d : Spot) → o ≡ Done d → ⊥) → CopiedRecord space (side swap s w) w v link to o → CopiedChain space (side swap s w) w v link to Full
-  chain_stop v (Done d) k c = absurd (k d refl)
-  chain_stop v No k c = absurd c.means
-  chain_stop v Full k c = chain_full space s swap link to w room h eh z v c
+  pub chain_stop : (v : List ℕ) (e : Failure) → CopiedRecord space (side swap s w) w v link to (Err e) → CopiedChain space (side swap s w) w v link to (Err e)
+  chain_stop v NoType c = absurd c.means
+  chain_stop v Full c = chain_full space s swap link to w room h eh z v c
 
-  module _ (v : List ℕ) (d : Spot) (c : CopiedRecord space (side swap s w) w v link to (Done d)) where
-    pub chain_parts_stop : (u : List ℕ) (o : Out) → ((e : Spot) → o ≡ Done e → ⊥) → CopiedChain space (side swap s v) v u h.first d o
-        → CopiedChain space (side swap s w) w u link to Full
-    chain_parts_stop u (Done e) k b = absurd (k e refl)
-    chain_parts_stop u No k b = absurd b.means
-    chain_parts_stop u Full k b = chain_parts_full space s swap link to w room h eh z v d c u b
+  module _ (v : List ℕ) (d : Spot) (c : CopiedRecord space (side swap s w) w v link to (Ok d)) where
+    pub chain_parts_stop : (u : List ℕ) (e : Failure) → CopiedChain space (side swap s v) v u h.first d (Err e) → CopiedChain space (side swap s w) w u link to (Err e)
+    chain_parts_stop u NoType b = absurd b.means
+    chain_parts_stop u Full b = chain_parts_full space s swap link to w room h eh z v d c u b
 
     -- nothing follows the record
     pub chain_last : h.next ≡ 0 → (o : Out) (u : List ℕ) → CopiedChain space (side swap s v) v u h.first d o → CopiedChain space (side swap s w) w u link to o
-    chain_last q (Done e) u b = chain_on space s swap link to w room h eh z v d c u e b (Done e) u (chain_none space s swap h.next e u b.grows.0 q)
-    chain_last q No u b = absurd b.means
-    chain_last q Full u b = chain_parts_full space s swap link to w room h eh z v d c u b
+    chain_last q (Ok e) u b = chain_on space s swap link to w room h eh z v d c u e b (Ok e) u (chain_none space s swap h.next e u b.grows.0 q)
+    chain_last q (Err e) u b = chain_parts_stop u e b
 
     -- the record has no parts
     pub chain_plain : h.first ≡ 0 → (o : Out) (x : List ℕ) → CopiedChain space (side swap s v) v x h.next d o → CopiedChain space (side swap s w) w x link to o

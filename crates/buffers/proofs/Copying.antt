@@ -22,14 +22,17 @@ use Rattle.sheet.proofs.Repeating.{head_is}
 use Rattle.sheet.proofs.Carrying.{own_length}
 use Rattle.buffers.specs.Writes.{side, Put}
 use Rattle.buffers.specs.Region.{Room, region, Kept, Held, Inside, moved_link, moved_label, goal_head, Ready, Named, CopiedHead, CopiedBare, CopiedRecord}
+use Rattle.buffers.specs.Goal.{past}
+use Rattle.buffers.specs.Typed.{Chain, goal_at, NamedAt}
 use Rattle.buffers.specs.declared.Space.{Space}
 use Rattle.buffers.specs.declared.Spot.{Spot}
 use Rattle.buffers.specs.declared.Goal.{Goal}
-use Rattle.buffers.specs.declared.Out.{Out}
-use Rattle.buffers.specs.declared.Out.TheVariants.{Done, No, Full}
+use Rattle.buffers.specs.Out.{Out}
+use Rattle.std.specs.Prelude.{Ok, Err}
+use Rattle.buffers.specs.declared.Failure.TheVariants.{NoType, Full}
 use Rattle.buffers.proofs.Sources.{name_short, read_name, read_nullable, read_shape}
 use Rattle.buffers.proofs.Puts.{put_none}
-use Rattle.buffers.proofs.Frames.{span_frame, held_frame, kept_trans, kept_wider, kept_self}
+use Rattle.buffers.proofs.Frames.{span_frame, held_frame, kept_trans, kept_wider}
 
 -- a place in the second half
 pub span_region : (space : Space) (v : List ℕ) (i : ℕ) (u : List ℕ) → Span v (space.half + i) u → Span (region space v) i u
@@ -149,14 +152,6 @@ module _ (space : Space) (s w : List ℕ) (swap : Bool) (h : Head) (link : ℕ) 
       name_long {floor} {r} {o} {up} {name} {nullable} {shape} {parts} {rest} a e =
           ap (λ (x : Head). x.nlen) (head_is (side swap s w) space.n floor link r o name nullable shape parts rest a.source.leads h e)
 
-  pub head_full : space.m < g.label + g.nlen + zlen → CopiedHead space (side swap s w) w w h link g next Full
-  head_full q =
-      record {
-        kept = kept_self w g.at (g.label + g.nlen);
-        passes = tt;
-        means = λ floor r o up name nullable shape parts rest a e. omega (arith, zone_long a e);
-      }
-
   module _ (v₁ v : List ℕ) (lt : g.at < space.n) (fits : g.label + g.nlen + zlen ≤ space.m)
       (q : Put w v₁ (space.half + 16 * space.n + (g.label + g.nlen)) (take zlen (drop (16 * space.n + h.quad % 65536) (side swap s w))))
       (x : Head) (ex : x ≡ goal_head h link g next) (c : Put v₁ v (space.half + 16 * g.at) (bytes_of x)) where
@@ -194,26 +189,24 @@ module _ (space : Space) (s w : List ℕ) (swap : Bool) (h : Head) (link : ℕ) 
               (span_move {i = space.half + 16 * n + (g.label + g.nlen)} (omega (arith, nm.long)) zone_span));
         }
 
-    pub head_copied : CopiedHead space (side swap s w) w v h link g next (Done (record { at = g.at + 1; label = g.label + g.nlen + zlen }))
-    head_copied =
-        record {
+    pub head_copied : {d : Spot} → d ≡ past g zlen → CopiedHead space (side swap s w) w v h link g next (Ok d)
+    head_copied ed =
+        rw ed
+        (record {
           kept = kept;
           passes = (record { some = omega arith; records = omega arith; letters = fits }, (omega arith, omega arith));
           means = (
             refl,
             λ floor r o up name nullable shape parts rest a e. (omega (arith, zone_long a e), stands floor r o up name nullable shape parts rest a e),
           );
-        }
+        })
 
 -- a head without a zone, of whatever source
 pub bare_copied : (space : Space) (w v : List ℕ) (h : Head) (link : ℕ) (g : Goal) → Room w space → Ready space g → g.at < space.n → zoned_in h ≡ false
-    → (x : Head) → x ≡ goal_head h link g 0 → Put w v (space.half + 16 * g.at) (bytes_of x)
-    → CopiedBare space w v h link g (Done (record { at = g.at + 1; label = g.label + g.nlen }))
-bare_copied space w v h link g room ready lt z x ex c s =
-    let e : g.label + g.nlen + 0 ≡ g.label + g.nlen = omega arith in
-    subst (λ (k : ℕ). CopiedHead space s w v h link g 0 (Done (record { at = g.at + 1; label = k }))) e
-    (head_copied space s w false h link g 0 room ready 0 (ap (λ (b : Bool). cond b (zone_len h) 0) (sym z)) w v lt (omega (arith, ready.letters))
-    (put_none w (drop (16 * space.n + h.quad % 65536) s) (space.half + 16 * space.n + (g.label + g.nlen)) (omega (arith, room.half, room.inside, ready.letters))) x ex c)
+    → (x : Head) → x ≡ goal_head h link g 0 → Put w v (space.half + 16 * g.at) (bytes_of x) → {d : Spot} → d ≡ past g 0 → CopiedBare space w v h link g (Ok d)
+bare_copied space w v h link g room ready lt z x ex c ed s =
+    head_copied space s w false h link g 0 room ready 0 (ap (λ (b : Bool). cond b (zone_len h) 0) (sym z)) w v lt (omega (arith, ready.letters))
+    (put_none w (drop (16 * space.n + h.quad % 65536) s) (space.half + 16 * space.n + (g.label + g.nlen)) (omega (arith, room.half, room.inside, ready.letters))) x ex c ed
 
 -- a record with its name: the name is put, and then the head
 module _ (space : Space) (s w : List ℕ) (swap : Bool) (h : Head) (link : ℕ) (to : Spot) (room : Room w space) (inside : Inside space to) (e : h ≡ head_at (side swap s w) link) where
@@ -222,47 +215,20 @@ module _ (space : Space) (s w : List ℕ) (swap : Bool) (h : Head) (link : ℕ) 
   name_long {floor} {r} {o} {up} {name} {nullable} {shape} {parts} {rest} a =
       sym (ap (λ (x : Head). x.nlen) (head_is (side swap s w) space.n floor link r o name nullable shape parts rest a.source.leads h e))
 
-  pub record_full : space.m < to.label + h.nlen → CopiedRecord space (side swap s w) w w link to Full
-  record_full q =
-      record {
-        kept = kept_self w to.at to.label;
-        grows = tt;
-        further = tt;
-        means =
-            λ floor r o up name nullable shape parts rest a.
-            omega (arith, name_long a, length-append name (zone_bytes shape.zone));
-      }
-
-  module _ (v₁ v : List ℕ) (fits : to.label + h.nlen ≤ space.m) (lt : to.at < space.n)
-      (p : Put w v₁ (space.half + 16 * space.n + to.label) (take h.nlen (drop (16 * space.n + h.name) (side swap s w))))
-      (b : Bool) (eb : b ≡ nullable_in h) (next : ℕ) (en : next ≡ moved_link h.next link to.at) where
-    abbrev goal : Goal
-    goal = record { at = to.at; label = to.label; nlen = h.nlen; nullable = b }
-
-    put_kept : Kept space w v₁ to.at to.label
-    put_kept =
-        label_kept space w v₁ to.at to.label to.label _ inside.records (omega arith)
-        (omega (arith, length-take h.nlen (drop (16 * space.n + h.name) (side swap s w)))) p
-
+  module _ {v₁ : List ℕ} (v : List ℕ) (lt : to.at < space.n) (nm : NamedAt space (side swap s w) w v₁ h to true) {g : Goal} (eg : g ≡ goal_at to h.nlen (nullable_in h))
+      {next : ℕ} (en : next ≡ moved_link h.next link to.at) where
     module _ {floor r o up : ℕ} {name : List ℕ} {nullable : Bool} {shape : Shape} {parts rest : Fields}
         (a : Held space (side swap s w) floor link r o up (field name nullable shape parts rest)) where
       held_1 : Held space (side swap s v₁) floor link r o up (field name nullable shape parts rest)
-      held_1 = held_side swap space s w v₁ to.at to.label room.half put_kept a
+      held_1 = held_side swap space s w v₁ to.at to.label room.half nm.kept a
 
       head_1 : h ≡ head_at (side swap s v₁) link
       head_1 =
           head_is (side swap s w) space.n floor link r o name nullable shape parts rest a.source.leads h e
           ∙ sym (head_is (side swap s v₁) space.n floor link r o name nullable shape parts rest held_1.source.leads (head_at (side swap s v₁) link) refl)
 
-      named : Named space v₁ goal name
-      named =
-          record {
-            long = name_long a;
-            span =
-                span_region space v₁ (16 * space.n + to.label) name
-                (span_move {i = space.half + 16 * space.n + to.label} (omega arith)
-                (subst (λ (u : List ℕ). Span v₁ (space.half + 16 * space.n + to.label) u) (read_name a.source h e) p.span));
-          }
+      chain : Chain space (side swap s w) link (field name nullable shape parts rest)
+      chain = record { floor = floor; at = r; label = o; up = up; held = a }
 
       next_is : next ≡ link_to (to.at + 1 + count parts) rest
       unfolding count
@@ -274,32 +240,35 @@ module _ (space : Space) (s w : List ℕ) (swap : Bool) (h : Head) (link : ℕ) 
           ∙ moved_link_lem r to.at (1 + count parts) rest (omega (arith, room.few, inside.records, a.source.leads.inside)) (omega arith)
           ∙ ap (λ (x : ℕ). link_to x rest) {x = to.at + (1 + count parts)} {y = to.at + 1 + count parts} (omega arith)
 
-    pub record_copied : (o : Out) → CopiedHead space (side swap s v₁) v₁ v h link goal next o → CopiedRecord space (side swap s w) w v link to o
-    record_copied (Done d) c =
+    copied : (o : Out) → CopiedHead space (side swap s v₁) v₁ v h link (goal_at to h.nlen (nullable_in h)) next o → CopiedRecord space (side swap s w) w v link to o
+    copied (Ok d) c =
         record {
-          kept = kept_trans put_kept (kept_wider to.at to.label (omega arith) (omega arith) c.kept);
+          kept = kept_trans nm.kept (kept_wider to.at to.label (omega arith) (omega arith) c.kept);
           grows = (c.passes.0, (omega (arith, c.passes.1.0), omega (arith, c.passes.1.1)));
           further = c.passes.1.0;
           means =
               λ floor r o up name nullable shape parts rest a.
               let m = c.means.1 floor r o up name nullable shape parts rest (held_1 a) (head_1 a) in
               let l = length-append name (zone_bytes shape.zone) in
-              let st = m.1 name (named a) in (
+              let st = m.1 name (nm.named refl link name nullable (nullable_in h) shape parts rest (chain a) e) in (
                 c.means.0,
                 (
                   omega (arith, m.0, l, name_long a),
                   subst₂ (λ (y : Bool) (k : ℕ). Stands (region space v) space.n to.at to.label name y shape (link_to (to.at + 1) parts) k)
-                      (eb ∙ read_nullable a.source h e) (next_is a) st,
+                      (read_nullable a.source h e) (next_is a) st,
                 ),
               );
         }
-    record_copied No c = absurd c.means
-    record_copied Full c =
+    copied (Err NoType) c = absurd c.means
+    copied (Err Full) c =
         record {
-          kept = kept_trans put_kept (kept_wider to.at to.label (omega arith) (omega arith) c.kept);
+          kept = kept_trans nm.kept (kept_wider to.at to.label (omega arith) (omega arith) c.kept);
           grows = tt;
           further = tt;
           means =
               λ floor r o up name nullable shape parts rest a.
               omega (arith, c.means floor r o up name nullable shape parts rest (held_1 a) (head_1 a), length-append name (zone_bytes shape.zone), name_long a);
         }
+
+    pub record_copied : (o : Out) → CopiedHead space (side swap s v₁) v₁ v h link g next o → CopiedRecord space (side swap s w) w v link to o
+    record_copied o c = copied o (rw eg at c)

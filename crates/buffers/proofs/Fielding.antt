@@ -1,15 +1,11 @@
 -- A field that was named and copied, a wrapper that was kept, and what a head tells of its type. Assumes nothing.
-use mathlib.Core.Path.{◌≡◌, refl, ap, ap₂, sym, subst, ◌∙◌}
-use mathlib.Core.Bool.{Bool, true, false, ◌&&◌}
+use mathlib.Core.Path.{◌≡◌, refl, ap, sym, subst, ◌∙◌}
+use mathlib.Core.Bool.{Bool, true, false}
 use mathlib.Core.List.{List, [], ◌++◌}
 use mathlib.Core.Logic.{inl, inr, ⊎_elim}
-use Prim.Native.Nat.{ℕ, ◌+◌, ◌*◌, ◌-◌, ◌<◌, ◌≤◌}
+use Prim.Native.Nat.{ℕ, ◌+◌, ◌*◌, ◌≤◌}
 use native.Mathlib.Omega.{arith}
-use lib.ListN.{length, take, drop, length-take, length-drop, length-append}
-use lib.Seq.{take_all}
-use lib.Dec.{eqb}
-use borrow.Author.Tests.{eq-eqb, ne_eqb}
-use Rattle.sheet.specs.Kind as Kind
+use lib.ListN.{length, take, drop, length-take, length-append}
 use Rattle.sheet.specs.Tests.{implies}
 use Rattle.sheet.specs.Types.{Zone, absent, present, Shape, Fields, end, field, count, zone_bytes, labels}
 use Rattle.sheet.specs.Head.{head_at, nullable_in}
@@ -24,17 +20,18 @@ use Rattle.sheet.proofs.Spans.{span_move}
 use Rattle.sheet.proofs.Repeating.{head_is}
 use Rattle.coercion.specs.Data.{DataType}
 use Rattle.buffers.specs.Writes.{side, Put}
-use Rattle.buffers.specs.Region.{Room, region, Kept, Held, Inside, Ready, Wrote, CopiedHead}
-use Rattle.buffers.specs.Goal.{CopiedType, LaidPlain, shape_for}
+use Rattle.buffers.specs.Region.{Room, region, Kept, Held, Inside, Ready, Wrote, Named, CopiedHead}
+use Rattle.buffers.specs.Goal.{CopiedType}
 use Rattle.buffers.specs.Steps.{Reads}
-use Rattle.buffers.specs.Typed.{Chain, Typed, goal_at, NamedAt, CopiedField, is_view, Viewed}
+use Rattle.buffers.specs.Typed.{Chain, Typed, goal_at, NamedAt, CopiedField}
 use Rattle.buffers.specs.declared.Space.{Space}
 use Rattle.buffers.specs.declared.Spot.{Spot}
 use Rattle.buffers.specs.declared.Goal.{Goal}
-use Rattle.buffers.specs.declared.Out.{Out}
-use Rattle.buffers.specs.declared.Out.TheVariants.{Done, No, Full}
+use Rattle.buffers.specs.Out.{Out}
+use Rattle.std.specs.Prelude.{Ok, Err}
+use Rattle.buffers.specs.declared.Failure.TheVariants.{NoType, Full}
 use Rattle.buffers.proofs.Sources.{read_name, read_nullable}
-use Rattle.buffers.proofs.Frames.{kept_self, kept_trans, kept_wider}
+use Rattle.buffers.proofs.Frames.{kept_trans, kept_wider}
 use Rattle.buffers.proofs.Copying.{span_region, label_kept, held_side}
 
 -- the head that a link of a chain leads to
@@ -66,35 +63,8 @@ typed_reads {t = t} {h} a e =
       size = λ z. sym (ap (λ (x : Head). x.quad) eh ∙ ap (quad_of (c.label + length a.name) t.shape.size) z);
     }
 
--- the head of a record of the second half
-pub region_head : (space : Space) (w : List ℕ) (i : ℕ) {h : Head} → h ≡ head_at (take (length w - space.half) (region space w)) i → h ≡ head_at (region space w) i
-region_head space w i e =
-    e ∙ ap (λ (x : List ℕ). head_at x i) (take_all (length w - space.half) (region space w) (omega (arith, length-drop space.half w)))
-
--- a wrapper, by its kind and its value's
-module _ (space : Space) (w : List ℕ) (kind i : ℕ) (g : Goal) (e : Spot) where
-  stays : is_view space w kind i ≡ false → Viewed space w w kind i g e (Done e)
-  stays z = record { stays = λ q. (refl, refl); view = λ q. never (sym z ∙ q) }
-
-  pub wrapper_other : ¬ (kind ≡ 37) → Viewed space w w kind i g e (Done e)
-  wrapper_other ne = stays (ap (λ (b : Bool). b && eqb (head_at (region space w) i).kind Kind.utf8_view) (ne_eqb kind 37 ne))
-
-  module _ (ek : kind ≡ 37) {h : Head} (eh : h ≡ head_at (take (length w - space.half) (region space w)) i) where
-    same : (head_at (region space w) i).kind ≡ h.kind
-    same = sym (ap (λ (x : Head). x.kind) (region_head space w i eh))
-
-    pub wrapper_stays : ¬ (h.kind ≡ 27) → Viewed space w w kind i g e (Done e)
-    wrapper_stays ne = stays (ap₂ ◌&&◌ (eq-eqb kind 37 ek) (ap (λ (k : ℕ). eqb k 27) same ∙ ne_eqb h.kind 27 ne))
-
-    pub wrapper_view : h.kind ≡ 27 → (v : List ℕ) (o : Out) → LaidPlain space w v g (shape_for 27 0 0 0 false) o → Viewed space w v kind i g e o
-    wrapper_view q v o l =
-        record { stays = λ z. never (sym z ∙ ap₂ ◌&&◌ (eq-eqb kind 37 ek) (eq-eqb (head_at (region space w) i).kind 27 (same ∙ q))); view = λ z. l }
-
--- the name of a record, by whether there is room for it
+-- the name of a record, where there is room for it
 module _ (space : Space) (s w : List ℕ) (swap : Bool) (h : Head) (to : Spot) where
-  pub name_full : space.m < to.label + h.nlen → NamedAt space (side swap s w) w w h to false
-  name_full q = record { kept = kept_self w to.at to.label; fits = λ z. never z; full = λ z. q; named = λ z. never z }
-
   pub name_put : (v : List ℕ) → Inside space to → to.label + h.nlen ≤ space.m
       → Put w v (space.half + 16 * space.n + to.label) (take h.nlen (drop (16 * space.n + h.name) (side swap s w))) → NamedAt space (side swap s w) w v h to true
   name_put v inside q p =
@@ -122,90 +92,85 @@ field_ready own inside bounded z nm =
 
 -- a field that was copied: its name, and then its type
 module _ (space : Space) (s w : List ℕ) (swap : Bool) (link : ℕ) (to : Spot) (room : Room w space) (h : Head) (e : h ≡ head_at (side swap s w) link)
-    (v : List ℕ) {b : Bool} (nm : NamedAt space (side swap s w) w v h to b) where
-  pub field_full : b ≡ false → CopiedField space (side swap s w) w v link to Full
-  field_full z =
+    (v : List ℕ) (nm : NamedAt space (side swap s w) w v h to true) {g : Goal} (eg : g ≡ goal_at to h.nlen (nullable_in h)) where
+  moved : {t : Fields} (c : Chain space (side swap s w) link t) → Held space (side swap s v) c.floor link c.at c.label c.up t
+  moved c = held_side swap space s w v to.at to.label room.half nm.kept c.held
+
+  kept : (u : List ℕ) → Kept space v u to.at (to.label + h.nlen) → Kept space w u to.at to.label
+  kept u k = kept_trans nm.kept (kept_wider to.at to.label (omega arith) (omega arith) k)
+
+  own : {name : List ℕ} {nullable : Bool} {shape : Shape} {parts rest : Fields} → Chain space (side swap s w) link (field name nullable shape parts rest)
+      → Named space v (goal_at to h.nlen (nullable_in h)) name
+  own {name} {nullable} {shape} {parts} {rest} c = nm.named refl link name nullable (nullable_in h) shape parts rest c e
+
+  typed : (u : List ℕ) (o : Out) → CopiedType space (side swap s v) v u link (goal_at to h.nlen (nullable_in h)) o → CopiedField space (side swap s w) w u link to o
+  typed u (Ok d) k =
       record {
-        kept = nm.kept;
+        kept = kept u k.writes.kept;
+        grows = (k.writes.passes.0, (omega (arith, k.writes.passes.1.0), omega (arith, k.writes.passes.1.1)));
+        further = k.writes.passes.1.0;
+        means =
+            λ name nullable shape parts rest c.
+            subst (λ (y : Bool). Wrote space u to d (field name y shape parts end)) (read_nullable c.held.source h e)
+            (k.means _ _ _ _ name nullable shape parts rest (moved c) name (own c));
+      }
+  typed u (Err NoType) k =
+      record { kept = kept u k.writes.kept; grows = tt; further = tt; means = λ name nullable shape parts rest c. k.means _ _ _ _ name nullable shape parts rest (moved c) }
+  typed u (Err Full) k =
+      record {
+        kept = kept u k.writes.kept;
         grows = tt;
         further = tt;
-        means = λ name nullable shape parts rest c. inr (omega (arith, nm.full z, name_length_lem c h e));
+        means =
+            λ name nullable shape parts rest c.
+            ⊎_elim (λ x. inl (omega arith)) (λ x. inr (omega (arith, name_length_lem c h e))) (k.means _ _ _ _ name nullable shape parts rest (moved c));
       }
 
-  module _ (z : b ≡ true) (own : Bool) (eo : own ≡ nullable_in h) where
-    moved : {t : Fields} (c : Chain space (side swap s w) link t) → Held space (side swap s v) c.floor link c.at c.label c.up t
-    moved c = held_side swap space s w v to.at to.label room.half nm.kept c.held
+  pub field_copied : (u : List ℕ) (o : Out) → CopiedType space (side swap s v) v u link g o → CopiedField space (side swap s w) w u link to o
+  field_copied u o k = typed u o (rw eg at k)
 
-    kept : (u : List ℕ) → Kept space v u to.at (to.label + h.nlen) → Kept space w u to.at to.label
-    kept u k = kept_trans nm.kept (kept_wider to.at to.label (omega arith) (omega arith) k)
+  again : {name : List ℕ} {nullable : Bool} {shape : Shape} {parts rest : Fields} → Chain space (side swap s w) link (field name nullable shape parts rest) → h ≡ head_at (side swap s v) link
+  again {name} {nullable} {shape} {parts} {rest} c =
+      chain_head c h e
+      ∙ sym (head_is (side swap s v) space.n c.floor link c.at c.label name nullable shape parts rest (moved c).source.leads (head_at (side swap s v) link) refl)
 
-    pub field_copied : (u : List ℕ) (o : Out) → CopiedType space (side swap s v) v u link (goal_at to h.nlen own) o → CopiedField space (side swap s w) w u link to o
-    field_copied u (Done d) k =
-        record {
-          kept = kept u k.writes.kept;
-          grows = (k.writes.passes.0, (omega (arith, k.writes.passes.1.0), omega (arith, k.writes.passes.1.1)));
-          further = k.writes.passes.1.0;
-          means =
-              λ name nullable shape parts rest c.
-              subst (λ (y : Bool). Wrote space u to d (field name y shape parts end)) (eo ∙ read_nullable c.held.source h e)
-              (k.means _ _ _ _ name nullable shape parts rest (moved c) name (nm.named z link name nullable own shape parts rest c e));
-        }
-    field_copied u No k =
-        record { kept = kept u k.writes.kept; grows = tt; further = tt; means = λ name nullable shape parts rest c. k.means _ _ _ _ name nullable shape parts rest (moved c) }
-    field_copied u Full k =
-        record {
-          kept = kept u k.writes.kept;
-          grows = tt;
-          further = tt;
-          means =
-              λ name nullable shape parts rest c.
-              ⊎_elim (λ x. inl (omega arith)) (λ x. inr (omega (arith, name_length_lem c h e))) (k.means _ _ _ _ name nullable shape parts rest (moved c));
-        }
+  -- a field without parts, whose head was copied
+  leaf : (u : List ℕ) (d : Spot) → h.first ≡ 0 → CopiedHead space (side swap s v) v u h link (goal_at to h.nlen (nullable_in h)) 0 (Ok d) → (name : List ℕ) (nullable : Bool) (shape : Shape) (parts rest : Fields)
+      → Chain space (side swap s w) link (field name nullable shape parts rest) → Wrote space u to d (field name nullable shape parts end)
+  unfolding count labels
+  leaf u d first k name nullable shape end rest c =
+      let m = k.means.1 _ _ _ _ name nullable shape end rest (moved c) (again c) in
+      record {
+        records = omega (arith, k.means.0);
+        letters = omega (arith, m.0, name_length_lem c h e, length-append name (zone_bytes shape.zone), length-append (name ++ zone_bytes shape.zone) []);
+        holds = (
+          subst (λ (y : Bool). Stands (region space u) space.n to.at to.label name y shape 0 0) (read_nullable c.held.source h e)
+              (m.1 name (own c)),
+          (tt, tt),
+        );
+      }
+  leaf u d first k name nullable shape (field n b sh p q) rest c =
+      let f : h.first ≡ c.at + 1 = ap (λ (x : Head). x.first) (chain_head c h e) in
+      absurd (omega (arith, first, f))
 
-    again : {name : List ℕ} {nullable : Bool} {shape : Shape} {parts rest : Fields} → Chain space (side swap s w) link (field name nullable shape parts rest) → h ≡ head_at (side swap s v) link
-    again {name} {nullable} {shape} {parts} {rest} c =
-        chain_head c h e
-        ∙ sym (head_is (side swap s v) space.n c.floor link c.at c.label name nullable shape parts rest (moved c).source.leads (head_at (side swap s v) link) refl)
+  bare : (u : List ℕ) (o : Out) → h.first ≡ 0 → CopiedHead space (side swap s v) v u h link (goal_at to h.nlen (nullable_in h)) 0 o → CopiedField space (side swap s w) w u link to o
+  bare u (Ok d) first k =
+      record {
+        kept = kept u k.kept;
+        grows = (k.passes.0, (omega (arith, k.passes.1.0), omega (arith, k.passes.1.1)));
+        further = k.passes.1.0;
+        means = leaf u d first k;
+      }
+  bare u (Err NoType) first k = absurd k.means
+  bare u (Err Full) first k =
+      record {
+        kept = kept u k.kept;
+        grows = tt;
+        further = tt;
+        means =
+            λ name nullable shape parts rest c.
+            inr (omega (arith, k.means _ _ _ _ name nullable shape parts rest (moved c) (again c), name_length_lem c h e));
+      }
 
-    -- a field without parts, whose head was copied
-    leaf : (u : List ℕ) (d : Spot) → h.first ≡ 0 → CopiedHead space (side swap s v) v u h link (goal_at to h.nlen own) 0 (Done d) → (name : List ℕ) (nullable : Bool) (shape : Shape) (parts rest : Fields)
-        → Chain space (side swap s w) link (field name nullable shape parts rest) → Wrote space u to d (field name nullable shape parts end)
-    unfolding count labels
-    leaf u d first k name nullable shape end rest c =
-        let m = k.means.1 _ _ _ _ name nullable shape end rest (moved c) (again c) in
-        record {
-          records = omega (arith, k.means.0);
-          letters = omega (arith, m.0, name_length_lem c h e, length-append name (zone_bytes shape.zone), length-append (name ++ zone_bytes shape.zone) []);
-          holds = (
-            subst (λ (y : Bool). Stands (region space u) space.n to.at to.label name y shape 0 0) (eo ∙ read_nullable c.held.source h e)
-                (m.1 name (nm.named z link name nullable own shape end rest c e)),
-            (tt, tt),
-          );
-        }
-    leaf u d first k name nullable shape (field n b sh p q) rest c =
-        let f : h.first ≡ c.at + 1 = ap (λ (x : Head). x.first) (chain_head c h e) in
-        absurd (omega (arith, first, f))
-
-    pub leaf_copied : (u : List ℕ) (o : Out) → h.first ≡ 0 → CopiedHead space (side swap s v) v u h link (goal_at to h.nlen own) 0 o → CopiedField space (side swap s w) w u link to o
-    leaf_copied u (Done d) first k =
-        record {
-          kept = kept u k.kept;
-          grows = (k.passes.0, (omega (arith, k.passes.1.0), omega (arith, k.passes.1.1)));
-          further = k.passes.1.0;
-          means = leaf u d first k;
-        }
-    leaf_copied u No first k = absurd k.means
-    leaf_copied u Full first k =
-        record {
-          kept = kept u k.kept;
-          grows = tt;
-          further = tt;
-          means =
-              λ name nullable shape parts rest c.
-              inr (omega (arith, k.means _ _ _ _ name nullable shape parts rest (moved c) (again c), name_length_lem c h e));
-        }
-
--- there is no record left for a field
-pub field_none : (space : Space) (s w : List ℕ) (link : ℕ) (to : Spot) → space.n ≤ to.at → CopiedField space s w w link to Full
-field_none space s w link to h =
-    record { kept = kept_self w to.at to.label; grows = tt; further = tt; means = λ name nullable shape parts rest c. inl (omega arith) }
+  pub leaf_copied : (u : List ℕ) (o : Out) → h.first ≡ 0 → CopiedHead space (side swap s v) v u h link g 0 o → CopiedField space (side swap s w) w u link to o
+  leaf_copied u o first k = bare u o first (rw eg at k)

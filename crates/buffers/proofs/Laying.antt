@@ -16,12 +16,14 @@ use Rattle.sheet.proofs.Spans.{span_join, span_nil, span_move}
 use Rattle.sheet.proofs.Heads.{span_head}
 use Rattle.buffers.specs.Writes.{side, Put}
 use Rattle.buffers.specs.Region.{Room, region, Kept, Held, Ready, Named, moved_label, CopiedHead, CopiedChain}
-use Rattle.buffers.specs.Goal.{NoRoom, Writes, Laid, LaidPlain, LaidZoned, CopiedType, shape_for, zoned_shape}
+use Rattle.buffers.specs.Goal.{past, Writes, Laid, LaidPlain, LaidZoned, CopiedType, shape_for, zoned_shape}
 use Rattle.buffers.specs.declared.Space.{Space}
 use Rattle.buffers.specs.declared.Spot.{Spot}
 use Rattle.buffers.specs.declared.Goal.{Goal}
-use Rattle.buffers.specs.declared.Out.{Out}
-use Rattle.buffers.specs.declared.Out.TheVariants.{Done, No, Full}
+use Rattle.buffers.specs.Out.{Out}
+use Rattle.std.specs.Prelude.{Ok, Err}
+use Rattle.buffers.specs.declared.Failure.{Failure}
+use Rattle.buffers.specs.declared.Failure.TheVariants.{NoType, Full}
 use Rattle.buffers.proofs.Frames.{span_frame, stands_frame, kept_self, kept_trans, kept_wider}
 use Rattle.buffers.proofs.Copying.{span_region, label_kept, head_kept, held_side, moved_name}
 use Rattle.buffers.proofs.Chained.{held_first}
@@ -39,13 +41,14 @@ named_kept space w v at label g {name} h k nm =
     }
 
 -- a head without a zone that was put at a goal
-pub head_laid : (space : Space) (w v : List ℕ) (g : Goal) (kind figure scale sz first : ℕ) (sorted : Bool) (flags place : ℕ) → g.at < space.n
-    → flags ≡ bit g.nullable + (2 * bit sorted + 0) → place ≡ moved_label g.label g.nlen
+pub head_laid : (space : Space) (w v : List ℕ) (g : Goal) (kind figure scale sz first : ℕ) (sorted : Bool) (a b place : ℕ) → g.at < space.n
+    → a ≡ bit g.nullable → b ≡ bit sorted → place ≡ moved_label g.label g.nlen
     → Put w v (space.half + 16 * g.at)
-    (bytes_of (record { kind = kind; flags = flags; figure = figure; scale = scale; quad = sz; first = first; next = 0; name = place; nlen = g.nlen; last = 0 }))
+    (bytes_of (record { kind = kind; flags = a + 2 * b; figure = figure; scale = scale; quad = sz; first = first; next = 0; name = place; nlen = g.nlen; last = 0 }))
     → Laid space w v g (shape_for kind figure scale sz sorted) first
-head_laid space w v g kind figure scale sz first sorted flags place lt ef ep p =
-    let h : Head = record { kind = kind; flags = flags; figure = figure; scale = scale; quad = sz; first = first; next = 0; name = place; nlen = g.nlen; last = 0 } in
+head_laid space w v g kind figure scale sz first sorted a b place lt ea eb ep p =
+    let ef : a + 2 * b ≡ bit g.nullable + (2 * bit sorted + 0) = omega (arith, ea, eb) in
+    let h : Head = record { kind = kind; flags = a + 2 * b; figure = figure; scale = scale; quad = sz; first = first; next = 0; name = place; nlen = g.nlen; last = 0 } in
     let kept : Kept space w v g.at (g.label + g.nlen) = head_kept space w v g.at (g.label + g.nlen) h lt p in
     record {
       kept = kept;
@@ -62,21 +65,19 @@ head_laid space w v g kind figure scale sz first sorted flags place lt ef ep p =
     }
 
 -- nothing was written, for want of a record
-pub no_record : (space : Space) (w : List ℕ) (g : Goal) → space.n ≤ g.at → Writes space w w g Full
+pub no_record : (space : Space) (w : List ℕ) (g : Goal) → space.n ≤ g.at → Writes space w w g (Err Full)
 no_record space w g h = record { kept = kept_self w g.at (g.label + g.nlen); passes = tt }
 
-pub plain_full : (space : Space) (w : List ℕ) (g : Goal) (shape : Shape) → space.n ≤ g.at → LaidPlain space w w g shape Full
-plain_full space w g shape h = record { writes = no_record space w g h; means = inl (omega arith) }
-
 pub plain_laid : (space : Space) (w v : List ℕ) (g : Goal) (kind figure scale : ℕ) → Ready space g → g.at < space.n → Laid space w v g (shape_for kind figure scale 0 false) 0
-    → LaidPlain space w v g (shape_for kind figure scale 0 false) (Done (record { at = g.at + 1; label = g.label + g.nlen }))
+    → {d : Spot} → d ≡ past g 0 → LaidPlain space w v g (shape_for kind figure scale 0 false) (Ok d)
 unfolding count labels
-plain_laid space w v g kind figure scale ready lt l =
-    record {
+plain_laid space w v g kind figure scale ready lt l ed =
+    rw ed
+    (record {
       writes =
           record {
             kept = l.kept;
-            passes = (record { some = omega arith; records = omega arith; letters = ready.letters }, (omega arith, omega arith));
+            passes = (record { some = omega arith; records = omega arith; letters = omega (arith, ready.letters) }, (omega arith, omega arith));
           };
       means =
           λ name nm.
@@ -85,11 +86,7 @@ plain_laid space w v g kind figure scale ready lt l =
             letters = omega (arith, nm.long, length-append name [], length-append (name ++ []) []);
             holds = (l.stands name nm, (tt, tt));
           };
-    }
-
-pub zoned_full : (space : Space) (w : List ℕ) (g : Goal) (kind figure : ℕ) (zone : List ℕ) → NoRoom space g 1 (length zone) → LaidZoned space w w g kind figure zone Full
-zoned_full space w g kind figure zone h =
-    record { writes = record { kept = kept_self w g.at (g.label + g.nlen); passes = tt }; means = h }
+    })
 
 -- the head of a type with a zone, at a goal
 abbrev pub zoned_head : Goal → ℕ → ℕ → List ℕ → Head
@@ -107,15 +104,15 @@ zoned_head g kind figure zone =
       last = 0;
     }
 
-pub zoned_head_lem : (g : Goal) (kind figure : ℕ) (zone : List ℕ) (flags off place : ℕ) → flags ≡ bit g.nullable + 4 → off ≡ moved_label (g.label + g.nlen) (length zone)
+pub zoned_head_lem : (g : Goal) (kind figure : ℕ) (zone : List ℕ) (flags off place : ℕ) → flags ≡ bit g.nullable → off ≡ moved_label (g.label + g.nlen) (length zone)
     → place ≡ moved_label g.label g.nlen
-    → record { kind = kind; flags = flags; figure = figure; scale = 0; quad = off + 65536 * length zone; first = 0; next = 0; name = place; nlen = g.nlen; last = 0 }
+    → record { kind = kind; flags = flags + 4; figure = figure; scale = 0; quad = off + 65536 * length zone; first = 0; next = 0; name = place; nlen = g.nlen; last = 0 }
     ≡ zoned_head g kind figure zone
 zoned_head_lem g kind figure zone flags off place ef eo ep =
     λ i.
     record {
       kind = kind;
-      flags = ef i;
+      flags = ef i + 4;
       figure = figure;
       scale = 0;
       quad = eo i + 65536 * length zone;
@@ -151,10 +148,11 @@ module _ (space : Space) (w v₁ v : List ℕ) (g : Goal) (kind figure : ℕ) (z
             (span_frame {w = v₁} v zone p.long (λ j lo hi. p.above j (omega arith)) q.span)));
       }
 
-  pub zoned_laid : LaidZoned space w v g kind figure zone (Done (record { at = g.at + 1; label = g.label + g.nlen + length zone }))
+  pub zoned_laid : {d : Spot} → d ≡ past g (length zone) → LaidZoned space w v g kind figure zone (Ok d)
   unfolding count labels
-  zoned_laid =
-      record {
+  zoned_laid ed =
+      rw ed
+      (record {
         writes =
             record {
               kept = zoned_kept;
@@ -167,22 +165,20 @@ module _ (space : Space) (w v₁ v : List ℕ) (g : Goal) (kind figure : ℕ) (z
               letters = omega (arith, nm.long, length-append name zone, length-append (name ++ zone) []);
               holds = (zoned_stands name nm, (tt, tt));
             };
-      }
+      })
 
 -- a type that was copied: its head, and its fields after it
 module _ (space : Space) (s w : List ℕ) (swap : Bool) (link : ℕ) (g : Goal) where
-  pub type_none : space.n ≤ g.at → CopiedType space (side swap s w) w w link g Full
-  type_none h = record { writes = no_record space w g h; means = λ floor r off up name nullable shape parts rest a. inl (omega arith) }
-
   module _ (room : Room w space) (h : Head) (e : h ≡ head_at (side swap s w) link) where
-    pub type_full : (v : List ℕ) → CopiedHead space (side swap s w) w v h link g 0 Full → CopiedType space (side swap s w) w v link g Full
-    type_full v c =
+    pub type_stop : (v : List ℕ) (o : Failure) → CopiedHead space (side swap s w) w v h link g 0 (Err o) → CopiedType space (side swap s w) w v link g (Err o)
+    type_stop v NoType c = absurd c.means
+    type_stop v Full c =
         record {
           writes = record { kept = c.kept; passes = tt };
           means = λ floor r off up name nullable shape parts rest a. inr (omega (arith, c.means floor r off up name nullable shape parts rest a e));
         }
 
-    module _ (v : List ℕ) (d : Spot) (c : CopiedHead space (side swap s w) w v h link g 0 (Done d)) where
+    module _ (v : List ℕ) (d : Spot) (c : CopiedHead space (side swap s w) w v h link g 0 (Ok d)) where
       fields_held : {floor r off up : ℕ} {name : List ℕ} {nullable : Bool} {shape : Shape} {parts rest : Fields}
           → Held space (side swap s w) floor link r off up (field name nullable shape parts rest)
           → Held space (side swap s v) link h.first (r + 1) (off + length (own_labels name shape)) shape.kind parts
@@ -193,7 +189,7 @@ module _ (space : Space) (s w : List ℕ) (swap : Bool) (link : ℕ) (g : Goal) 
 
       pub type_copied : (u : List ℕ) (o : Out) → CopiedChain space (side swap s v) v u h.first d o → CopiedType space (side swap s w) w u link g o
       unfolding count labels
-      type_copied u (Done f) b =
+      type_copied u (Ok f) b =
           record {
             writes =
                 record {
@@ -218,8 +214,8 @@ module _ (space : Space) (s w : List ℕ) (swap : Bool) (link : ℕ) (g : Goal) 
                   );
                 };
           }
-      type_copied u No b = absurd b.means
-      type_copied u Full b =
+      type_copied u (Err NoType) b = absurd b.means
+      type_copied u (Err Full) b =
           record {
             writes = record { kept = kept u b.kept; passes = tt };
             means =

@@ -1,10 +1,10 @@
 -- Tables of partners that are true of every side, and that stay true. Assumes nothing.
 use mathlib.Core.Path.{◌≡◌, refl, sym, subst}
 use mathlib.Core.Bool.{Bool, not}
-use mathlib.Core.List.{List, [], ◌∷◌}
+use mathlib.Core.List.{List}
 use Prim.Native.Nat.{ℕ, zero, suc, ◌+◌, ◌*◌}
 use native.Mathlib.Omega.{arith}
-use lib.ListN.{length, get_or, replicate}
+use lib.ListN.{get_or, replicate}
 use Rattle.sheet.specs.Types.{Fields}
 use Rattle.buffers.specs.Writes.{side}
 use Rattle.buffers.specs.Region.{Kept}
@@ -17,10 +17,6 @@ use Rattle.buffers.proofs.Copying.{held_side}
 pub partners_none : (space : Space) (s w table : List ℕ) → ((k : ℕ) → get_or table k 0 ≡ 0) → Partners space s w table
 partners_none space s w table z swap i q =
     subst (Partner space (side swap s w) (side (not swap) s w) i) (sym (z (key_of swap i))) (λ p. absurd (omega arith))
-
-pub partners_empty : (space : Space) (s w table : List ℕ) → length table ≡ 0 → Partners space s w table
-partners_empty space s w [] e = partners_none space s w [] (λ k. refl)
-partners_empty space s w (x ∷ table) e = absurd (omega arith)
 
 pub zeros : (m k : ℕ) → ◌≡◌ {A = ℕ} (get_or (replicate m 0) k 0) 0
 zeros zero k = refl

@@ -77,7 +77,7 @@ content_is b false false u v x y = go (eqb x y) b
     go true true = refl
 
 -- two shapes, by the tests of the code
-shape_is : (s : List ℕ) (n : ℕ) (g : Head) (t : List ℕ) (m : ℕ) (h : Head)
+pub shape_is : (s : List ℕ) (n : ℕ) (g : Head) (t : List ℕ) (m : ℕ) (h : Head)
     → same_shape (shape_of s n g) (shape_of t m h) ≡ (same_figures g h && same_content s n g t m h)
 unfolding same_shape all_of
 shape_is s n g t m h =
@@ -92,13 +92,6 @@ shape_is s n g t m h =
     go true true true false r e = e
     go true true true true r e = e
 
-module _ (s : List ℕ) (n : ℕ) (g : Head) (t : List ℕ) (m : ℕ) (h : Head) {f : Bool} (e : f ≡ same_figures g h) where
-  pub shapes_apart : f ≡ false → false ≡ same_shape (shape_of s n g) (shape_of t m h)
-  shapes_apart z = sym (shape_is s n g t m h ∙ ap (λ (b : Bool). b && same_content s n g t m h) (sym e ∙ z))
-
-  pub shapes_same : {v : Bool} → f ≡ true → v ≡ same_content s n g t m h → v ≡ same_shape (shape_of s n g) (shape_of t m h)
-  shapes_same z k = k ∙ sym (shape_is s n g t m h ∙ ap (λ (b : Bool). b && same_content s n g t m h) (sym e ∙ z))
-
 -- the tests of two records but for their parts
 abbrev pub own_same : Bool → List ℕ → ℕ → Head → List ℕ → ℕ → Head → Bool
 own_same named s n g t m h =
@@ -108,35 +101,27 @@ own_same named s n g t m h =
     ∷ same_shape (shape_of s n g) (shape_of t m h)
     ∷ [])
 
-module _ (s : List ℕ) (n : ℕ) (g : Head) (t : List ℕ) (m : ℕ) (h : Head) (named : Bool) where
-  abbrev names : Bool
-  names = implies named (same_bytes (label_at s n g.name g.nlen) (label_at t m h.name h.nlen))
-
-  pub names_asked : {v : Bool} → named ≡ true → v ≡ same_bytes (label_at s n g.name g.nlen) (label_at t m h.name h.nlen) → names ≡ v
-  names_asked z e = rw z (sym e)
-
-  pub names_free : named ≡ false → names ≡ true
-  names_free z = rw z
-
-  pub own_tests : {f e x i : Bool} → same_figures g h ≡ f → eqb (g.flags % 2) (h.flags % 2) ≡ e → same_content s n g t m h ≡ x → names ≡ i
-      → (f && (e && (x && i))) ≡ own_same named s n g t m h
-  unfolding all_of
-  own_tests {f} {e} {x} {i} ef ee ex ei =
-      let en : beq (nullable_in g) (nullable_in h) ≡ e = nullable_is g h ∙ ee in
-      let es : same_shape (shape_of s n g) (shape_of t m h) ≡ (f && x) = shape_is s n g t m h ∙ ap₂ ◌&&◌ ef ex in
-      go f e x i ∙ sym (λ k. all_of (ei k ∷ en k ∷ es k ∷ []))
-    where
-      go : (f e x i : Bool) → (f && (e && (x && i))) ≡ (i && (e && ((f && x) && true)))
-      go false false x false = refl
-      go false false x true = refl
-      go false true x false = refl
-      go false true x true = refl
-      go true false x false = refl
-      go true false x true = refl
-      go true true false false = refl
-      go true true false true = refl
-      go true true true false = refl
-      go true true true true = refl
+pub record_is : (named : Bool) (s : List ℕ) (n : ℕ) (g : Head) (t : List ℕ) (m : ℕ) (h : Head)
+    → own_same named s n g t m h
+    ≡ (same_figures g h
+    && (eqb (g.flags % 2) (h.flags % 2)
+    && (same_content s n g t m h && implies named (same_bytes (label_at s n g.name g.nlen) (label_at t m h.name h.nlen)))))
+unfolding all_of
+record_is named s n g t m h =
+    rw (nullable_is g h, shape_is s n g t m h)
+    (go (same_figures g h) (eqb (g.flags % 2) (h.flags % 2)) (same_content s n g t m h) (implies named (same_bytes (label_at s n g.name g.nlen) (label_at t m h.name h.nlen))))
+  where
+    go : (f e x i : Bool) → (i && (e && ((f && x) && true))) ≡ (f && (e && (x && i)))
+    go false false x false = refl
+    go false false x true = refl
+    go false true x false = refl
+    go false true x true = refl
+    go true false x false = refl
+    go true false x true = refl
+    go true true false false = refl
+    go true true false true = refl
+    go true true true false = refl
+    go true true true true = refl
 
 -- two chains of which the first is empty
 module _ (s : List ℕ) (n floor i : ℕ) (t : List ℕ) (m j : ℕ) (named : Bool) (d : ℕ) (h : i ≤ floor) where

@@ -1,7 +1,7 @@
 -- The returns of the rules for types without parts. Assumes nothing.
 use mathlib.Core.Path.{◌≡◌, refl, ap, ap₂, sym, subst, ◌∙◌}
 use mathlib.Core.Bool.{Bool, true, false, ◌&&◌}
-use mathlib.Core.Option.{Option, none}
+use Rattle.std.specs.Prelude.{Option}
 use Prim.Native.Nat.{ℕ, ◌<◌}
 use native.Mathlib.Omega.{arith}
 use lib.Dec.{eqb}
@@ -13,7 +13,7 @@ use Rattle.sheet.specs.Tests.{between}
 use Rattle.sheet.specs.declared.Head.{Head}
 use Rattle.sheet.proofs.Tests.{never}
 use Rattle.coercion.specs.declared.Figures.{Figures}
-use Rattle.coercion.specs.Data.{DataType, Question, list, union, compare, figures_of, as_type}
+use Rattle.coercion.specs.Data.{DataType, Question, list, union, compare, as_type}
 use Rattle.coercion.specs.Kinds.{is_string, is_date, is_time}
 use Rattle.coercion.specs.Times.{is_time_with_valid_unit, zone_coercion, temporal_coercion, temporal_coercion_nonstrict_timezone}
 use Rattle.coercion.specs.Rules.{time_of_string, string_temporal_coercion}
@@ -28,9 +28,6 @@ use Rattle.buffers.specs.Steps.{Reads, Figured, KeepsZone}
 pub kind_low : {h : Figures} {t : DataType} → Figured h t → h.kind < 64
 unfolding is_kind
 kind_low {h} {t} a = omega (arith, a.kind, (kind_from 1 38 t.shape.kind a.known).1)
-
-pub figures_read : {f : Figures} {t : DataType} → Figured f t → figures_of t ≡ f
-figures_read a = λ i. record { kind = a.kind i; figure = a.figure i; scale = a.scale i }
 
 -- the figures of a head
 pub reads_figured : {h : Head} {t : DataType} {f : Figures} → f ≡ record { kind = h.kind; figure = h.figure; scale = h.scale } → Reads h t → Figured f t
@@ -72,12 +69,6 @@ string_zone l r p q = go (is_string l.shape.kind) refl (is_string r.shape.kind) 
     go true e b f = rw (left_string l r e) (time_zone l r r (rw (no_zone 25 27 p (omega arith) e)))
     go false e true f = rw (right_string l r e f) (time_zone l r l (rw (no_zone 25 27 q (omega arith) f) (sym (zone_left l.shape.zone))))
     go false e false f = rw (no_string l r e f) tt
-
--- a list knows nothing of strings that become times
-pub time_listed : (q : Question) (l r : DataType) → is_list_question q ≡ true → string_time q l r ≡ none
-time_listed list l r h = refl
-time_listed union l r h = never h
-time_listed compare l r h = never h
 
 pub time_paired : (q : Question) (l r : DataType) → is_list_question q ≡ false → string_time q l r ≡ string_temporal_coercion l r
 time_paired list l r h = never (sym h)

@@ -2,7 +2,7 @@
 use mathlib.Core.Path.{◌≡◌, refl, ap, sym, ◌∙◌}
 use mathlib.Core.Bool.{Bool, true, false, cond, not, ◌&&◌, ◌||◌}
 use mathlib.Core.List.{List, [], ◌∷◌}
-use mathlib.Core.Option.{Option, none, some}
+use Rattle.std.specs.Prelude.{Option, None, Some}
 use Prim.Native.Nat.{ℕ, zero, suc, ◌<◌}
 use native.Mathlib.Omega.{arith}
 use lib.Dec.{eqb}
@@ -27,8 +27,8 @@ use Rattle.buffers.specs.Plain.{string_time, plain_rules}
 use Rattle.buffers.specs.Steps.{Figured}
 
 abbrev is_some : {A : Type 0} → Option A → Bool
-is_some none = false
-is_some (some a) = true
+is_some None = false
+is_some (Some a) = true
 
 -- Date, Time or Timestamp
 abbrev is_moment : ℕ → Bool
@@ -75,31 +75,31 @@ tabled = refl
 infixr 20 ◌also◌
 data Voices : List Bool → List (Option DataType) → Type 0 where
   done : Voices [] []
-  ◌also◌ : {b : Bool} {o : Option DataType} {bs : List Bool} {os : List (Option DataType)} → (b ≡ false → o ≡ none) → Voices bs os → Voices (b ∷ bs) (o ∷ os)
+  ◌also◌ : {b : Bool} {o : Option DataType} {bs : List Bool} {os : List (Option DataType)} → (b ≡ false → o ≡ None) → Voices bs os → Voices (b ∷ bs) (o ∷ os)
 
-silent : {bs : List Bool} {os : List (Option DataType)} → Voices bs os → none_of bs ≡ true → first_of os ≡ none
+silent : {bs : List Bool} {os : List (Option DataType)} → Voices bs os → none_of bs ≡ true → first_of os ≡ None
 unfolding first_of
 silent done h = refl
 silent (◌also◌ {b} {o} {bs} {os} f v) h = rw (f (not-true b (and_fst (not b) (none_of bs) h))) (silent v (and_snd (not b) (none_of bs) h))
 
-sole : (t : ℕ) {bs : List Bool} {os : List (Option DataType)} → Voices bs os → alone t bs ≡ true → first_of os ≡ get_or os t none
+sole : (t : ℕ) {bs : List Bool} {os : List (Option DataType)} → Voices bs os → alone t bs ≡ true → first_of os ≡ get_or os t None
 unfolding first_of
 sole t done h = refl
 sole zero (◌also◌ {b} {o} {bs} {os} f v) h = rw (silent v h) (or_none o)
 sole (suc t) (◌also◌ {b} {o} {bs} {os} f v) h = rw (f (not-true b (and_fst (not b) (alone t bs) h))) (sole t v (and_snd (not b) (alone t bs) h))
 
-no_figures : (o : Option Figures) → is_some o ≡ false → as_type o ≡ none
-no_figures none h = refl
-no_figures (some f) h = never (sym h)
+no_figures : (o : Option Figures) → is_some o ≡ false → as_type o ≡ None
+no_figures None h = refl
+no_figures (Some f) h = never (sym h)
 
-no_kind : (o : Option ℕ) → is_some o ≡ false → of_kind_type o ≡ none
-no_kind none h = refl
-no_kind (some k) h = never (sym h)
+no_kind : (o : Option ℕ) → is_some o ≡ false → of_kind_type o ≡ None
+no_kind None h = refl
+no_kind (Some k) h = never (sym h)
 
-no_time : (t u : DataType) → is_string t.shape.kind && is_moment u.shape.kind ≡ false → cond (is_string t.shape.kind) (time_of_string u) none ≡ none
+no_time : (t u : DataType) → is_string t.shape.kind && is_moment u.shape.kind ≡ false → cond (is_string t.shape.kind) (time_of_string u) None ≡ None
 no_time t u h = go (is_string t.shape.kind) h
   where
-    go : (b : Bool) → b && is_moment u.shape.kind ≡ false → cond b (time_of_string u) none ≡ none
+    go : (b : Bool) → b && is_moment u.shape.kind ≡ false → cond b (time_of_string u) None ≡ None
     go true e = let d = or_snd (is_date u.shape.kind) _ e in rw (or_fst (is_date u.shape.kind) _ e, or_fst (is_time u.shape.kind) _ d, or_snd (is_time u.shape.kind) _ d)
     go false e = refl
 
@@ -122,37 +122,37 @@ module _ (rules : Rules) (l r : DataType) where
       ∷ of_kind_type (binary_coercion k j)
       ∷ []
 
-  no_number : (q : Question) → (is_numeric k && is_string j) || (is_string k && is_numeric j) ≡ false → string_number q l r ≡ none
+  no_number : (q : Question) → (is_numeric k && is_string j) || (is_string k && is_numeric j) ≡ false → string_number q l r ≡ None
   unfolding string_numeric_coercion string_numeric_union_coercion
   no_number q h = go q (or_fst (is_numeric k && is_string j) _ h) (or_snd (is_numeric k && is_string j) _ h)
     where
-      go : (q : Question) → is_numeric k && is_string j ≡ false → is_string k && is_numeric j ≡ false → string_number q l r ≡ none
+      go : (q : Question) → is_numeric k && is_string j ≡ false → is_string k && is_numeric j ≡ false → string_number q l r ≡ None
       go list a b = rw (a, b)
       go union a b = rw (a, b)
       go compare a b = rw (a, b)
 
-  no_moment : (is_string k && is_moment j) || (is_string j && is_moment k) ≡ false → string_temporal_coercion l r ≡ none
+  no_moment : (is_string k && is_moment j) || (is_string j && is_moment k) ≡ false → string_temporal_coercion l r ≡ None
   unfolding string_temporal_coercion
   no_moment h = rw (no_time l r (or_fst (is_string k && is_moment j) _ h), no_time r l (or_snd (is_string k && is_moment j) _ h))
 
-  no_string_time : (q : Question) → (is_string k && is_moment j) || (is_string j && is_moment k) ≡ false → string_time q l r ≡ none
+  no_string_time : (q : Question) → (is_string k && is_moment j) || (is_string j && is_moment k) ≡ false → string_time q l r ≡ None
   no_string_time list h = refl
   no_string_time union h = no_moment h
   no_string_time compare h = no_moment h
 
-  no_numbers : is_numeric k && is_numeric j ≡ false → as_type (binary_numeric_coercion (figures_of l) (figures_of r)) ≡ none
+  no_numbers : is_numeric k && is_numeric j ≡ false → as_type (binary_numeric_coercion (figures_of l) (figures_of r)) ≡ None
   unfolding binary_numeric_coercion
   no_numbers h = rw h
 
-  no_times : (eqb k 22 && eqb j 22) || is_some (temporal_coercion k j) ≡ false → temporal_coercion_nonstrict_timezone l r ≡ none
+  no_times : (eqb k 22 && eqb j 22) || is_some (temporal_coercion k j) ≡ false → temporal_coercion_nonstrict_timezone l r ≡ None
   unfolding temporal_coercion_nonstrict_timezone
   no_times h = rw (or_fst (eqb k 22 && eqb j 22) _ h) (no_figures (temporal_coercion k j) (or_snd (eqb k 22 && eqb j 22) _ h))
 
-  no_strings : is_string k && is_string j ≡ false → of_kind_type (string_coercion k j) ≡ none
+  no_strings : is_string k && is_string j ≡ false → of_kind_type (string_coercion k j) ≡ None
   unfolding string_coercion
   no_strings h = rw h
 
-  no_null : eqb k 1 || eqb j 1 ≡ false → null_coercion rules.mask l r ≡ none
+  no_null : eqb k 1 || eqb j 1 ≡ false → null_coercion rules.mask l r ≡ None
   unfolding null_coercion
   no_null h = rw (or_fst (eqb k 1) _ h, or_snd (eqb k 1) _ h)
 
@@ -168,9 +168,9 @@ kind_below {h} {t} a = omega (arith, (kind_from 1 38 t.shape.kind a.known).1)
 
 -- what the rule says whose turn it is
 pub spoken : (rules : Rules) {x y : Figures} (l r : DataType) → Figured x l → Figured y r → (t : ℕ) → first 6 (turns x.kind y.kind) ≡ t
-    → {o : Option DataType} → o ≡ get_or (voices rules l r) t none → o ≡ plain_rules rules l r
+    → {o : Option DataType} → o ≡ get_or (voices rules l r) t None → o ≡ plain_rules rules l r
 unfolding plain_rules
 spoken rules {x} {y} l r p q t e h =
     let i = at2 (λ k j. alone (first 6 (turns k j)) (speaks k j)) 39 tabled l.shape.kind r.shape.kind (kind_below p) (kind_below q) in
     let s : first 6 (turns l.shape.kind r.shape.kind) ≡ t = rw (p.kind, q.kind) e in
-    h ∙ sym (sole (first 6 (turns l.shape.kind r.shape.kind)) (heard rules l r) i ∙ ap (λ (t : ℕ). get_or (voices rules l r) t none) s)
+    h ∙ sym (sole (first 6 (turns l.shape.kind r.shape.kind)) (heard rules l r) i ∙ ap (λ (t : ℕ). get_or (voices rules l r) t None) s)

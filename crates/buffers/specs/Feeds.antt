@@ -1,6 +1,6 @@
 -- Which fields of the right feed those of the left.
 use Rattle.std.specs.Prelude.{◌≡◌, ℕ, ◌<◌, Bool, false, not, ◌||◌, List, ◌⊎◌}
-use Rattle.std.proofs.Math.Option.{some}
+use Rattle.std.specs.Prelude.{Some}
 use Rattle.sheet.specs.Types.{Shape, Fields, end, field, arity}
 use Rattle.sheet.specs.Names.{repeats}
 use Rattle.coercion.specs.Data.{DataType}
@@ -21,8 +21,8 @@ EndOf t (field name nullable shape parts rest) = (t ≡ field name nullable shap
 abbrev pub Feeds : Feed → Fields → Fields → Fields → Fields → Fields → Type 0
 Feeds Feed.Place lf rf pf tf nf = (tf ≡ pf) × (nf ≡ pf)
 Feeds Feed.Own lf rf pf tf nf = (tf ≡ pf) × (nf ≡ lf)
-Feeds Feed.Name lf rf pf tf nf = (by_name lf rf ≡ some tf) × ((nf ≡ tf) × ((EndOf pf rf × (repeats rf ≡ false)) × (arity pf ≡ arity lf)))
-Feeds Feed.NameThenPlace lf rf pf tf nf = (by_name lf rf ≡ some tf) × ((nf ≡ pf) × (EndOf pf rf × (repeats rf ≡ false)))
+Feeds Feed.Name lf rf pf tf nf = (by_name lf rf ≡ Some tf) × ((nf ≡ tf) × ((EndOf pf rf × (repeats rf ≡ false)) × (arity pf ≡ arity lf)))
+Feeds Feed.NameThenPlace lf rf pf tf nf = (by_name lf rf ≡ Some tf) × ((nf ≡ pf) × (EndOf pf rf × (repeats rf ≡ false)))
 
 -- what feeds the first row of a chain, and the chains of the rows behind it
 pub record Fed (space : Space) (s : List ℕ) (feed : Feed) (nullable : Bool) (rest rf : Fields) (row : Row) (tf nf : Fields) : Type 0 where

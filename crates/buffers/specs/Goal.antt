@@ -1,6 +1,6 @@
 -- A type that is written at a goal, and what is said of it.
 use Rattle.std.specs.Prelude.{◌≡◌, ℕ, ◌+◌, ◌*◌, ◌<◌, ◌≤◌, Bool, false, List, ◌⊎◌, length, get_or}
-use Rattle.std.proofs.Math.Option.{Option, none, some}
+use Rattle.std.specs.Prelude.{Option, None, Some}
 use Rattle.sheet.specs.Types.{absent, present, Shape, Fields, end, field, labels, zone_bytes}
 use Rattle.sheet.specs.Head.{head_at}
 use Rattle.sheet.specs.Holds.{Stands}
@@ -11,8 +11,9 @@ use Rattle.buffers.specs.Region.{region, Kept, Held, Wrote, Named, Passes}
 use Rattle.buffers.specs.declared.Space.{Space}
 use Rattle.buffers.specs.declared.Spot.{Spot}
 use Rattle.buffers.specs.declared.Goal.{Goal}
-use Rattle.buffers.specs.declared.Out.{Out}
-use Rattle.buffers.specs.declared.Out.TheVariants.{Done, No, Full}
+use Rattle.buffers.specs.Out.{Out}
+use Rattle.std.specs.Prelude.{Ok, Err}
+use Rattle.buffers.specs.declared.Failure.TheVariants.{NoType, Full}
 
 -- how many label bytes a type has
 abbrev pub letters : DataType → ℕ
@@ -21,6 +22,10 @@ letters t = length (zone_bytes t.shape.zone) + length (labels t.parts)
 -- the place of a goal: its record, and its labels with the name
 abbrev pub spot_of : Goal → Spot
 spot_of g = record { at = g.at; label = g.label }
+
+-- the place past a goal's record and its labels, with a zone of zlen bytes
+abbrev pub past : Goal → ℕ → Spot
+past g zlen = record { at = g.at + 1; label = g.label + g.nlen + zlen }
 
 -- the field that a type makes at a goal
 abbrev pub field_for : Goal → List ℕ → DataType → Fields
@@ -32,11 +37,11 @@ NoRoom space g z y = (space.n < g.at + z) ⊎ (space.m < g.label + g.nlen + y)
 
 -- what an answer says: the type was written under whatever name stands there; there is none; or there is no room
 abbrev pub Means : Space → List ℕ → List ℕ → Goal → ℕ → ℕ → Out → Option DataType → Type 0
-Means space w v g z y (Done d) none = ⊥
-Means space w v g z y (Done d) (some t) = (name : List ℕ) → Named space w g name → Wrote space v (spot_of g) d (field_for g name t)
-Means space w v g z y No none = Unit
-Means space w v g z y No (some t) = ⊥
-Means space w v g z y Full m = NoRoom space g z y
+Means space w v g z y (Ok d) None = ⊥
+Means space w v g z y (Ok d) (Some t) = (name : List ℕ) → Named space w g name → Wrote space v (spot_of g) d (field_for g name t)
+Means space w v g z y (Err NoType) None = Unit
+Means space w v g z y (Err NoType) (Some t) = ⊥
+Means space w v g z y (Err Full) m = NoRoom space g z y
 
 -- what holds after a type was written at a goal, or was not
 pub record Writes (space : Space) (w v : List ℕ) (g : Goal) (o : Out) : Type 0 where
@@ -51,13 +56,13 @@ pub record Laid (space : Space) (w v : List ℕ) (g : Goal) (shape : Shape) (fir
 -- a plain type, of whatever kind and figures, that was written at a goal
 pub record LaidPlain (space : Space) (w v : List ℕ) (g : Goal) (shape : Shape) (o : Out) : Type 0 where
   pub writes : Writes space w v g o
-  pub means : Means space w v g 1 0 o (some (type_of shape end))
+  pub means : Means space w v g 1 0 o (Some (type_of shape end))
 
 -- a copy of the type at a link, whatever type stands there
 pub record CopiedType (space : Space) (s w v : List ℕ) (link : ℕ) (g : Goal) (o : Out) : Type 0 where
   pub writes : Writes space w v g o
   pub means : (floor r off up : ℕ) (name : List ℕ) (nullable : Bool) (shape : Shape) (parts rest : Fields) → Held space s floor link r off up (field name nullable shape parts rest)
-      → Means space w v g (size (type_of shape parts)) (letters (type_of shape parts)) o (some (type_of shape parts))
+      → Means space w v g (size (type_of shape parts)) (letters (type_of shape parts)) o (Some (type_of shape parts))
 
 -- the shape of a type that has no zone
 abbrev pub shape_for : ℕ → ℕ → ℕ → ℕ → Bool → Shape
@@ -93,4 +98,4 @@ zoned_shape kind figure zone = record { kind = kind; figure = figure; scale = 0;
 -- a type with a zone that was written at a goal
 pub record LaidZoned (space : Space) (w v : List ℕ) (g : Goal) (kind figure : ℕ) (zone : List ℕ) (o : Out) : Type 0 where
   pub writes : Writes space w v g o
-  pub means : Means space w v g 1 (length zone) o (some (type_of (zoned_shape kind figure zone) end))
+  pub means : Means space w v g 1 (length zone) o (Some (type_of (zoned_shape kind figure zone) end))

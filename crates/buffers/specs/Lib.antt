@@ -1,3 +1,4 @@
+pub mod Out
 pub mod Source
 pub mod Differ
 pub mod Records

@@ -1,6 +1,6 @@
 -- The question that is asked, and the rules for types without parts.
 use Rattle.std.specs.Prelude.{ℕ, Bool, true, false, [], ◌∷◌}
-use Rattle.std.proofs.Math.Option.{Option, none}
+use Rattle.std.specs.Prelude.{Option, None}
 use Rattle.coercion.specs.Data.{DataType, Rules, first_of, figures_of, as_type}
 use Rattle.coercion.specs.Data as Data
 use Rattle.coercion.specs.Strings.{string_coercion, binary_coercion}
@@ -27,7 +27,7 @@ is_list_question Data.compare = false
 
 -- `string_temporal_coercion`, of which a list knows nothing
 abbrev pub string_time : Data.Question → DataType → DataType → Option DataType
-string_time Data.list l r = none
+string_time Data.list l r = None
 string_time Data.union l r = string_temporal_coercion l r
 string_time Data.compare l r = string_temporal_coercion l r
 

@@ -11,8 +11,9 @@ use Rattle.sheet.specs.declared.Head.{Head}
 use Rattle.buffers.specs.declared.Space.{Space}
 use Rattle.buffers.specs.declared.Spot.{Spot}
 use Rattle.buffers.specs.declared.Goal.{Goal}
-use Rattle.buffers.specs.declared.Out.{Out}
-use Rattle.buffers.specs.declared.Out.TheVariants.{Done, No, Full}
+use Rattle.buffers.specs.Out.{Out}
+use Rattle.std.specs.Prelude.{Ok, Err}
+use Rattle.buffers.specs.declared.Failure.TheVariants.{NoType, Full}
 
 -- a work space of two halves, each with room for the records and the labels of the sheet
 pub record Room (w : List ℕ) (space : Space) : Type 0 where
@@ -46,15 +47,15 @@ pub record Inside (space : Space) (to : Spot) : Type 0 where
 
 -- the next place is not before the last
 abbrev pub Grows : Space → Spot → Out → Type 0
-Grows space to (Done d) = Inside space d × ((to.at ≤ d.at) × (to.label ≤ d.label))
-Grows space to No = Unit
-Grows space to Full = Unit
+Grows space to (Ok d) = Inside space d × ((to.at ≤ d.at) × (to.label ≤ d.label))
+Grows space to (Err NoType) = Unit
+Grows space to (Err Full) = Unit
 
 -- the next place is past a record
 abbrev pub Further : Spot → Out → Type 0
-Further to (Done d) = to.at < d.at
-Further to No = Unit
-Further to Full = Unit
+Further to (Ok d) = to.at < d.at
+Further to (Err NoType) = Unit
+Further to (Err Full) = Unit
 
 -- there is no room for z records and y label bytes
 abbrev pub Short : Space → Spot → ℕ → ℕ → Type 0
@@ -104,21 +105,21 @@ pub record Named (space : Space) (w : List ℕ) (g : Goal) (name : List ℕ) : T
 
 -- what is said of a head that was copied: whatever field stands at its place, its shape stands at the goal, under whatever name stands there
 abbrev pub HeadMeans : Space → List ℕ → List ℕ → List ℕ → Head → ℕ → Goal → ℕ → Out → Type 0
-HeadMeans space s w v h link g next (Done d) =
+HeadMeans space s w v h link g next (Ok d) =
     (d.at ≡ g.at + 1)
     × ((floor r o up : ℕ) (name : List ℕ) (nullable : Bool) (shape : Shape) (parts rest : Fields) → Held space s floor link r o up (field name nullable shape parts rest)
     → h ≡ head_at s link → (d.label ≡ g.label + g.nlen + length (zone_bytes shape.zone))
     × ((own : List ℕ) → Named space w g own → Stands (region space v) space.n g.at g.label own g.nullable shape (link_to (g.at + 1) parts) next))
-HeadMeans space s w v h link g next No = ⊥
-HeadMeans space s w v h link g next Full =
+HeadMeans space s w v h link g next (Err NoType) = ⊥
+HeadMeans space s w v h link g next (Err Full) =
     (floor r o up : ℕ) (name : List ℕ) (nullable : Bool) (shape : Shape) (parts rest : Fields) → Held space s floor link r o up (field name nullable shape parts rest)
     → h ≡ head_at s link → space.m < g.label + g.nlen + length (zone_bytes shape.zone)
 
 -- the next place is past the record and the name
 abbrev pub Passes : Space → Goal → Out → Type 0
-Passes space g (Done d) = Inside space d × ((g.at < d.at) × (g.label + g.nlen ≤ d.label))
-Passes space g No = Unit
-Passes space g Full = Unit
+Passes space g (Ok d) = Inside space d × ((g.at < d.at) × (g.label + g.nlen ≤ d.label))
+Passes space g (Err NoType) = Unit
+Passes space g (Err Full) = Unit
 
 pub record CopiedHead (space : Space) (s w v : List ℕ) (h : Head) (link : ℕ) (g : Goal) (next : ℕ) (o : Out) : Type 0 where
   pub kept : Kept space w v g.at (g.label + g.nlen)
@@ -131,12 +132,12 @@ CopiedBare space w v h link g o = (s : List ℕ) → CopiedHead space s w v h li
 
 -- what is said of a record that was copied: whatever field stands at its place, its record stands at the destination
 abbrev pub CopyMeans : Space → List ℕ → List ℕ → ℕ → Spot → Out → Type 0
-CopyMeans space s v link to (Done d) =
+CopyMeans space s v link to (Ok d) =
     (floor r o up : ℕ) (name : List ℕ) (nullable : Bool) (shape : Shape) (parts rest : Fields) → Held space s floor link r o up (field name nullable shape parts rest)
     → (d.at ≡ to.at + 1) × ((d.label ≡ to.label + length (own_labels name shape))
     × Stands (region space v) space.n to.at to.label name nullable shape (link_to (to.at + 1) parts) (link_to (to.at + 1 + count parts) rest))
-CopyMeans space s v link to No = ⊥
-CopyMeans space s v link to Full =
+CopyMeans space s v link to (Err NoType) = ⊥
+CopyMeans space s v link to (Err Full) =
     (floor r o up : ℕ) (name : List ℕ) (nullable : Bool) (shape : Shape) (parts rest : Fields) → Held space s floor link r o up (field name nullable shape parts rest)
     → space.m < to.label + length (own_labels name shape)
 
@@ -148,9 +149,9 @@ pub record CopiedRecord (space : Space) (s w v : List ℕ) (link : ℕ) (to : Sp
 
 -- what is said of a chain that was copied
 abbrev pub ChainMeans : Space → List ℕ → List ℕ → ℕ → Spot → Out → Type 0
-ChainMeans space s v link to (Done d) = (floor r o up : ℕ) (t : Fields) → Held space s floor link r o up t → Wrote space v to d t
-ChainMeans space s v link to No = ⊥
-ChainMeans space s v link to Full = (floor r o up : ℕ) (t : Fields) → Held space s floor link r o up t → Short space to (count t) (length (labels t))
+ChainMeans space s v link to (Ok d) = (floor r o up : ℕ) (t : Fields) → Held space s floor link r o up t → Wrote space v to d t
+ChainMeans space s v link to (Err NoType) = ⊥
+ChainMeans space s v link to (Err Full) = (floor r o up : ℕ) (t : Fields) → Held space s floor link r o up t → Short space to (count t) (length (labels t))
 
 pub record CopiedChain (space : Space) (s w v : List ℕ) (link : ℕ) (to : Spot) (o : Out) : Type 0 where
   pub kept : Kept space w v to.at to.label

@@ -1,6 +1,6 @@
 -- What the rules for types without parts look at, and what their answers say.
 use Rattle.std.specs.Prelude.{◌≡◌, ℕ, ◌+◌, ◌*◌, min, true, false, cond, ◌&&◌, ◌||◌, List, eqb}
-use Rattle.std.proofs.Math.Option.{Option, none, some}
+use Rattle.std.specs.Prelude.{Option, None, Some}
 use Rattle.sheet.specs.Kind as Kind
 use Rattle.sheet.specs.Kind.{is_kind}
 use Rattle.sheet.specs.Types.{absent}
@@ -31,17 +31,17 @@ pub record Figured (f : Figures) (t : DataType) : Type 0 where
   pub bare : eqb t.shape.kind Kind.timestamp ≡ false → t.shape.zone ≡ absent
 
 -- the type that a step says
-abbrev pub step_of : Step → DataType → DataType → Option DataType
-step_of (Step.Lay f) l r = some (plain f)
-step_of (Step.Stamp unit) l r = some (zoned (of_unit Kind.timestamp unit) (zone_coercion l.shape.zone r.shape.zone))
-step_of Step.Left l r = some l
-step_of Step.Right l r = some r
-step_of Step.Nothing l r = none
+abbrev pub step_of : Option Step → DataType → DataType → Option DataType
+step_of (Some (Step.Lay f)) l r = Some (plain f)
+step_of (Some (Step.Stamp unit)) l r = Some (zoned (of_unit Kind.timestamp unit) (zone_coercion l.shape.zone r.shape.zone))
+step_of (Some Step.Left) l r = Some l
+step_of (Some Step.Right) l r = Some r
+step_of None l r = None
 
 -- an answer has the zone of the two
 abbrev pub KeepsZone : DataType → DataType → Option DataType → Type 0
-KeepsZone l r none = Unit
-KeepsZone l r (some t) = t.shape.zone ≡ zone_coercion l.shape.zone r.shape.zone
+KeepsZone l r None = Unit
+KeepsZone l r (Some t) = t.shape.zone ≡ zone_coercion l.shape.zone r.shape.zone
 
 -- the kind and the size of two lists' common list, by their heads
 abbrev pub list_kind : Head → Head → ℕ

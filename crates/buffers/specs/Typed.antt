@@ -1,6 +1,6 @@
 -- Types that stand at links and types that were written, whatever types those are.
 use Rattle.std.specs.Prelude.{◌≡◌, ℕ, ◌+◌, ◌<◌, ◌≤◌, Bool, true, false, not, ◌&&◌, List, length, eqb}
-use Rattle.std.proofs.Math.Option.{Option, none, some}
+use Rattle.std.specs.Prelude.{Option, None, Some}
 use Rattle.sheet.specs.Kind as Kind
 use Rattle.sheet.specs.Head.{head_at}
 use Rattle.sheet.specs.declared.Head.{Head}
@@ -12,8 +12,10 @@ use Rattle.buffers.specs.Goal.{letters, Means, Writes, type_of, shape_for, LaidP
 use Rattle.buffers.specs.declared.Space.{Space}
 use Rattle.buffers.specs.declared.Spot.{Spot}
 use Rattle.buffers.specs.declared.Goal.{Goal}
-use Rattle.buffers.specs.declared.Out.{Out}
-use Rattle.buffers.specs.declared.Out.TheVariants.{Done, No, Full}
+use Rattle.buffers.specs.Out.{Out}
+use Rattle.std.specs.Prelude.{Result, Ok, Err, is_ok}
+use Rattle.buffers.specs.declared.Failure.{Failure}
+use Rattle.buffers.specs.declared.Failure.TheVariants.{NoType, Full}
 
 -- a chain that a link of a source leads to, wherever it stands
 pub record Chain (space : Space) (s : List ℕ) (link : ℕ) (t : Fields) : Type 0 where
@@ -38,11 +40,11 @@ pub record Merges (answer : DataType → DataType → Option DataType) (space : 
 
 -- what an answer says of a chain that was written at a place
 abbrev pub ChainIs : Space → List ℕ → Spot → ℕ → ℕ → Out → Option Fields → Type 0
-ChainIs space v to z y (Done d) none = ⊥
-ChainIs space v to z y (Done d) (some t) = Wrote space v to d t
-ChainIs space v to z y No none = Unit
-ChainIs space v to z y No (some t) = ⊥
-ChainIs space v to z y Full m = Short space to z y
+ChainIs space v to z y (Ok d) None = ⊥
+ChainIs space v to z y (Ok d) (Some t) = Wrote space v to d t
+ChainIs space v to z y (Err NoType) None = Unit
+ChainIs space v to z y (Err NoType) (Some t) = ⊥
+ChainIs space v to z y (Err Full) m = Short space to z y
 
 -- the goal of a field at a place, under the name of a head
 abbrev pub goal_at : Spot → ℕ → Bool → Goal
@@ -56,13 +58,23 @@ pub record NamedAt (space : Space) (s w v : List ℕ) (h : Head) (to : Spot) (b 
   pub named : b ≡ true → (link : ℕ) (name : List ℕ) (nullable own : Bool) (shape : Shape) (parts rest : Fields) → Chain space s link (field name nullable shape parts rest)
       → h ≡ head_at s link → Named space v (goal_at to h.nlen own) name
 
+-- which goal an answer is
+abbrev pub GoalIs : Spot → Head → Bool → Result Goal Failure → Type 0
+GoalIs to h nullable (Ok g) = g ≡ goal_at to h.nlen nullable
+GoalIs to h nullable (Err e) = e ≡ Full
+
+-- the goal of a field at a place, under the name of a record that was written there; or there is no room for the name
+pub record NamedGoal (space : Space) (s w v : List ℕ) (h : Head) (nullable : Bool) (to : Spot) (o : Result Goal Failure) : Type 0 where
+  pub named : NamedAt space s w v h to (is_ok o)
+  pub goal : GoalIs to h nullable o
+
 -- a field was copied without those behind it
 pub record CopiedField (space : Space) (s w v : List ℕ) (link : ℕ) (to : Spot) (o : Out) : Type 0 where
   pub kept : Kept space w v to.at to.label
   pub grows : Grows space to o
   pub further : Further to o
   pub means : (name : List ℕ) (nullable : Bool) (shape : Shape) (parts rest : Fields) → Chain space s link (field name nullable shape parts rest)
-      → ChainIs space v to (1 + count parts) (length name + letters (type_of shape parts)) o (some (field name nullable shape parts end))
+      → ChainIs space v to (1 + count parts) (length name + letters (type_of shape parts)) o (Some (field name nullable shape parts end))
 
 -- whether a wrapper is a Dictionary whose value, at record i of the second half, is Utf8View
 abbrev pub is_view : Space → List ℕ → ℕ → ℕ → Bool
@@ -70,5 +82,5 @@ is_view space w kind i = eqb kind Kind.dictionary && eqb (head_at (region space 
 
 -- a wrapper stays as it was written, or gives way to Utf8View
 pub record Viewed (space : Space) (w v : List ℕ) (kind i : ℕ) (g : Goal) (e : Spot) (o : Out) : Type 0 where
-  pub stays : is_view space w kind i ≡ false → (o ≡ Done e) × (v ≡ w)
+  pub stays : is_view space w kind i ≡ false → (o ≡ Ok e) × (v ≡ w)
   pub view : is_view space w kind i ≡ true → LaidPlain space w v g (shape_for Kind.utf8_view 0 0 0 false) o

@@ -13,6 +13,7 @@ ghost use Rattle.buffers.specs.Source.{SameTypes};
 ghost use Rattle.buffers.specs.Differ.{DifferChains, DifferTypes};
 ghost use Rattle.buffers.specs.Records.{same_figures, same_content};
 
+use crate::write::sides;
 use sheet::Head;
 use sheet::label::{label_at, same, same_name};
 use sheet::record::head_at;
@@ -47,51 +48,35 @@ fn same_content(a: &[u8], n: usize, g: Head, b: &[u8], m: usize, h: Head) -> boo
 }
 
 // Whether bytes 0, 2 and 3 and the bits for sorted and for a zone of two records are the same.
+#[tactic(auto, unfolding(sheet::specs::Tests::all_of))]
 fn same_figures(g: Head, h: Head) -> bool
     ensures { result ≡ same_figures g h }
 {
-    if g.kind != h.kind {
-        return false;
-    }
-    if g.figure != h.figure {
-        return false;
-    }
-    if g.scale != h.scale {
-        return false;
-    }
-    g.flags / 2 % 4 == h.flags / 2 % 4
+    g.kind == h.kind
+        && g.figure == h.figure
+        && g.scale == h.scale
+        && g.flags / 2 % 4 == h.flags / 2 % 4
 }
 
 // Whether the shapes of two records are the same.
+#[tactic(auto, using(crate::proofs::Sameness::shape_is))]
 fn same_shape(a: &[u8], n: usize, g: Head, b: &[u8], m: usize, h: Head) -> bool
     requires { (n < 65536) × (m < 65536) }
     ensures { result ≡ same_shape (shape_of a.now n g) (shape_of b.now m h) }
 {
-    if same_figures(g, h) {
-        same_content(a, n, g, b, m, h)
-    } else {
-        false
-    }
+    same_figures(g, h) && same_content(a, n, g, b, m, h)
 }
 
 // Whether two records are the same but for their parts.
+#[tactic(auto, using(crate::proofs::Sameness::record_is))]
 fn same_record(a: &[u8], n: usize, g: Head, b: &[u8], m: usize, h: Head, named: bool) -> bool
     requires { ((n < 65536) × (m < 65536)) × (Bounded g × Bounded h) }
     ensures { result ≡ all_of (implies named (same_bytes (label_at a.now n g.name g.nlen) (label_at b.now m h.name h.nlen)) ∷ beq (nullable_in g) (nullable_in h) ∷ same_shape (shape_of a.now n g) (shape_of b.now m h) ∷ []) }
 {
-    if same_figures(g, h) {
-        if g.flags % 2 != h.flags % 2 {
-            return false;
-        }
-        if same_content(a, n, g, b, m, h) {
-            return if named {
-                same_name(a, n, g, b, m, h)
-            } else {
-                true
-            };
-        }
-    }
-    false
+    same_figures(g, h)
+        && g.flags % 2 == h.flags % 2
+        && same_content(a, n, g, b, m, h)
+        && (!named || same_name(a, n, g, b, m, h))
 }
 
 // The record at which the chain that a link of a leads to and the one that a link of b leads to first differ. The first chain is the parts of record floor, or
@@ -113,10 +98,7 @@ fn differ_fields(
     let mut x = i;
     let mut y = j;
     while low < x {
-        if n <= x {
-            return floor;
-        }
-        if y == 0 {
+        if n <= x || y == 0 {
             return floor;
         }
         let g = head_at(a, x);
@@ -143,18 +125,19 @@ pub fn differ_type(a: &[u8], n: usize, i: usize, b: &[u8], m: usize, j: usize, n
     requires { (n < 65536) × (m < 65536) }
     ensures { DifferTypes a.now n i b.now m j named result }
 {
+    // The kinds are read alone first, for speed: most types that differ do there.
     if head_at(a, i).kind != head_at(b, j).kind {
         return i;
     }
     let g = head_at(a, i);
     let h = head_at(b, j);
-    if same_shape(a, n, g, b, m, h) {
-        if g.first + h.first == 0 {
-            return 0;
-        }
-        return differ_fields(a, n, i, g.first, b, m, h.first, named);
+    if !same_shape(a, n, g, b, m, h) {
+        return i;
     }
-    i
+    if g.first + h.first == 0 {
+        return 0;
+    }
+    differ_fields(a, n, i, g.first, b, m, h.first, named)
 }
 
 // The record at which the type of record l of a side and that of record r of the other first differ.
@@ -170,11 +153,8 @@ pub fn differ_sides(
     requires { n < 65536 }
     ensures { DifferTypes (side swap sheet.now work.now) n l (side (not swap) sheet.now work.now) n r named result }
 {
-    if swap {
-        differ_type(work, n, l, sheet, n, r, named)
-    } else {
-        differ_type(sheet, n, l, work, n, r, named)
-    }
+    let (a, b) = sides(sheet, work, swap);
+    differ_type(a, n, l, b, n, r, named)
 }
 
 // Whether the type of record l of a side is that of record r of the other.

@@ -1,15 +1,17 @@
 // Writing the fields of a chain, one by one.
-ghost use Rattle.std.specs.Prelude.{◌≡◌, Bool, cond, ◌+◌, ◌≤◌, ◌<◌, eqb};
+ghost use Rattle.std.specs.Prelude.{◌≡◌, Bool, cond, ◌+◌, ◌≤◌, ◌<◌, eqb, Ok, Err};
+ghost use Rattle.buffers.specs.declared.Failure.{Failure};
 ghost use Rattle.sheet.specs.Bounds.{Bounded};
 ghost use Rattle.buffers.specs.Writes.{side};
 ghost use Rattle.buffers.specs.Region.{Room, Inside, Ready};
-ghost use Rattle.buffers.specs.Typed.{NamedAt, CopiedField, Viewed};
+ghost use Rattle.buffers.specs.Typed.{NamedAt, NamedGoal, CopiedField, Viewed};
 
 use crate::alike::is_zoned;
 use crate::copy::{copy_bare, is_nullable};
 use crate::lay::{copy_type, lay_plain};
+use crate::plain::of_kind;
 use crate::write::{look, put_label};
-use crate::{Goal, Out, Space, Spot};
+use crate::{Failure, Goal, Out, Space, Spot};
 use sheet::Head;
 use sheet::record::head_at;
 
@@ -30,9 +32,9 @@ pub fn next_link(d: Spot, e: Spot) -> usize
 
 // The end of the left chain, which must be that of the right.
 pub fn row_end(p: usize, to: Spot) -> Out
-    ensures { result ≡ cond (eqb p 0) (Out.Done to) Out.No }
+    ensures { result ≡ cond (eqb p 0) (Ok to) (Err Failure.NoType) }
 {
-    if p == 0 { Out::Done(to) } else { Out::No }
+    if p == 0 { Ok(to) } else { Err(Failure::NoType) }
 }
 
 // Writes the name of a record of a side at a place, where there is room for it.
@@ -47,21 +49,38 @@ pub fn name_field(
     requires { Room work.old space × (Inside space to × Bounded h) }
     ensures { NamedAt space (side swap sheet.now work.old) work.old work.new h to result }
 {
-    let n = space.n;
-    let label = to.label;
-    let nlen = h.nlen;
-    if space.m < label + nlen {
+    if space.m < to.label + h.nlen {
         return false;
     }
     put_label(
         sheet,
         work,
         swap,
-        16 * n + h.name,
-        nlen,
-        space.half + 16 * n + label,
+        16 * space.n + h.name,
+        h.nlen,
+        space.half + 16 * space.n + to.label,
     );
     true
+}
+
+// The same, and the goal of a field there.
+pub fn name_goal(
+    sheet: &[u8],
+    work: &mut [u8],
+    space: Space,
+    swap: bool,
+    h: Head,
+    nullable: bool,
+    to: Spot,
+) -> Result<Goal, Failure>
+    requires { Room work.old space × (Inside space to × Bounded h) }
+    ensures { NamedGoal space (side swap sheet.now work.old) work.old work.new h nullable to result }
+{
+    if name_field(sheet, work, space, swap, h, to) {
+        Ok(to.goal(h.nlen, nullable))
+    } else {
+        Err(Failure::Full)
+    }
 }
 
 // Copies the field at a link of a side, without those behind it.
@@ -77,20 +96,8 @@ pub fn copy_field(
     ensures { CopiedField space (side swap sheet.now work.old) work.old work.new link to result }
 {
     let h = look(sheet, &*work, swap, link);
-    let at = to.at;
-    let label = to.label;
-    let nlen = h.nlen;
-    let nullable = is_nullable(h);
-    if name_field(sheet, work, space, swap, h, to) {
-        let g = Goal {
-            at,
-            label,
-            nlen,
-            nullable,
-        };
-        return copy_type(sheet, work, space, swap, link, g);
-    }
-    Out::Full
+    let g = name_goal(sheet, work, space, swap, h, is_nullable(h), to)?;
+    copy_type(sheet, work, space, swap, link, g)
 }
 
 // The same, quicker where the field has neither parts nor a zone, as the indices of a wrapper.
@@ -106,29 +113,14 @@ pub fn copy_index(
     ensures { CopiedField space (side swap sheet.now work.old) work.old work.new link to result }
 {
     let h = look(sheet, &*work, swap, link);
-    let at = to.at;
-    let label = to.label;
-    let nlen = h.nlen;
-    let nullable = is_nullable(h);
-    if is_zoned(h) {
+    if is_zoned(h) || h.first != 0 {
         return copy_field(sheet, work, space, swap, link, to);
     }
-    if h.first != 0 {
-        return copy_field(sheet, work, space, swap, link, to);
+    if space.n <= to.at {
+        return Err(Failure::Full);
     }
-    if space.n <= at {
-        return Out::Full;
-    }
-    if name_field(sheet, work, space, swap, h, to) {
-        let g = Goal {
-            at,
-            label,
-            nlen,
-            nullable,
-        };
-        return copy_bare(work, space, h, link, g);
-    }
-    Out::Full
+    let g = name_goal(sheet, work, space, swap, h, is_nullable(h), to)?;
+    copy_bare(work, space, h, link, g)
 }
 
 // A wrapper of a kind at a goal, up to e, whose value is record i: a Dictionary of Utf8View gives way to Utf8View.
@@ -136,11 +128,8 @@ pub fn keep_wrapper(work: &mut [u8], space: Space, kind: u8, i: usize, g: Goal, 
     requires { Room work.old space × Ready space g }
     ensures { Viewed space work.old work.new kind i g e result }
 {
-    let half = space.half;
-    if kind == 37 {
-        if head_at(&work[half..], i).kind == 27 {
-            return lay_plain(work, space, g, 27, 0, 0);
-        }
+    if kind == 37 && head_at(&work[space.half..], i).kind == 27 {
+        return lay_plain(work, space, g, of_kind(27));
     }
-    Out::Done(e)
+    Ok(e)
 }

@@ -1,6 +1,10 @@
 // Types in lent buffers: whether two are the same, how one is copied or laid, and the rules for types without parts.
 #![tactic(auto)]
 
+ghost use Rattle.std.specs.Prelude.{◌≡◌, ◌+◌, ◌*◌, ◌<◌};
+ghost use Rattle.buffers.specs.Goal.{past};
+ghost use Rattle.buffers.specs.Typed.{goal_at};
+
 pub mod alike;
 pub mod copy;
 pub mod field;
@@ -10,6 +14,7 @@ pub mod stamp;
 pub mod write;
 
 use coercion::Figures;
+use std::fmt;
 
 // What is asked of two types.
 #[derive(Clone, Copy)]
@@ -19,7 +24,18 @@ pub enum Question {
     Compare,
 }
 
-// The sizes that all functions share: the sheet's records and label bytes, and the length of half of the work space, which is the sheet's.
+impl fmt::Display for Question {
+    fn fmt<W: fmt::Write>(&self, f: &mut fmt::Formatter<W>) -> fmt::Result {
+        f.write_str(match self {
+            Question::List => "list",
+            Question::Union => "union",
+            Question::Compare => "compare",
+        })
+    }
+}
+
+// The sizes that all functions share: the sheet's records and label bytes, and the length of half of the work space, which is the sheet's. The buffers are
+// passed beside it: a struct that held them and the fact `Room` would need a clause in each contract that the sheet and the sizes stay, so it is no plainer.
 #[derive(Clone, Copy)]
 pub struct Space {
     pub n: usize,
@@ -34,13 +50,15 @@ pub struct Spot {
     pub label: usize,
 }
 
-// What was written ends before a place; or there is no common type; or no room.
+// Why nothing was written: there is no common type, or no room.
 #[derive(Clone, Copy)]
-pub enum Out {
-    Done(Spot),
-    No,
+pub enum Failure {
+    NoType,
     Full,
 }
+
+// The place before which what was written ends.
+pub type Out = Result<Spot, Failure>;
 
 // A place in the destination for a type under a name. The name's bytes stand there already, nlen of them from label on.
 #[derive(Clone, Copy)]
@@ -49,6 +67,43 @@ pub struct Goal {
     pub label: usize,
     pub nlen: usize,
     pub nullable: bool,
+}
+
+impl Spot {
+    // The goal of a field at this place, under a name of nlen bytes.
+    pub fn goal(self, nlen: usize, nullable: bool) -> Goal
+        ensures { result ≡ goal_at self nlen nullable }
+    {
+        Goal {
+            at: self.at,
+            label: self.label,
+            nlen,
+            nullable,
+        }
+    }
+}
+
+impl Goal {
+    // The place past its record and its labels, the last zlen of which are a zone.
+    pub(crate) fn past(self, zlen: usize) -> Spot
+        requires { (self.at < 65536) × (self.label + self.nlen + zlen < 65536) }
+        ensures { result ≡ past self zlen }
+    {
+        Spot {
+            at: self.at + 1,
+            label: self.label + self.nlen + zlen,
+        }
+    }
+}
+
+// The shape of a type without a zone.
+#[derive(Clone, Copy)]
+pub struct Shape {
+    pub kind: u8,
+    pub figure: u8,
+    pub scale: u8,
+    pub size: usize,
+    pub sorted: bool,
 }
 
 // Which field of the right chain gives a field of the left its type, and which chain its nullability: the one at its place for both; its place's type and
@@ -61,14 +116,13 @@ pub enum Feed {
     NameThenPlace,
 }
 
-// What a rule for types without parts says: figures, a Timestamp of a unit with the zone of the two, one of the two types, or nothing.
+// What a rule for types without parts says: figures, a Timestamp of a unit with the zone of the two, or one of the two types.
 #[derive(Clone, Copy)]
 pub enum Step {
     Lay(Figures),
     Stamp(u8),
     Left,
     Right,
-    Nothing,
 }
 
 // What feeds one row: a record of the right, 0 for none; whether the field is nullable; and the place of the next row.

@@ -6,13 +6,13 @@ ghost use Rattle.coercion.specs.Numbers.{binary_numeric_coercion};
 ghost use Rattle.coercion.specs.Times.{temporal_coercion_nonstrict_timezone};
 ghost use Rattle.coercion.specs.Rules.{null_coercion};
 ghost use Rattle.coercion.specs.Answers.{of_kind_type, string_number};
-ghost use Rattle.coercion.specs.Meaning.{figures_in, kind_of, side_of, moment_of};
+ghost use Rattle.coercion.specs.Meaning.{side_of, moment_of};
 ghost use Rattle.buffers.specs.Plain.{asked, rules_of, is_list_question, string_time, plain_rules};
 ghost use Rattle.buffers.specs.Steps.{Reads, Figured, step_of, KeepsZone, list_kind, list_size};
 
 use crate::{Question, Step};
-use coercion::{Common, Figures, Found, Moment, Side};
-use kinds::tests::{both, either, is_numeric, is_string};
+use coercion::{Figures, Moment, Side};
+use kinds::tests::{is_numeric, is_string};
 use numeric::numbers::binary_numeric_coercion;
 use rules::sides::{
     null_coercion, string_numeric_coercion, string_numeric_union_coercion, string_temporal_coercion,
@@ -25,24 +25,16 @@ use sheet::figure::within;
 pub fn is_list_question(question: Question) -> bool
     ensures { result ≡ is_list_question (asked question) }
 {
-    match question {
-        Question::List => true,
-        Question::Union => false,
-        Question::Compare => false,
-    }
+    matches!(question, Question::List)
 }
 
 // The kind of two lists' common list.
 pub fn list_kind(x: Head, y: Head) -> u8
     ensures { result ≡ list_kind x y }
 {
-    if both(x.kind == 34, y.kind == 34) {
-        if x.quad == y.quad {
-            return 34;
-        }
-        return 32;
-    }
-    if either(x.kind == 33, y.kind == 33) {
+    if x.kind == 34 && y.kind == 34 {
+        if x.quad == y.quad { 34 } else { 32 }
+    } else if x.kind == 33 || y.kind == 33 {
         33
     } else {
         32
@@ -54,130 +46,123 @@ pub fn list_size(x: Head, y: Head) -> usize
     requires { Bounded y }
     ensures { (result ≡ list_size x y) × (result < 4294967296) }
 {
-    if both(x.kind == 34, y.kind == 34) {
-        if x.quad == y.quad {
-            return y.quad;
-        }
+    if x.kind == 34 && y.kind == 34 && x.quad == y.quad {
+        y.quad
+    } else {
+        0
     }
-    0
 }
 
-fn of_common(c: Common) -> Step
-    ensures { (l r : DataType) → step_of result l r ≡ as_type (figures_in c) }
+// The figures of a type that has none but its kind.
+pub(crate) fn of_kind(kind: u8) -> Figures
+    ensures { result ≡ record { kind = kind; figure = 0; scale = 0 } }
 {
-    match c {
-        Common::Of(f) => Step::Lay(f),
-        Common::Nothing => Step::Nothing,
+    Figures {
+        kind,
+        figure: 0,
+        scale: 0,
     }
 }
 
-fn of_found(f: Found) -> Step
-    ensures { (l r : DataType) → step_of result l r ≡ of_kind_type (kind_of f) }
+fn of_common(c: Option<Figures>) -> Option<Step>
+    ensures { (l r : DataType) → step_of result l r ≡ as_type c }
 {
-    match f {
-        Found::Kind(kind) => Step::Lay(Figures {
-            kind,
-            figure: 0,
-            scale: 0,
-        }),
-        Found::Nothing => Step::Nothing,
-    }
+    c.map(Step::Lay)
 }
 
-fn of_side(s: Side) -> Step
+fn of_found(f: Option<u8>) -> Option<Step>
+    ensures { (l r : DataType) → step_of result l r ≡ of_kind_type f }
+{
+    f.map(|kind| Step::Lay(of_kind(kind)))
+}
+
+fn of_side(s: Option<Side>) -> Option<Step>
     ensures { (l r : DataType) → step_of result l r ≡ side_of s l r }
 {
-    match s {
+    s.map(|side| match side {
         Side::Left => Step::Left,
         Side::Right => Step::Right,
-        Side::Neither => Step::Nothing,
-    }
+    })
 }
 
 // A Timestamp that a string becomes keeps its zone, and the string has none.
-fn of_moment(m: Moment) -> Step
+fn of_moment(m: Option<Moment>) -> Option<Step>
     ensures { (l r : DataType) → KeepsZone l r (moment_of m l r) → step_of result l r ≡ moment_of m l r }
 {
-    match m {
+    m.map(|moment| match moment {
         Moment::Left => Step::Left,
         Moment::Right => Step::Right,
-        Moment::LeftNanoseconds => Step::Stamp(3),
-        Moment::RightNanoseconds => Step::Stamp(3),
-        Moment::Nothing => Step::Nothing,
-    }
+        Moment::LeftNanoseconds | Moment::RightNanoseconds => Step::Stamp(3),
+    })
 }
 
-fn numeric(x: Figures, y: Figures) -> Step
+fn numeric(x: Figures, y: Figures) -> Option<Step>
     ensures { (l r : DataType) → Figured x l → Figured y r → step_of result l r ≡ as_type (binary_numeric_coercion (figures_of l) (figures_of r)) }
 {
     of_common(binary_numeric_coercion(x, y))
 }
 
-fn temporal(x: Figures, y: Figures) -> Step
+fn temporal(x: Figures, y: Figures) -> Option<Step>
     ensures { (l r : DataType) → Figured x l → Figured y r → step_of result l r ≡ temporal_coercion_nonstrict_timezone l r }
 {
-    if both(x.kind == 22, y.kind == 22) {
-        return Step::Stamp(timeunit_coercion(x.figure, y.figure));
+    if x.kind == 22 && y.kind == 22 {
+        return Some(Step::Stamp(timeunit_coercion(x.figure, y.figure)));
     }
     of_common(temporal_coercion(x.kind, y.kind))
 }
 
-fn null(mask: u64, x: Figures, y: Figures) -> Step
+fn null(mask: u64, x: Figures, y: Figures) -> Option<Step>
     ensures { (l r : DataType) → Figured x l → Figured y r → step_of result l r ≡ null_coercion mask l r }
 {
-    if x.kind >= 64 {
-        return Step::Nothing;
-    }
-    if y.kind >= 64 {
-        return Step::Nothing;
+    if x.kind >= 64 || y.kind >= 64 {
+        return None;
     }
     of_side(null_coercion(mask, x.kind, y.kind))
 }
 
-fn string_number(question: Question, x: Figures, y: Figures) -> Step
+fn string_number(question: Question, x: Figures, y: Figures) -> Option<Step>
     ensures { (l r : DataType) → Figured x l → Figured y r → step_of result l r ≡ string_number (asked question) l r }
 {
     match question {
-        Question::List => of_side(string_numeric_coercion(x.kind, y.kind)),
+        Question::List | Question::Compare => of_side(string_numeric_coercion(x.kind, y.kind)),
         Question::Union => of_side(string_numeric_union_coercion(x.kind, y.kind)),
-        Question::Compare => of_side(string_numeric_coercion(x.kind, y.kind)),
     }
 }
 
-fn string_time(question: Question, x: Figures, y: Figures) -> Step
+fn string_time(question: Question, x: Figures, y: Figures) -> Option<Step>
     ensures { (l r : DataType) → Figured x l → Figured y r → step_of result l r ≡ string_time (asked question) l r }
 {
     if is_list_question(question) {
-        return Step::Nothing;
+        return None;
     }
     of_moment(string_temporal_coercion(x.kind, x.figure, y.kind, y.figure))
 }
 
 // The rules for types without parts. Of two kinds one rule at most says a type, so the tests find that rule and the others are not asked.
-pub fn plain_step(question: Question, mask: u64, x: Figures, y: Figures) -> Step
+pub fn plain_step(question: Question, mask: u64, x: Figures, y: Figures) -> Option<Step>
     ensures { (l r : DataType) → Figured x l → Figured y r → step_of result l r ≡ plain_rules (rules_of question mask) l r }
 {
     let k = x.kind;
     let j = y.kind;
     let n = is_numeric(k);
     let m = is_numeric(j);
-    if both(n, m) {
+    if n && m {
         return numeric(x, y);
     }
-    if either(k == 1, j == 1) {
+    if k == 1 || j == 1 {
         return null(mask, x, y);
     }
     let s = is_string(k);
     let t = is_string(j);
-    if both(s, t) {
+    if s && t {
         return of_found(string_coercion(k, j));
     }
-    let worded = either(s, t);
-    if both(worded, either(n, m)) {
+    let worded = s || t;
+    if worded && (n || m) {
         return string_number(question, x, y);
     }
-    let timed = either(within(18, 24, k), within(18, 24, j));
-    if both(worded, timed) {
+    let timed = within(18, 24, k) || within(18, 24, j);
+    if worded && timed {
         return string_time(question, x, y);
     }
     if timed {
@@ -197,7 +182,7 @@ fn figures(h: Head) -> Figures
 }
 
 // The same, from the heads of two records.
-pub fn plain(question: Question, mask: u64, x: Head, y: Head) -> Step
+pub fn plain(question: Question, mask: u64, x: Head, y: Head) -> Option<Step>
     ensures { (l r : DataType) → Reads x l → Reads y r → step_of result l r ≡ plain_rules (rules_of question mask) l r }
 {
     plain_step(question, mask, figures(x), figures(y))

@@ -12,38 +12,24 @@ ghost use Rattle.buffers.specs.Typed.{Merges};
 use crate::alike::is_zoned;
 use crate::lay::{copy_type, lay_plain, lay_zoned};
 use crate::plain::plain;
-use crate::write::look;
-use crate::{Goal, Out, Question, Space, Step};
-use kinds::tests::either;
+use crate::write::{look, sides};
+use crate::{Failure, Goal, Out, Question, Space, Step};
+use coercion::Figures;
 use rules::zone::{Place, zone_coercion};
 use sheet::Head;
 use sheet::label::fill;
-
-fn least(a: usize, b: usize) -> usize
-    ensures { result ≡ Prim.Native.Nat.min a b }
-{
-    if a < b { a } else { b }
-}
 
 // Where the zone of a record stands in a slice of a length: what lies inside, where the slice ends before it does.
 fn zone_place(h: Head, n: usize, length: usize) -> Place
     requires { n ≤ 1024 }
     ensures { result ≡ place_of h n length }
 {
-    let quad = h.quad;
-    let from = least(16 * n + quad % 65536, length);
-    let upto = least(from + quad / 65536 % 256, length);
+    let from = (16 * n + h.quad % 65536).min(length);
     Place {
         present: is_zoned(h),
         from,
-        upto,
+        upto: (from + h.quad / 65536 % 256).min(length),
     }
-}
-
-fn side_length(sheet: &[u8], work: &[u8], swap: bool) -> usize
-    ensures { result ≡ length (side swap sheet.now work.now) }
-{
-    if swap { work.len() } else { sheet.len() }
 }
 
 // Fills a buffer with the zone of two records, the left's if it has one, else the right's, and says how many bytes it has.
@@ -59,8 +45,9 @@ fn zone_into<'a>(
     requires { (n ≤ 1024) × (length buf.old ≡ 255) }
     ensures { Filled (either_zone (side swap sheet.now work.now) (side (not swap) sheet.now work.now) n x y) buf.old buf.new result }
 {
-    let p = zone_place(x, n, side_length(sheet, work, swap));
-    let q = zone_place(y, n, side_length(sheet, work, !swap));
+    let (a, b) = sides(sheet, work, swap);
+    let p = zone_place(x, n, a.len());
+    let q = zone_place(y, n, b.len());
     let z = zone_coercion(sheet, work, swap, p, q);
     fill(z, 0, z.len(), buf)
 }
@@ -96,14 +83,19 @@ fn stamp(
     g: Goal,
 ) -> Out
     requires { Room work.old space × Ready space g }
-    ensures { (left : ℕ) → Merges (step_of (Step.Stamp unit)) space left swap sheet.now work.old work.new l r g result }
+    ensures { (left : ℕ) → Merges (step_of (Some (Step.Stamp unit))) space left swap sheet.now work.old work.new l r g result }
 {
     let x = look(sheet, &*work, swap, l);
     let y = look(sheet, &*work, !swap, r);
-    if either(is_zoned(x), is_zoned(y)) {
+    if is_zoned(x) || is_zoned(y) {
         return stamp_zoned(sheet, work, space, swap, unit, x, y, g);
     }
-    lay_plain(work, space, g, 22, unit, 0)
+    let f = Figures {
+        kind: 22,
+        figure: unit,
+        scale: 0,
+    };
+    lay_plain(work, space, g, f)
 }
 
 // Writes what a step says of the types at two links.
@@ -118,19 +110,13 @@ fn lay_step(
     g: Goal,
 ) -> Out
     requires { Room work.old space × Ready space g }
-    ensures { (left : ℕ) → Merges (step_of step) space left swap sheet.now work.old work.new l r g result }
+    ensures { (left : ℕ) → Merges (step_of (Some step)) space left swap sheet.now work.old work.new l r g result }
 {
     match step {
-        Step::Lay(f) => {
-            let kind = f.kind;
-            let figure = f.figure;
-            let scale = f.scale;
-            lay_plain(work, space, g, kind, figure, scale)
-        }
+        Step::Lay(f) => lay_plain(work, space, g, f),
         Step::Stamp(unit) => stamp(sheet, work, space, swap, unit, l, r, g),
         Step::Left => copy_type(sheet, work, space, swap, l, g),
         Step::Right => copy_type(sheet, work, space, !swap, r, g),
-        Step::Nothing => Out::No,
     }
 }
 
@@ -151,14 +137,6 @@ pub fn plain_rule(
 {
     let x = look(sheet, &*work, swap, l);
     let y = look(sheet, &*work, !swap, r);
-    lay_step(
-        sheet,
-        work,
-        space,
-        swap,
-        plain(question, mask, x, y),
-        l,
-        r,
-        g,
-    )
+    let step = plain(question, mask, x, y).ok_or(Failure::NoType)?;
+    lay_step(sheet, work, space, swap, step, l, r, g)
 }

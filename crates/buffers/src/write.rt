@@ -5,18 +5,21 @@ ghost use Rattle.sheet.specs.Bounds.{Bounded};
 ghost use Rattle.buffers.specs.Writes.{side, Put};
 
 use sheet::Head;
-use sheet::label::{copy, fill, label_at};
+use sheet::label::label_at;
 use sheet::record::head_at;
+
+// The buffer that a side is read from, and that of the other side.
+pub fn sides<'a>(sheet: &'a [u8], work: &'a [u8], swap: bool) -> (&'a [u8], &'a [u8])
+    ensures { (result.0.now ≡ side swap sheet.now work.now) × (result.1.now ≡ side (not swap) sheet.now work.now) }
+{
+    if swap { (work, sheet) } else { (sheet, work) }
+}
 
 // The head of record r of a side.
 pub fn look(sheet: &[u8], work: &[u8], swap: bool, r: usize) -> Head
     ensures { (result ≡ head_at (side swap sheet.now work.now) r) × Bounded result }
 {
-    if swap {
-        head_at(work, r)
-    } else {
-        head_at(sheet, r)
-    }
+    head_at(sides(sheet, work, swap).0, r)
 }
 
 // The kind of record r of a side.
@@ -39,7 +42,7 @@ pub(crate) fn put(work: &mut [u8], at: usize, bytes: &[u8])
     requires { at + length bytes.now ≤ length work.old }
     ensures { Put work.old work.new at bytes.now }
 {
-    copy(bytes, &mut work[at..]);
+    work[at..at + bytes.len()].copy_from_slice(bytes);
 }
 
 // Puts the sixteen bytes of a head into a buffer.
@@ -47,60 +50,40 @@ pub(crate) fn put_head(work: &mut [u8], at: usize, h: Head)
     requires { (at + 16 ≤ length work.old) × Bounded h }
     ensures { Put work.old work.new at (bytes_of h) }
 {
-    let quad = h.quad;
-    let first = h.first;
-    let next = h.next;
-    let name = h.name;
-    let nlen = h.nlen;
+    let quad = (h.quad as u32).to_le_bytes();
+    let first = (h.first as u16).to_le_bytes();
+    let next = (h.next as u16).to_le_bytes();
+    let name = (h.name as u16).to_le_bytes();
     let bytes = [
         h.kind,
         h.flags,
         h.figure,
         h.scale,
-        (quad % 256) as u8,
-        (quad / 256 % 256) as u8,
-        (quad / 65536 % 256) as u8,
-        (quad / 16777216) as u8,
-        (first % 256) as u8,
-        (first / 256) as u8,
-        (next % 256) as u8,
-        (next / 256) as u8,
-        (name % 256) as u8,
-        (name / 256) as u8,
-        nlen as u8,
+        quad[0],
+        quad[1],
+        quad[2],
+        quad[3],
+        first[0],
+        first[1],
+        next[0],
+        next[1],
+        name[0],
+        name[1],
+        h.nlen as u8,
         h.last,
     ];
     put(work, at, &bytes)
 }
 
-// Puts a label of the work space behind it.
-fn put_behind(work: &mut [u8], from: usize, len: usize, at: usize)
-    requires { (from + len ≤ at) × (at + len ≤ length work.old) }
-    ensures { Put work.old work.new at (take len (drop from work.old)) }
-{
-    let mut i = 0;
-    while i < len {
-        work[at + i] = work[from + i];
-        i += 1;
-    }
-}
-
-// Puts a label of the work space at another place of it, sixteen bytes at a time. All are read before one is written.
+// Puts a label of the work space at another place of it: what lies inside, where the work space ends before it does.
 fn put_own(work: &mut [u8], from: usize, len: usize, at: usize)
     requires { (from + len < 4294967296) × (at + len ≤ length work.old) }
     ensures { Put work.old work.new at (take len (drop from work.old)) }
 {
-    if from + len <= at {
-        return put_behind(work, from, len, at);
+    let end = (from + len).min(work.len());
+    if from < end {
+        work.copy_within(from..end, at);
     }
-    let mut buf = [0u8; 16];
-    if len <= 16 {
-        let k = fill(&*work, from, len, &mut buf);
-        return put(work, at, &buf[..k]);
-    }
-    let k = fill(&*work, from, 16, &mut buf);
-    put_own(work, from + 16, len - 16, at + 16);
-    put(work, at, &buf[..k])
 }
 
 // Puts a label of a side into the work space.

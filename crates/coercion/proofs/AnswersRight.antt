@@ -2,7 +2,7 @@
 use mathlib.Core.Path.{◌≡◌}
 use mathlib.Core.Bool.{true}
 use mathlib.Core.List.{List}
-use mathlib.Core.Option.{some}
+use Rattle.std.specs.Prelude.{Some}
 use native.Mathlib.Omega.{arith}
 use Rattle.sheet.specs.Types.{Fields, end, field}
 use Rattle.sheet.specs.Names.{names_differ}
@@ -28,7 +28,7 @@ pub right_sound : (t : DataType) → FieldsRight 0 (single t) → Sound t
 right_sound t h = (own_right h.0, h.1.0)
 
 -- the common type of two types
-pub coercion_right : (rules : Rules) (l r t : DataType) → TypeRight l → TypeRight r → coercion rules l r ≡ some t → TypeRight t
+pub coercion_right : (rules : Rules) (l r t : DataType) → TypeRight l → TypeRight r → coercion rules l r ≡ Some t → TypeRight t
 coercion_right rules l r t hl hr e =
     let dl = differ_apart (single l) hl.1 in
     let dr = differ_apart (single r) hr.1 in
@@ -47,7 +47,7 @@ answer_sound q rules ts h =
     answer_kept Sound (λ t. 0) rules (λ l r hl hr. if_weak Sound (Under Sound (λ t. 0) 0) (coercion rules l r) (coercion_sound rules l r hl hr) (λ t g. (g, omega arith))) q ts h
 
 -- the answer for a list that a sheet carries
-pub answer_carried : (q : Question) (rules : Rules) (ts : Fields) (t : DataType) → Carried ts → answer_of q rules (types_of ts) ≡ some t → Carried (single t)
+pub answer_carried : (q : Question) (rules : Rules) (ts : Fields) (t : DataType) → Carried ts → answer_of q rules (types_of ts) ≡ Some t → Carried (single t)
 answer_carried q rules ts t h e =
     record {
       few = omega (arith, h.few, answer_smaller q rules ts t h.differ e);

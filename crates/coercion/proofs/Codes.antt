@@ -1,7 +1,7 @@
 -- A family whose members are numbered: its join by the join of the numbers. Assumes nothing.
 use mathlib.Core.Path.{◌≡◌, ap, sym, subst, ◌∙◌}
 use mathlib.Core.Bool.{false}
-use mathlib.Core.Option.{Option, some}
+use Rattle.std.specs.Prelude.{Option, Some}
 use Prim.Native.Nat.{ℕ}
 use Rattle.coercion.specs.Data.{DataType}
 use Rattle.coercion.specs.Rules.{is_null}
@@ -14,7 +14,7 @@ pub record Coded (f : Family) {C : Type 0} (type_at : C → DataType) (Good : C 
   pub code : (t : DataType) → Member f t → (c : C) × (Good c × (t ≡ type_at c))
   pub back : (c : C) → Good c → Member f (type_at c)
   pub solid : (c : C) → Good c → is_null (type_at c) ≡ false
-  pub answers : (m : ℕ) (c d : C) → Good c → Good d → coercion (asking m) (type_at c) (type_at d) ≡ some (type_at (up c d))
+  pub answers : (m : ℕ) (c d : C) → Good c → Good d → coercion (asking m) (type_at c) (type_at d) ≡ Some (type_at (up c d))
   pub closed : (c d : C) → Good c → Good d → Good (up c d)
   pub comm : (c d : C) → Good c → Good d → up c d ≡ up d c
   pub assoc : (c d e : C) → Good c → Good d → Good e → up (up c d) e ≡ up c (up d e)
@@ -40,8 +40,8 @@ module _ (f : Family) {C : Type 0} (type_at : C → DataType) (Good : C → Type
   coded_joins =
       record {
         solid = of_one (λ (x : DataType). is_null x ≡ false) laws.solid;
-        answers = λ m. of_two (λ (x y : DataType). coercion (asking m) x y ≡ some (join x y))
-            (λ c d g h. laws.answers m c d g h ∙ ap {B = Option DataType} some (sym (joined c d g h)));
+        answers = λ m. of_two (λ (x y : DataType). coercion (asking m) x y ≡ Some (join x y))
+            (λ c d g h. laws.answers m c d g h ∙ ap {B = Option DataType} Some (sym (joined c d g h)));
         closed = of_two (λ (x y : DataType). Member f (join x y))
             (λ c d g h. subst (Member f) (sym (joined c d g h)) (laws.back (up c d) (laws.closed c d g h)));
         comm = of_two (λ (x y : DataType). join x y ≡ join y x)

@@ -2,7 +2,7 @@
 use mathlib.Core.Path.{◌≡◌, refl}
 use mathlib.Core.Bool.{true}
 use mathlib.Core.List.{List, [], ◌∷◌}
-use mathlib.Core.Option.{some}
+use Rattle.std.specs.Prelude.{Some}
 use Prim.Native.Nat.{ℕ, max}
 use Rattle.sheet.specs.Kind.{is_decimal}
 use Rattle.coercion.specs.Data.{DataType}
@@ -18,7 +18,7 @@ use Rattle.coercion.proofs.Outgrowing.{decimals_common}
 -- the list answer of a list of the family is the common type, whatever the mask, the order and the cutting
 pub record Settled (f : Family) : Type 0 where
   pub laws : Joins f
-  pub resolves : (m : ℕ) (t : DataType) (ts : List DataType) → AllIn f (t ∷ ts) → type_union_resolution (asking m) (t ∷ ts) ≡ some (all (t ∷ ts))
+  pub resolves : (m : ℕ) (t : DataType) (ts : List DataType) → AllIn f (t ∷ ts) → type_union_resolution (asking m) (t ∷ ts) ≡ Some (all (t ∷ ts))
   pub common : (ts : List DataType) → AllIn f ts → SomeIn f ts → Common f ts (all ts)
 
 integers_joins : Joins integers

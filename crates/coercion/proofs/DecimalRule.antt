@@ -2,7 +2,7 @@
 use mathlib.Core.Path.{◌≡◌, refl, sym, ◌∙◌, ap, ap₂}
 use mathlib.Core.Bool.{Bool, true, false, cond, ◌&&◌}
 use mathlib.Core.List.{[], ◌∷◌}
-use mathlib.Core.Option.{Option, none, some}
+use Rattle.std.specs.Prelude.{Option, None, Some}
 use Prim.Native.Nat.{ℕ, ◌+◌, ◌-◌, ◌%◌, ◌<◌, ◌≤◌, min, max}
 use native.Mathlib.Omega.{arith}
 use lib.Dec.{leb, eqb}
@@ -162,11 +162,11 @@ unfolding is_decimal between
 decimal_kinds w d = (leb-true 14 w (and_fst (leb 14 w) _ d), leb-true w 17 (and_snd (leb 14 w) _ d))
 
 -- a first rule that gives what the next one gives
-listed : {a b : DataType} (test : Bool) → (test ≡ true → some a ≡ some b) → cond test (some a) (some b) ≡ some b
+listed : {a b : DataType} (test : Bool) → (test ≡ true → Some a ≡ Some b) → cond test (Some a) (Some b) ≡ Some b
 listed true f = f refl
 listed false f = refl
 
-paired : {a b : DataType} (test : Bool) → (test ≡ true → some a ≡ some b) → or_else (cond test (some a) none) (some b) ≡ some b
+paired : {a b : DataType} (test : Bool) → (test ≡ true → Some a ≡ Some b) → or_else (cond test (Some a) None) (Some b) ≡ Some b
 paired true f = f refl
 paired false f = refl
 
@@ -176,30 +176,30 @@ module _ (w p s q t : ℕ) (d : is_decimal w ≡ true) (x : decimal_right (cap w
   numeric = let e = decimal_kinds w d in rw (le-leb 3 w (omega arith), le-leb w 17 (omega arith))
 
   -- where the two are one decimal
-  same_wider : p ≡ q → s ≡ t → some (decimal_of w p s) ≡ some (get_wider_decimal_type (decimal_of w p s) (decimal_of w q t))
+  same_wider : p ≡ q → s ≡ t → Some (decimal_of w p s) ≡ Some (get_wider_decimal_type (decimal_of w p s) (decimal_of w q t))
   same_wider e f =
-      ap {B = Option Figures} some (sym (wider_self w p s x h) ∙ ap₂ (λ (q t : ℕ). get_wider_decimal_type (decimal_of w p s) (decimal_of w q t)) e f)
+      ap {B = Option Figures} Some (sym (wider_self w p s x h) ∙ ap₂ (λ (q t : ℕ). get_wider_decimal_type (decimal_of w p s) (decimal_of w q t)) e f)
 
   -- the rule for numbers gives it
-  numeric_wider : binary_numeric_coercion (decimal_of w p s) (decimal_of w q t) ≡ some (get_wider_decimal_type (decimal_of w p s) (decimal_of w q t))
+  numeric_wider : binary_numeric_coercion (decimal_of w p s) (decimal_of w q t) ≡ Some (get_wider_decimal_type (decimal_of w p s) (decimal_of w q t))
   unfolding binary_numeric_coercion decimal_coercion
   numeric_wider = rw (numeric, d, eq-eqb w w refl) (go (eqb p q && eqb s t) refl)
     where
-      go : (b : Bool) → (eqb p q && eqb s t) ≡ b → cond b (some (decimal_of w p s)) (some (get_wider_decimal_type (decimal_of w p s) (decimal_of w q t)))
-          ≡ some (get_wider_decimal_type (decimal_of w p s) (decimal_of w q t))
+      go : (b : Bool) → (eqb p q && eqb s t) ≡ b → cond b (Some (decimal_of w p s)) (Some (get_wider_decimal_type (decimal_of w p s) (decimal_of w q t)))
+          ≡ Some (get_wider_decimal_type (decimal_of w p s) (decimal_of w q t))
       go true e = same_wider (eqb-true p q (and_fst _ _ e)) (eqb-true s t (and_snd (eqb p q) _ e))
       go false e = refl
 
   -- where two decimals are alike they are one
   alike_one : (named : Bool) → same_type named (plain (decimal_of w p s)) (plain (decimal_of w q t)) ≡ true
-      → some (plain (decimal_of w p s)) ≡ some (plain (get_wider_decimal_type (decimal_of w p s) (decimal_of w q t)))
+      → Some (plain (decimal_of w p s)) ≡ Some (plain (get_wider_decimal_type (decimal_of w p s) (decimal_of w q t)))
   alike_one named a =
       let e = type_equal named _ _ a in
       ap as_type (same_wider (ap (λ (u : DataType). u.shape.figure) e) (ap (λ (u : DataType). u.shape.scale) e))
 
   decimals_asked : (question : Question) (mask : ℕ) (coerce : DataType → DataType → Option DataType)
       → ask question (record { question = question; mask = mask }) coerce (plain (decimal_of w p s)) (plain (decimal_of w q t))
-      ≡ some (plain (get_wider_decimal_type (decimal_of w p s) (decimal_of w q t)))
+      ≡ Some (plain (get_wider_decimal_type (decimal_of w p s) (decimal_of w q t)))
   unfolding first_of
   decimals_asked list mask coerce =
       let e = decimal_kinds w d in
@@ -210,5 +210,5 @@ module _ (w p s q t : ℕ) (d : is_decimal w ≡ true) (x : decimal_right (cap w
 
   -- the answer of all three questions, whatever the mask
   pub decimals_answer : (rules : Rules)
-      → coercion rules (plain (decimal_of w p s)) (plain (decimal_of w q t)) ≡ some (plain (get_wider_decimal_type (decimal_of w p s) (decimal_of w q t)))
+      → coercion rules (plain (decimal_of w p s)) (plain (decimal_of w q t)) ≡ Some (plain (get_wider_decimal_type (decimal_of w p s) (decimal_of w q t)))
   decimals_answer rules = coercion_step rules _ _ ∙ decimals_asked rules.question rules.mask _

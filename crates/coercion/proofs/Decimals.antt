@@ -1,7 +1,7 @@
 -- The decimals of one width: their join by the greatest scale and the greatest p − s, held to the cap. Assumes nothing.
 use mathlib.Core.Path.{◌≡◌, refl, ap, ap₂, sym, subst, ◌∙◌}
 use mathlib.Core.Bool.{true, false, cond}
-use mathlib.Core.Option.{Option, some}
+use Rattle.std.specs.Prelude.{Option, Some}
 use Prim.Native.Nat.{ℕ, ◌+◌, ◌-◌, ◌%◌, ◌<◌, ◌≤◌, min, max}
 use native.Mathlib.Omega.{arith}
 use native.Mathlib.Decide.{ℕ_discrete, dec_le}
@@ -88,16 +88,16 @@ twice k p s q t h b e d = rw (e, d) (omega arith)
 
 -- what the rules come to
 numeric_comes : {w : ℕ} → Width w → (p s q t : ℕ) → binary_numeric_coercion (decimal w p s) (decimal w q t)
-    ≡ cond (same_figures (decimal w p s) (decimal w q t)) (some (decimal w p s)) (some (get_wider_decimal_type (decimal w p s) (decimal w q t)))
+    ≡ cond (same_figures (decimal w p s) (decimal w q t)) (Some (decimal w p s)) (Some (get_wider_decimal_type (decimal w p s) (decimal w q t)))
 unfolding binary_numeric_coercion decimal_coercion is_decimal between
 numeric_comes w32 p s q t = refl
 numeric_comes w64 p s q t = refl
 numeric_comes w128 p s q t = refl
 numeric_comes w256 p s q t = refl
 
-coercion_comes : {w : ℕ} → Width w → (m p s q t : ℕ) (j : Figures) → binary_numeric_coercion (decimal w p s) (decimal w q t) ≡ some j
+coercion_comes : {w : ℕ} → Width w → (m p s q t : ℕ) (j : Figures) → binary_numeric_coercion (decimal w p s) (decimal w q t) ≡ Some j
     → coercion (asking m) (plain (decimal w p s)) (plain (decimal w q t))
-    ≡ cond (equal (plain (decimal w p s)) (plain (decimal w q t))) (some (plain (decimal w p s))) (some (plain j))
+    ≡ cond (equal (plain (decimal w p s)) (plain (decimal w q t))) (Some (plain (decimal w p s))) (Some (plain j))
 unfolding coercion coerce_in count first_of
 coercion_comes w32 m p s q t j e = rw e
 coercion_comes w64 m p s q t j e = rw e
@@ -118,21 +118,21 @@ module _ (w p s q t : ℕ) (hp : p ≤ cap w) (hs : s < 256) (ht : t < 256) (ks 
       same_figures_lem (eqb-true p q (and_fst (eqb p q) _ r)) (eqb-true ((s + 128) % 256) ((t + 128) % 256) (and_snd (eqb p q) _ r))
 
   numeric_answer : Width w → binary_numeric_coercion (decimal w p s) (decimal w q t)
-      ≡ some (decimal w (min (cap w) (max (p + 256 - s) (q + 256 - t) + max s t - 256)) (max s t))
+      ≡ Some (decimal w (min (cap w) (max (p + 256 - s) (q + 256 - t) + max s t - 256)) (max s t))
   numeric_answer v =
       numeric_comes v p s q t
-      ∙ by_test (same_figures (decimal w p s) (decimal w q t)) (λ e. ap {B = Option Figures} some (same_test e))
-      (λ e. ap {B = Option Figures} some (joined w p s q t hp hs ht ks kt))
+      ∙ by_test (same_figures (decimal w p s) (decimal w q t)) (λ e. ap {B = Option Figures} Some (same_test e))
+      (λ e. ap {B = Option Figures} Some (joined w p s q t hp hs ht ks kt))
 
   -- the list rule for them, whatever the mask
   decimal_answer : Width w → (m : ℕ) → coercion (asking m) (plain (decimal w p s)) (plain (decimal w q t))
-      ≡ some (plain (decimal w (min (cap w) (max (p + 256 - s) (q + 256 - t) + max s t - 256)) (max s t)))
+      ≡ Some (plain (decimal w (min (cap w) (max (p + 256 - s) (q + 256 - t) + max s t - 256)) (max s t)))
   decimal_answer v m =
       coercion_comes v m p s q t _ (numeric_answer v)
       ∙ by_test (equal (plain (decimal w p s)) (plain (decimal w q t)))
       (λ e.
       let u = equal_plain (plain (decimal w p s)) (decimal w q t) e in
-      ap (λ (g : Figures). some (plain g))
+      ap (λ (g : Figures). Some (plain g))
       (same_figures_lem (ap (λ (x : DataType). x.shape.figure) u) (ap (λ (x : DataType). x.shape.scale) u)))
       (λ e. refl)
 
@@ -229,7 +229,7 @@ module _ (w : ℕ) (known : is_decimal w ≡ true) where
       go w128 = refl
       go w256 = refl
 
-  answer : (m : ℕ) (d e : Extent) → Real w d → Real w e → coercion (asking m) (decimal_at w d) (decimal_at w e) ≡ some (decimal_at w (widen d e))
+  answer : (m : ℕ) (d e : Extent) → Real w d → Real w e → coercion (asking m) (decimal_at w d) (decimal_at w e) ≡ Some (decimal_at w (widen d e))
   answer m d e g h =
       let c = cap_bounds (width w known) in
       let ga = g.digits in
@@ -238,7 +238,7 @@ module _ (w : ℕ) (known : is_decimal w ≡ true) where
       let hs = h.held in
       decimal_answer w (min (cap w) (d.ahead + d.scale - 256)) d.scale (min (cap w) (e.ahead + e.scale - 256)) e.scale
       (omega arith) (omega arith) (omega arith) gs hs (width w known) m
-      ∙ ap (λ (p : ℕ). some (plain (decimal w p (max d.scale e.scale))))
+      ∙ ap (λ (p : ℕ). Some (plain (decimal w p (max d.scale e.scale))))
       (clamp (cap w) d.ahead d.scale e.ahead e.scale ga ha (omega arith) (omega arith))
 
   closed : (d e : Extent) → Real w d → Real w e → Real w (widen d e)

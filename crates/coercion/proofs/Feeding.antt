@@ -3,7 +3,7 @@ use mathlib.Core.Path.{◌≡◌, refl, sym, ◌∙◌, ap, ap₂}
 use mathlib.Core.Bool.{Bool, true, false, cond, ◌&&◌, ◌||◌}
 use mathlib.Core.List.Permᴰ
 use mathlib.Core.List.{List, [], ◌∷◌, map, Permᴰ}
-use mathlib.Core.Option.{Option, none, some}
+use Rattle.std.specs.Prelude.{Option, None, Some}
 use Prim.Native.Nat.{ℕ, ◌+◌}
 use native.Mathlib.Omega.{arith}
 use lib.ListN.{length}
@@ -46,7 +46,7 @@ same_back n m h = go (same_bytes m n) refl
 record Picked (name : List ℕ) (r : Fields) : Type 0 where
   row : Row
   named : row.name ≡ name
-  found : (more : Fields) → with_name name r more ≡ some (put row more)
+  found : (more : Fields) → with_name name r more ≡ Some (put row more)
   others : Permᴰ (rows_of r) (row ∷ rows_of (without name r))
   fewer : arity r ≡ 1 + arity (without name r)
 
@@ -108,8 +108,8 @@ module _ (n : List ℕ) where
       rw (by_others q r (or_snd (same_bytes n m) _ h)) (go (by_name q r))
     where
       go : (o : Option Fields) → and_then o (λ more. with_name m (without n r) more) ≡ and_then o (λ more. with_name m r more)
-      go none = refl
-      go (some more) = with_other n m (same_back n m (or_fst _ _ h)) r more
+      go None = refl
+      go (Some more) = with_other n m (same_back n m (or_fst _ _ h)) r more
 
   same_others : (l r : Fields) → has_name n l ≡ false → fields_have_same_names l (without n r) ≡ fields_have_same_names l r
   unfolding has_name fields_have_same_names
@@ -120,7 +120,7 @@ module _ (n : List ℕ) where
 -- The right's fields in the left's order: each of them once, under the left's names.
 pub record Matched (l r : Fields) : Type 0 where
   pub fields : Fields
-  pub found : by_name l r ≡ some fields
+  pub found : by_name l r ≡ Some fields
   pub named : names_of fields ≡ names_of l
   pub once : Permᴰ (rows_of r) (rows_of fields)
 
@@ -148,14 +148,14 @@ unfolding partners
 partners_by_name l r h = rw h
 
 -- "otherwise by place"
-pub partners_by_place : (l r : Fields) → fields_have_same_names l r ≡ false → partners l r ≡ some r
+pub partners_by_place : (l r : Fields) → fields_have_same_names l r ≡ false → partners l r ≡ Some r
 unfolding partners
 partners_by_place l r h = rw h
 
 -- Whichever way the fields are paired, each of the right's feeds exactly one of the left's.
 pub record Fed (l r : Fields) : Type 0 where
   pub fields : Fields
-  pub are : partners l r ≡ some fields
+  pub are : partners l r ≡ Some fields
   pub once : Permᴰ (rows_of r) (rows_of fields)
 
 pub fed : (l r : Fields) → repeats l ≡ false → arity l ≡ arity r → Fed l r
@@ -166,26 +166,26 @@ fed l r d a = go (fields_have_same_names l r) refl
     go false e = record { fields = r; are = partners_by_place l r e; once = Permᴰ.refl (rows_of r) }
 
 -- what is found by names has them, in their order
-with_name_lem : (name : List ℕ) (r more t : Fields) → with_name name r more ≡ some t → names_of t ≡ name ∷ names_of more
+with_name_lem : (name : List ℕ) (r more t : Fields) → with_name name r more ≡ Some t → names_of t ≡ name ∷ names_of more
 unfolding with_name rows_of
 with_name_lem name end more t h = let z : ◌≡◌ {A = ℕ} 0 1 = cc in absurd (omega arith)
 with_name_lem name (field n b s p q) more t h = go (same_bytes name n) refl (with_name_lem name q more t)
   where
-    go : (u : Bool) → same_bytes name n ≡ u → (with_name name q more ≡ some t → names_of t ≡ name ∷ names_of more) → names_of t ≡ name ∷ names_of more
+    go : (u : Bool) → same_bytes name n ≡ u → (with_name name q more ≡ Some t → names_of t ≡ name ∷ names_of more) → names_of t ≡ name ∷ names_of more
     go true e f =
-        let i : some (field n b s p more) ≡ some t = rw e at h in
+        let i : Some (field n b s p more) ≡ Some t = rw e at h in
         let j : field n b s p more ≡ t = cc in
         ap names_of (sym j) ∙ ap (λ (x : List ℕ). x ∷ names_of more) (sym (same_equal name n e))
     go false e f = f (rw e at h)
 
-pub by_name_names : (l r t : Fields) → by_name l r ≡ some t → names_of t ≡ names_of l
+pub by_name_names : (l r t : Fields) → by_name l r ≡ Some t → names_of t ≡ names_of l
 unfolding by_name rows_of
 by_name_names end r t h = let e : end ≡ t = cc in ap names_of (sym e)
 by_name_names (field n b s p q) r t h = go (by_name q r) refl (by_name_names q r)
   where
-    go : (o : Option Fields) → by_name q r ≡ o → ((m : Fields) → by_name q r ≡ some m → names_of m ≡ names_of q) → names_of t ≡ n ∷ names_of q
-    go none e f = let i : none ≡ some t = rw e at h in let z : ◌≡◌ {A = ℕ} 0 1 = cc in absurd (omega arith)
-    go (some m) e f = with_name_lem n r m t (rw e at h) ∙ ap (λ (x : List (List ℕ)). n ∷ x) (f m e)
+    go : (o : Option Fields) → by_name q r ≡ o → ((m : Fields) → by_name q r ≡ Some m → names_of m ≡ names_of q) → names_of t ≡ n ∷ names_of q
+    go None e f = let i : None ≡ Some t = rw e at h in let z : ◌≡◌ {A = ℕ} 0 1 = cc in absurd (omega arith)
+    go (Some m) e f = with_name_lem n r m t (rw e at h) ∙ ap (λ (x : List (List ℕ)). n ∷ x) (f m e)
 
 -- what is paired has as many fields
 names_arity : (t : Fields) → length (names_of t) ≡ arity t
@@ -193,35 +193,35 @@ unfolding rows_of arity
 names_arity end = refl
 names_arity (field n b s p q) = let e = names_arity q in omega arith
 
-pub partners_arity : (l r t : Fields) → arity l ≡ arity r → partners l r ≡ some t → arity l ≡ arity t
+pub partners_arity : (l r t : Fields) → arity l ≡ arity r → partners l r ≡ Some t → arity l ≡ arity t
 partners_arity l r t a h = go (fields_have_same_names l r) refl
   where
     go : (u : Bool) → fields_have_same_names l r ≡ u → arity l ≡ arity t
     go true e = sym (names_arity l) ∙ ap length (sym (by_name_names l r t (sym (partners_by_name l r e) ∙ h))) ∙ names_arity t
     go false e =
-        let i : some r ≡ some t = sym (partners_by_place l r e) ∙ h in
+        let i : Some r ≡ Some t = sym (partners_by_place l r e) ∙ h in
         let j : r ≡ t = cc in
         a ∙ ap arity j
 
 -- only what is there is found
-with_has : (name : List ℕ) (r more t : Fields) → with_name name r more ≡ some t → has_name name r ≡ true
+with_has : (name : List ℕ) (r more t : Fields) → with_name name r more ≡ Some t → has_name name r ≡ true
 unfolding with_name has_name
 with_has name end more t h = let z : ◌≡◌ {A = ℕ} 0 1 = cc in absurd (omega arith)
 with_has name (field n b s p q) more t h = go (same_bytes name n) refl (with_has name q more t)
   where
-    go : (u : Bool) → same_bytes name n ≡ u → (with_name name q more ≡ some t → has_name name q ≡ true) → (u || has_name name q) ≡ true
+    go : (u : Bool) → same_bytes name n ≡ u → (with_name name q more ≡ Some t → has_name name q ≡ true) → (u || has_name name q) ≡ true
     go true e f = refl
     go false e f = f (rw e at h)
 
-pub by_name_found : (l r t : Fields) → by_name l r ≡ some t → fields_have_same_names l r ≡ true
+pub by_name_found : (l r t : Fields) → by_name l r ≡ Some t → fields_have_same_names l r ≡ true
 unfolding by_name fields_have_same_names
 by_name_found end r t h = refl
 by_name_found (field n b s p q) r t h = go (by_name q r) refl (by_name_found q r)
   where
-    go : (o : Option Fields) → by_name q r ≡ o → ((m : Fields) → by_name q r ≡ some m → fields_have_same_names q r ≡ true)
+    go : (o : Option Fields) → by_name q r ≡ o → ((m : Fields) → by_name q r ≡ Some m → fields_have_same_names q r ≡ true)
         → (has_name n r && fields_have_same_names q r) ≡ true
-    go none e f = let i : none ≡ some t = rw e at h in let z : ◌≡◌ {A = ℕ} 0 1 = cc in absurd (omega arith)
-    go (some m) e f = rw (with_has n r m t (rw e at h), f m e)
+    go None e f = let i : None ≡ Some t = rw e at h in let z : ◌≡◌ {A = ℕ} 0 1 = cc in absurd (omega arith)
+    go (Some m) e f = rw (with_has n r m t (rw e at h), f m e)
 
 -- whether a name is one of several
 unfoldable among : List ℕ → List (List ℕ) → Bool

@@ -2,7 +2,7 @@
 use mathlib.Core.Path.{◌≡◌, refl, ap, sym, ◌∙◌}
 use mathlib.Core.Bool.{cond, ◌&&◌, ◌||◌}
 use mathlib.Core.List.{List, [], ◌∷◌}
-use mathlib.Core.Option.{Option, none, some}
+use Rattle.std.specs.Prelude.{Option, None, Some}
 use Prim.Native.Nat.{ℕ, zero, suc, ◌+◌, ◌<◌, ◌≤◌}
 use native.Mathlib.Omega.{arith}
 use lib.Dec.{eqb}
@@ -39,7 +39,7 @@ pub within_named : (m : ℕ) (name : List ℕ) (r rest : Fields) → Within m r 
 unfolding with_name
 within_named m name end rest h k = tt
 within_named m name (field name' nullable shape parts more) rest h k =
-    if_cond (Within m) (same_bytes name name') (some (field name' nullable shape parts rest)) (with_name name more rest)
+    if_cond (Within m) (same_bytes name name') (Some (field name' nullable shape parts rest)) (with_name name more rest)
     (λ e. (h.0, k)) (λ e. within_named m name more rest h.1 k)
 
 pub within_by_name : (m : ℕ) (l r : Fields) → Within m r → If (Within m) (by_name l r)
@@ -51,7 +51,7 @@ within_by_name m (field name nullable shape parts rest) r h =
 pub within_partners : (m : ℕ) (l r : Fields) → Within m r → If (Within m) (partners l r)
 unfolding partners
 within_partners m l r h =
-    if_cond (Within m) (fields_have_same_names l r) (by_name l r) (some r) (λ e. within_by_name m l r h) (λ e. h)
+    if_cond (Within m) (fields_have_same_names l r) (by_name l r) (Some r) (λ e. within_by_name m l r h) (λ e. h)
 
 -- the value of a wrapper, and the entry of a map, are smaller
 pub value_small : (f : Fields) → If (λ t. size t ≤ count f) (value_in f)
@@ -83,7 +83,7 @@ module _ (n : ℕ) (c d : DataType → DataType → Option DataType) (agree : Ag
   join_same m (field n₁ b₁ s₁ p₁ q₁) (field n₂ b₂ s₂ p₂ q₂) (field n₃ b₃ s₃ p₃ q₃) h w =
       let e = agree.at (record { shape = s₁; parts = p₁ }) (record { shape = s₂; parts = p₂ }) (omega arith) in
       let e' = join_same m q₁ q₂ q₃ (omega arith) w.1 in
-      λ i. and_then (e i) (λ t. and_then (e' i) (λ fields. some (before n₁ (b₁ || b₃) t fields)))
+      λ i. and_then (e i) (λ t. and_then (e' i) (λ fields. Some (before n₁ (b₁ || b₃) t fields)))
 
   module _ (l r : DataType) (le : size l + size r ≤ n) where
     wrapper_same : (k : ℕ) → wrapper_coercion k c l r ≡ wrapper_coercion k d l r
@@ -91,21 +91,21 @@ module _ (n : ℕ) (c d : DataType → DataType → Option DataType) (agree : Ag
     wrapper_same k =
         let p = then_same _ (value_in l.parts) _ _ (value_small l.parts)
         (λ v h. then_same _ (value_in r.parts) _ _ (value_small r.parts) (λ w g. agree.at v w (omega arith))) in
-        let q = then_same _ (value_in l.parts) _ _ (value_small l.parts) (λ v h. ap (λ t. cond (equal v r) (some l) t) (agree.at v r (omega arith))) in
-        let s = then_same _ (value_in r.parts) _ _ (value_small r.parts) (λ w h. ap (λ t. cond (equal w l) (some r) t) (agree.at l w (omega arith))) in
-        λ i. cond (is_of k l && is_of k r) (p i) (cond (is_of k l) (q i) (cond (is_of k r) (s i) none))
+        let q = then_same _ (value_in l.parts) _ _ (value_small l.parts) (λ v h. ap (λ t. cond (equal v r) (Some l) t) (agree.at v r (omega arith))) in
+        let s = then_same _ (value_in r.parts) _ _ (value_small r.parts) (λ w h. ap (λ t. cond (equal w l) (Some r) t) (agree.at l w (omega arith))) in
+        λ i. cond (is_of k l && is_of k r) (p i) (cond (is_of k l) (q i) (cond (is_of k r) (s i) None))
 
     struct_same : struct_coercion c l r ≡ struct_coercion d l r
     unfolding struct_coercion
     struct_same =
-        ap (λ t. cond (is_of Kind.struct l && (is_of Kind.struct r && eqb (arity l.parts) (arity r.parts))) (struct_of t) none)
+        ap (λ t. cond (is_of Kind.struct l && (is_of Kind.struct r && eqb (arity l.parts) (arity r.parts))) (struct_of t) None)
         (then_same (Within (count r.parts)) (partners l.parts r.parts) (λ f. join_fields c l.parts f f) (λ f. join_fields d l.parts f f)
         (within_partners _ l.parts r.parts (within_own r.parts)) (λ f w. join_same (count r.parts) l.parts f f (omega arith) w))
 
     list_same : list_coercion c l r ≡ list_coercion d l r
     unfolding list_coercion
     list_same =
-        ap (λ t. cond (is_list l.shape.kind && is_list r.shape.kind) (list_of (list_shape l.shape r.shape) t) none)
+        ap (λ t. cond (is_list l.shape.kind && is_list r.shape.kind) (list_of (list_shape l.shape r.shape) t) None)
         (join_same (count r.parts) l.parts r.parts r.parts (omega arith) (within_own r.parts))
 
     both_same : (p q : Fields) → count p ≤ count l.parts → count q ≤ count r.parts → both_parts c l p q ≡ both_parts d l p q
@@ -117,11 +117,11 @@ module _ (n : ℕ) (c d : DataType → DataType → Option DataType) (agree : Ag
     both_same (field n₁ b₁ s₁ p₁ (field n₂ b₂ s₂ p₂ q₁)) (field m₁ c₁ t₁ u₁ (field m₂ c₂ t₂ u₂ v₁)) h k =
         let e = agree.at (record { shape = s₁; parts = p₁ }) (record { shape = t₁; parts = u₁ }) (omega arith) in
         let e' = agree.at (record { shape = s₂; parts = p₂ }) (record { shape = t₂; parts = u₂ }) (omega arith) in
-        λ i. and_then (e i) (λ x. and_then (e' i) (λ y. some (record { shape = l.shape; parts = before n₁ b₁ x (before n₂ b₂ y end) })))
+        λ i. and_then (e i) (λ x. and_then (e' i) (λ y. Some (record { shape = l.shape; parts = before n₁ b₁ x (before n₂ b₂ y end) })))
 
     list_struct_same : list_struct c l r ≡ list_struct d l r
     list_struct_same =
-        ap (λ t. cond (eqb (arity l.parts) (arity r.parts)) (struct_of t) none)
+        ap (λ t. cond (eqb (arity l.parts) (arity r.parts)) (struct_of t) None)
         (then_same (Within (count r.parts)) (by_name l.parts r.parts) (λ f. join_fields c l.parts f r.parts) (λ f. join_fields d l.parts f r.parts)
         (within_by_name _ l.parts r.parts (within_own r.parts)) (λ f w. join_same (count r.parts) l.parts f r.parts (omega arith) w))
 
@@ -133,10 +133,10 @@ module _ (n : ℕ) (c d : DataType → DataType → Option DataType) (agree : Ag
   map_same : (l r : DataType) → size l + size r ≤ n → map_coercion c l r ≡ map_coercion d l r
   unfolding map_coercion
   map_same l r le =
-      ap (λ t. cond (is_of Kind.map l && is_of Kind.map r) t none)
+      ap (λ t. cond (is_of Kind.map l && is_of Kind.map r) t None)
       (then_same _ (entry_type l.parts) _ _ (entry_small l.parts)
       (λ a h. then_same _ (entry_type r.parts) _ _ (entry_small r.parts)
-      (λ b g. ap (λ o. and_then o (λ t. some (record { shape = map_shape (l.shape.sorted && r.shape.sorted); parts = entry_of l.parts t }))) (struct_same a b (omega arith)))))
+      (λ b g. ap (λ o. and_then o (λ t. Some (record { shape = map_shape (l.shape.sorted && r.shape.sorted); parts = entry_of l.parts t }))) (struct_same a b (omega arith)))))
 
 -- so do the questions
 module _ (rules : Rules) (l r : DataType) (c d : DataType → DataType → Option DataType) (agree : Agree (size l + size r) c d) where
@@ -149,7 +149,7 @@ module _ (rules : Rules) (l r : DataType) (c d : DataType → DataType → Optio
       let structs = struct_same n c d agree l r (omega arith) in
       let maps = map_same n c d agree l r (omega arith) in
       λ i. first_of
-      (cond (alike l r) (some l) none
+      (cond (alike l r) (Some l) None
       ∷ as_type (binary_numeric_coercion (figures_of l) (figures_of r))
       ∷ dict i
       ∷ ree i
@@ -175,7 +175,7 @@ module _ (rules : Rules) (l r : DataType) (c d : DataType → DataType → Optio
       let structs = list_struct_same n c d agree l r (omega arith) in
       let lists = list_same n c d agree l r (omega arith) in
       let maps = map_same n c d agree l r (omega arith) in
-      λ i. cond (equal l r) (some l)
+      λ i. cond (equal l r) (Some l)
       (cond (is_of Kind.dictionary l && is_of Kind.dictionary r) (both i)
       (cond (is_of Kind.dictionary l) (keep i)
       (cond (is_of Kind.dictionary r) (keep' i)

@@ -2,7 +2,7 @@
 use mathlib.Core.Path.{◌≡◌, refl, ap, ap₂, sym, subst, ◌∙◌}
 use mathlib.Core.Bool.{false, cond}
 use mathlib.Core.List.{List, [], ◌∷◌, ◌++◌, map, flatten, Permᴰ}
-use mathlib.Core.Option.{Option, none, some}
+use Rattle.std.specs.Prelude.{Option, None, Some}
 use Prim.Native.Nat.{ℕ}
 use Rattle.coercion.specs.Data.{DataType, Rules, list}
 use Rattle.coercion.specs.Rules.{is_null}
@@ -14,8 +14,8 @@ abbrev pub asking : ℕ → Rules
 asking m = record { question = list; mask = m }
 
 abbrev pub or_null : Option DataType → DataType
-or_null none = null_type
-or_null (some t) = t
+or_null None = null_type
+or_null (Some t) = t
 
 -- the common type of two types of a family, with Null as the unit
 unfoldable pub join : DataType → DataType → DataType
@@ -29,7 +29,7 @@ all (t ∷ ts) = join t (all ts)
 -- what is shown of each family
 pub record Joins (f : Family) : Type 0 where
   pub solid : (x : DataType) → Member f x → is_null x ≡ false
-  pub answers : (m : ℕ) (x y : DataType) → Member f x → Member f y → coercion (asking m) x y ≡ some (join x y)
+  pub answers : (m : ℕ) (x y : DataType) → Member f x → Member f y → coercion (asking m) x y ≡ Some (join x y)
   pub closed : (x y : DataType) → Member f x → Member f y → Member f (join x y)
   pub comm : (x y : DataType) → Member f x → Member f y → join x y ≡ join y x
   pub assoc : (x y z : DataType) → Member f x → Member f y → Member f z → join (join x y) z ≡ join x (join y z)

@@ -2,7 +2,7 @@
 use mathlib.Core.Path.{◌≡◌, refl, sym, ◌∙◌}
 use mathlib.Core.Bool.{true, false}
 use mathlib.Core.List.{List, map, Memᴰ}
-use mathlib.Core.Option.{Option, none, some}
+use Rattle.std.specs.Prelude.{Option, None, Some}
 use Prim.Native.Nat.{ℕ}
 use native.Mathlib.Omega.{arith}
 use native.Mathlib.Decide.{ℕ_discrete}
@@ -22,11 +22,11 @@ use Rattle.coercion.proofs.Words.{Pairs, by_place, Merged, all_some, merged_some
 
 module _ (rules : Rules) (q : Pairs rules.question) (l r : DataType) (ours : is_of Kind.struct l ≡ true) (theirs : is_of Kind.struct r ≡ true) where
   -- "Where the layouts are alike, the union answer is our layout"
-  pub layouts_alike : alike l r ≡ true → coercion rules l r ≡ some l
+  pub layouts_alike : alike l r ≡ true → coercion rules l r ≡ Some l
   layouts_alike h = alike_left rules q l r h
 
   -- "unequal numbers of columns answer none"
-  pub layouts_unequal : (arity l.parts ≡ arity r.parts → ⊥) → coercion rules l r ≡ none
+  pub layouts_unequal : (arity l.parts ≡ arity r.parts → ⊥) → coercion rules l r ≡ None
   layouts_unequal n = structs_unequal rules l r ours theirs n
 
   -- "Where they are not": the Struct rule, which asks each column the same question
@@ -34,58 +34,58 @@ module _ (rules : Rules) (q : Pairs rules.question) (l r : DataType) (ours : is_
   by_rule h = coercion_asks rules l r ∙ structs_asked (coercion rules) rules.mask rules.question q l r ours theirs h
 
   -- "the column types together are those of the union answer for the two Structs"
-  pub layouts_joined : alike l r ≡ false → (t : DataType) → coercion rules l r ≡ some t
-      → (fields : Fields) × (partners l.parts r.parts ≡ some fields) × (t.shape ≡ shape_of_kind Kind.struct)
+  pub layouts_joined : alike l r ≡ false → (t : DataType) → coercion rules l r ≡ Some t
+      → (fields : Fields) × (partners l.parts r.parts ≡ Some fields) × (t.shape ≡ shape_of_kind Kind.struct)
       × Merged (coercion rules) l.parts fields fields t.parts
   layouts_joined h t e = struct_answer (coercion rules) l r t (sym (by_rule h) ∙ e)
 
-  module _ (fields : Fields) (paired : partners l.parts r.parts ≡ some fields) where
+  module _ (fields : Fields) (paired : partners l.parts r.parts ≡ Some fields) where
     -- "and one column with none makes the whole none"
-    pub layouts_none : alike l r ≡ false → Memᴰ none (by_place (coercion rules) (types_of l.parts) (types_of fields)) → coercion rules l r ≡ none
+    pub layouts_none : alike l r ≡ false → Memᴰ None (by_place (coercion rules) (types_of l.parts) (types_of fields)) → coercion rules l r ≡ None
     layouts_none h m = go (coercion rules l r) refl
       where
-        go : (o : Option DataType) → coercion rules l r ≡ o → o ≡ none
-        go none e = refl
-        go (some t) e =
+        go : (o : Option DataType) → coercion rules l r ≡ o → o ≡ None
+        go None e = refl
+        go (Some t) e =
             let k = layouts_joined h t e in
-            let i : some fields ≡ some k.0 = sym paired ∙ k.1 in
+            let i : Some fields ≡ Some k.0 = sym paired ∙ k.1 in
             let j : fields ≡ k.0 = cc in
             absurd (all_some (types_of t.parts) (rw (j, sym k.3.types) at m))
 
     -- and where each column has a type, the whole has one
     pub layouts_some : alike l r ≡ false → arity l.parts ≡ arity r.parts → (ts : List DataType)
-        → map some ts ≡ by_place (coercion rules) (types_of l.parts) (types_of fields) → (t : DataType) × (coercion rules l r ≡ some t)
+        → map Some ts ≡ by_place (coercion rules) (types_of l.parts) (types_of fields) → (t : DataType) × (coercion rules l r ≡ Some t)
     unfolding struct_coercion
     layouts_some h a ts e =
         let b = partners_arity l.parts r.parts fields a paired in
         let k = merged_some (coercion rules) l.parts fields fields ts b b e in
         (record { shape = shape_of_kind Kind.struct; parts = k.0 }, by_rule h ∙ step k.0 k.1)
       where
-        step : (f : Fields) → join_fields (coercion rules) l.parts fields fields ≡ some f
-            → struct_coercion (coercion rules) l r ≡ some (record { shape = shape_of_kind Kind.struct; parts = f })
+        step : (f : Fields) → join_fields (coercion rules) l.parts fields fields ≡ Some f
+            → struct_coercion (coercion rules) l r ≡ Some (record { shape = shape_of_kind Kind.struct; parts = f })
         step f j = rw (ours, theirs, eq-eqb (arity l.parts) (arity r.parts) a, paired) (rw j)
 
   -- "Unless the whole is none, every one of their columns feeds exactly one of ours"
-  pub layouts_fed : repeats l.parts ≡ false → (t : DataType) → coercion rules l r ≡ some t → Fed l.parts r.parts
+  pub layouts_fed : repeats l.parts ≡ false → (t : DataType) → coercion rules l r ≡ Some t → Fed l.parts r.parts
   layouts_fed d t e = go (ℕ_discrete (arity l.parts) (arity r.parts))
     where
       go : Dec (arity l.parts ≡ arity r.parts) → Fed l.parts r.parts
       go (yes a) = fed l.parts r.parts d a
-      go (no n) = let i : none ≡ some t = sym (layouts_unequal n) ∙ e in let z : ◌≡◌ {A = ℕ} 0 1 = cc in absurd (omega arith)
+      go (no n) = let i : None ≡ Some t = sym (layouts_unequal n) ∙ e in let z : ◌≡◌ {A = ℕ} 0 1 = cc in absurd (omega arith)
 
 -- In a list: types by name, "but joins nullability by place".
 module _ (mask : ℕ) (l r : DataType) (ours : is_of Kind.struct l ≡ true) (theirs : is_of Kind.struct r ≡ true) where
-  pub listed_joined : equal l r ≡ false → (t : DataType) → coercion (rules_for list mask) l r ≡ some t
-      → (fields : Fields) × (by_name l.parts r.parts ≡ some fields) × (t.shape ≡ shape_of_kind Kind.struct)
+  pub listed_joined : equal l r ≡ false → (t : DataType) → coercion (rules_for list mask) l r ≡ Some t
+      → (fields : Fields) × (by_name l.parts r.parts ≡ Some fields) × (t.shape ≡ shape_of_kind Kind.struct)
       × Merged (coercion (rules_for list mask)) l.parts fields r.parts t.parts
   listed_joined h t e =
       list_struct_answer (coercion (rules_for list mask)) l r t
       (sym (coercion_asks (rules_for list mask) l r ∙ list_structs_asked (coercion (rules_for list mask)) mask l r ours theirs h) ∙ e)
 
   -- so a list has no answer where a name of the left is missing on the right
-  pub listed_missing : equal l r ≡ false → fields_have_same_names l.parts r.parts ≡ false → coercion (rules_for list mask) l r ≡ none
+  pub listed_missing : equal l r ≡ false → fields_have_same_names l.parts r.parts ≡ false → coercion (rules_for list mask) l r ≡ None
   listed_missing h m = go (coercion (rules_for list mask) l r) refl
     where
-      go : (o : Option DataType) → coercion (rules_for list mask) l r ≡ o → o ≡ none
-      go none e = refl
-      go (some t) e = let k = listed_joined h t e in never (sym m ∙ by_name_found l.parts r.parts k.0 k.1)
+      go : (o : Option DataType) → coercion (rules_for list mask) l r ≡ o → o ≡ None
+      go None e = refl
+      go (Some t) e = let k = listed_joined h t e in never (sym m ∙ by_name_found l.parts r.parts k.0 k.1)

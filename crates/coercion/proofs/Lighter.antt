@@ -2,7 +2,7 @@
 use mathlib.Core.Path.{◌≡◌, refl, ap, ap₂, sym, ◌∙◌}
 use mathlib.Core.Bool.{Bool, true, false, cond, ◌&&◌, ◌||◌}
 use mathlib.Core.List.{List}
-use mathlib.Core.Option.{Option, none, some}
+use Rattle.std.specs.Prelude.{Option, None, Some}
 use Prim.Native.Nat.{ℕ, zero, suc, ◌+◌, ◌≤◌}
 use native.Mathlib.Omega.{arith}
 use lib.Dec.{eqb}
@@ -47,12 +47,12 @@ module _ (a : List ℕ → ℕ) (b : Zone → ℕ) (scales : Scales a b) where
       record { light = omega (arith, scales.least l.shape.zone, scales.least r.shape.zone); apart = (record { own = λ e. refl }, tt) }
 
   as_light : (l r : DataType) (o : Option Figures) → If (Lighter l r) (as_type o)
-  as_light l r none = tt
-  as_light l r (some f) = plain_light l r f
+  as_light l r None = tt
+  as_light l r (Some f) = plain_light l r f
 
   of_kind_light : (l r : DataType) (o : Option ℕ) → If (Lighter l r) (of_kind_type o)
-  of_kind_light l r none = tt
-  of_kind_light l r (some k) = plain_light l r _
+  of_kind_light l r None = tt
+  of_kind_light l r (Some k) = plain_light l r _
 
   zone_light : (z w : Zone) → b (zone_coercion z w) + b absent ≤ b z + b w
   zone_light absent w = omega arith
@@ -69,7 +69,7 @@ module _ (a : List ℕ → ℕ) (b : Zone → ℕ) (scales : Scales a b) where
     right : Lighter l r r
     right = right_light l r hr
 
-    alike_light : P (cond (alike l r) (some l) none)
+    alike_light : P (cond (alike l r) (Some l) None)
     alike_light = cond_is P (alike l r) _ _ left tt
 
     temporal_light : P (temporal_coercion_nonstrict_timezone l r)
@@ -154,7 +154,7 @@ module _ (a : List ℕ → ℕ) (b : Zone → ℕ) (scales : Scales a b) where
   dictionary_swapped s end ne h = tt
   dictionary_swapped s (field n d s₁ p end) ne h = tt
   dictionary_swapped s (field n d s₁ p (field n₂ d₂ s₂ p₂ q)) ne h =
-      λ u k. if_cond (Swapped _ _ u) (is_of Kind.utf8_view u) (some u) (some _)
+      λ u k. if_cond (Swapped _ _ u) (is_of Kind.utf8_view u) (Some u) (Some _)
       (λ e. record { swap = omega arith; apart = k })
       (λ e. record { swap = omega (arith, scales.unnamed); apart = (record { own = λ e. never (sym ne ∙ e) }, (h.0, (h.1.0, (k.0, (k.1, tt))))) })
 
@@ -218,8 +218,8 @@ module _ (a : List ℕ → ℕ) (b : Zone → ℕ) (scales : Scales a b) where
         once : repeats t ≡ false
 
       struct_of_light : (o : Option Fields) → If Made o → If (Lighter l r) (struct_of o)
-      struct_of_light none h = tt
-      struct_of_light (some f) h =
+      struct_of_light None h = tt
+      struct_of_light (Some f) h =
           record {
             light = omega (arith, h.light, scales.least l.shape.zone, scales.least r.shape.zone);
             apart = (record { own = λ e. h.once }, h.apart);
@@ -233,18 +233,18 @@ module _ (a : List ℕ → ℕ) (b : Zone → ℕ) (scales : Scales a b) where
       struct_light : If (Lighter l r) (struct_coercion c l r)
       unfolding struct_coercion partners
       struct_light =
-          if_cond (Lighter l r) (is_of Kind.struct l && (is_of Kind.struct r && eqb (arity l.parts) (arity r.parts))) _ none
+          if_cond (Lighter l r) (is_of Kind.struct l && (is_of Kind.struct r && eqb (arity l.parts) (arity r.parts))) _ None
           (λ e. let d = hl.0.own (and_fst (is_of Kind.struct l) _ e) in
           struct_of_light (and_then (partners l.parts r.parts) (λ fields. join_fields c l.parts fields fields))
           (if_then (λ f. (weigh a b f ≤ weigh a b r.parts) × Apart f) Made (partners l.parts r.parts) (λ fields. join_fields c l.parts fields fields)
-          (if_cond _ (fields_have_same_names l.parts r.parts) (by_name l.parts r.parts) (some r.parts)
+          (if_cond _ (fields_have_same_names l.parts r.parts) (by_name l.parts r.parts) (Some r.parts)
           (λ e. by_name_lem a b l.parts r.parts d hr.1) (λ e. (omega arith, hr.1)))
           (λ f g. joined_made f f d g.0 g.1)))
           (λ e. tt)
 
       list_struct_light : is_of Kind.struct l ≡ true → If (Lighter l r) (list_struct c l r)
       list_struct_light e =
-          if_cond (Lighter l r) (eqb (arity l.parts) (arity r.parts)) _ none
+          if_cond (Lighter l r) (eqb (arity l.parts) (arity r.parts)) _ None
           (λ e'. struct_of_light (and_then (by_name l.parts r.parts) (λ fields. join_fields c l.parts fields r.parts))
           (if_then (λ f. (weigh a b f ≤ weigh a b r.parts) × Apart f) Made (by_name l.parts r.parts) (λ fields. join_fields c l.parts fields r.parts)
           (by_name_lem a b l.parts r.parts (hl.0.own e) hr.1) (λ f g. joined_made f r.parts (hl.0.own e) g.0 g.1)))
@@ -252,8 +252,8 @@ module _ (a : List ℕ → ℕ) (b : Zone → ℕ) (scales : Scales a b) where
 
       list_of_light : (shape : Shape) → b shape.zone ≡ b absent → eqb shape.kind Kind.struct ≡ false → (o : Option Fields)
           → If (Joined l.parts r.parts) o → If (Lighter l r) (list_of shape o)
-      list_of_light shape z ne none h = tt
-      list_of_light shape z ne (some f) h =
+      list_of_light shape z ne None h = tt
+      list_of_light shape z ne (Some f) h =
           record {
             light = omega (arith, h.light, scales.least l.shape.zone, scales.least r.shape.zone);
             apart = (record { own = λ e. never (sym ne ∙ e) }, h.apart);
@@ -262,7 +262,7 @@ module _ (a : List ℕ → ℕ) (b : Zone → ℕ) (scales : Scales a b) where
       list_light : If (Lighter l r) (list_coercion c l r)
       unfolding list_coercion
       list_light =
-          if_cond (Lighter l r) (is_list l.shape.kind && is_list r.shape.kind) _ none
+          if_cond (Lighter l r) (is_list l.shape.kind && is_list r.shape.kind) _ None
           (λ e. list_of_light (list_shape l.shape r.shape) bare.0 bare.1 (join_fields c l.parts r.parts r.parts)
           (join_light l.parts r.parts r.parts hl.1 hr.1))
           (λ e. tt)
@@ -298,7 +298,7 @@ module _ (a : List ℕ → ℕ) (b : Zone → ℕ) (scales : Scales a b) where
     map_light : (l r : DataType) → TypeApart l → TypeApart r → If (Lighter l r) (map_coercion c l r)
     unfolding map_coercion
     map_light l r hl hr =
-        if_cond (Lighter l r) (is_of Kind.map l && is_of Kind.map r) _ none
+        if_cond (Lighter l r) (is_of Kind.map l && is_of Kind.map r) _ None
         (λ e. if_then (Entry l.parts) (Lighter l r) (entry_type l.parts) _ (entry_held l.parts hl.1)
         (λ x g. if_then (Entry r.parts) (Lighter l r) (entry_type r.parts) _ (entry_held r.parts hr.1)
         (λ y m. if_then (Lighter x y) (Lighter l r) (struct_coercion c x y) _ (struct_light x y g.apart m.apart)
@@ -358,7 +358,7 @@ module _ (a : List ℕ → ℕ) (b : Zone → ℕ) (scales : Scales a b) where
       resolution_light : If (Lighter l r) (resolution_coercion rules c l r)
       resolution_light =
           let P = Lighter l r in
-          if_cond P (equal l r) (some l) _ (λ e. left_light l r hl)
+          if_cond P (equal l r) (Some l) _ (λ e. left_light l r hl)
           (λ e. if_cond P (is_of Kind.dictionary l && is_of Kind.dictionary r) _ _
           (λ e. both_light l r hl hr l.parts r.parts hl.1 hr.1 (omega arith) (omega arith) (other_kind l Kind.dictionary refl (and_fst _ _ e)))
           (λ e. if_cond P (is_of Kind.dictionary l) _ _

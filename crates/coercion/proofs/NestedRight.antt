@@ -2,7 +2,7 @@
 use mathlib.Core.Path.{◌≡◌, refl, ap, ◌∙◌}
 use mathlib.Core.Bool.{Bool, true, false, ◌&&◌, ◌||◌}
 use mathlib.Core.List.{List}
-use mathlib.Core.Option.{Option, none, some}
+use Rattle.std.specs.Prelude.{Option, None, Some}
 use Prim.Native.Nat.{ℕ, zero, suc, ◌+◌}
 use native.Mathlib.Omega.{arith}
 use lib.Dec.{eqb}
@@ -140,8 +140,8 @@ list_shape_lem l r hr =
 
 list_of_sound : (l : DataType) (shape : Shape) → ((f : Fields) → arity f ≡ 1 → OwnRight shape f) → arity l.parts ≡ 1 → (o : Option Fields)
     → If (Joined shape.kind l.parts) o → If Sound (list_of shape o)
-list_of_sound l shape own one none h = tt
-list_of_sound l shape own one (some f) h = (own f (h.many ∙ one), h.right)
+list_of_sound l shape own one None h = tt
+list_of_sound l shape own one (Some f) h = (own f (h.many ∙ one), h.right)
 
 -- the rules that ask of parts, where what they ask is right
 module _ (c : DataType → DataType → Option DataType) (keeps : (x y : DataType) → Sound x → Sound y → If Sound (c x y)) where
@@ -175,8 +175,8 @@ module _ (c : DataType → DataType → Option DataType) (keeps : (x y : DataTyp
 
     struct_of_sound : (o : Option Fields) → If (Joined Kind.struct l.parts) o → If Sound (struct_of o)
     unfolding is_kind between parts_right figures_right all_of figure_right is_decimal last_unit size_right sized
-    struct_of_sound none h = tt
-    struct_of_sound (some f) h = (record { known = refl; filled = refl; figures = refl; byte = omega arith; own_zone = empty_label }, h.right)
+    struct_of_sound None h = tt
+    struct_of_sound (Some f) h = (record { known = refl; filled = refl; figures = refl; byte = omega arith; own_zone = empty_label }, h.right)
 
     struct_sound : If Sound (struct_coercion c l r)
     unfolding struct_coercion partners names_parts between
@@ -201,7 +201,7 @@ module _ (c : DataType → DataType → Option DataType) (keeps : (x y : DataTyp
     list_sound : If Sound (list_coercion c l r)
     unfolding list_coercion
     list_sound =
-        if_cond Sound (is_list l.shape.kind && is_list r.shape.kind) _ none
+        if_cond Sound (is_list l.shape.kind && is_list r.shape.kind) _ None
         (λ e. let s = list_shape l.shape r.shape in
         let h = list_shape_lem l r hr in
         list_of_sound l s h.around (one_part l hl (and_fst (is_list l.shape.kind) (is_list r.shape.kind) e)) (join_fields c l.parts r.parts r.parts)
@@ -274,7 +274,7 @@ module _ (c : DataType → DataType → Option DataType) (keeps : (x y : DataTyp
 
     resolution_sound : If Sound (resolution_coercion rules c l r)
     resolution_sound =
-        if_cond Sound (equal l r) (some l) _ (λ e. hl)
+        if_cond Sound (equal l r) (Some l) _ (λ e. hl)
         (λ e. if_cond Sound (is_of Kind.dictionary l && is_of Kind.dictionary r) _ _
         (λ e. both_sound l r hl hr l.parts r.parts hl.1 hr.1 (two_parts l Kind.dictionary (dictionary_two) (and_fst _ _ e)))
         (λ e. if_cond Sound (is_of Kind.dictionary l) _ _

@@ -2,7 +2,7 @@
 use mathlib.Core.Path.{◌≡◌, refl}
 use mathlib.Core.Bool.{Bool, true, false, cond, ◌&&◌, ◌||◌}
 use mathlib.Core.List.{[], ◌∷◌}
-use mathlib.Core.Option.{none, some}
+use Rattle.std.specs.Prelude.{None, Some}
 use Prim.Native.Nat.{ℕ, ◌+◌, ◌-◌, ◌%◌, ◌<◌, ◌≤◌, min, max}
 use native.Mathlib.Omega.{arith}
 use lib.Dec.{eqb, leb, ltb}
@@ -116,7 +116,7 @@ pub cross_fits : (l r : Figures) → is_decimal l.kind ≡ true → is_decimal r
 unfolding get_wider_decimal_type_cross_variant
 cross_fits l r d e h k =
     let j = max l.kind r.kind in
-    if_cond Fits (leb (wider_precision l r) (cap j)) (some (decimal j (wider_precision l r) (wider_scale l r))) none
+    if_cond Fits (leb (wider_precision l r) (cap j)) (Some (decimal j (wider_precision l r) (wider_scale l r))) None
     (λ le. decimal_fits j (wider_precision l r) (wider_scale l r) (max_decimal l.kind r.kind d e)
     (wider_digits l.figure (biased l.scale) r.figure (biased r.scale) (right_digits l d h).0 (right_digits r e k).0) (leb-true _ _ le))
     (λ le. tt)
@@ -161,7 +161,7 @@ common_fits d other e h = go (takes d.kind other.kind)
     o : Figures
     o = decimal d.kind (digits_of other.kind) (fraction_of other.kind + 128)
 
-    go : (x : Bool) → If Fits (and_then (cond x (some o) none) (λ o. some (get_wider_decimal_type d o)))
+    go : (x : Bool) → If Fits (and_then (cond x (Some o) None) (λ o. Some (get_wider_decimal_type d o)))
     go true = wider_fits d o e (right_digits d e h).0 (number_digits other.kind)
     go false = tt
 
@@ -171,10 +171,10 @@ decimal_right_lem l r h k =
     if_cond Fits (is_decimal l.kind && is_decimal r.kind) _ _
     (λ e. let d = and_fst (is_decimal l.kind) (is_decimal r.kind) e in
     let d' = and_snd (is_decimal l.kind) (is_decimal r.kind) e in
-    if_cond Fits (eqb l.kind r.kind) (some (get_wider_decimal_type l r)) (get_wider_decimal_type_cross_variant l r)
+    if_cond Fits (eqb l.kind r.kind) (Some (get_wider_decimal_type l r)) (get_wider_decimal_type_cross_variant l r)
     (λ e. wider_fits l r d (right_digits l d h).0 (right_digits r d' k).0) (λ e. cross_fits l r d d' h k))
     (λ e. if_cond Fits (is_decimal l.kind) (get_common_decimal_type l r) _ (λ d. common_fits l r d h)
-    (λ e. if_cond Fits (is_decimal r.kind) (get_common_decimal_type r l) none (λ d. common_fits r l d k) (λ e. tt)))
+    (λ e. if_cond Fits (is_decimal r.kind) (get_common_decimal_type r l) None (λ d. common_fits r l d k) (λ e. tt)))
 
 pub numerical_fits : (k j : ℕ) → If Fits (numerical_coercion k j)
 unfolding numerical_coercion all_of is_kind parts_right between figure_right decimal_right is_decimal cap last_unit
@@ -195,8 +195,8 @@ numerical_fits k j =
 pub numeric_fits : (l r : Figures) → Right l → Right r → If Fits (binary_numeric_coercion l r)
 unfolding binary_numeric_coercion
 numeric_fits l r h k =
-    if_cond Fits (is_numeric l.kind && is_numeric r.kind) _ none
-    (λ e. if_cond Fits (same_figures l r) (some l) _
+    if_cond Fits (is_numeric l.kind && is_numeric r.kind) _ None
+    (λ e. if_cond Fits (same_figures l r) (Some l) _
     (λ e'. let n = numeric_low l.kind (and_fst (is_numeric l.kind) (is_numeric r.kind) e) in low_fits l n.0 n.1 h)
     (λ e'. if_else Fits (decimal_coercion l r) (numerical_coercion l.kind r.kind) (decimal_right_lem l r h k) (numerical_fits l.kind r.kind)))
     (λ e. tt)

@@ -2,7 +2,7 @@
 use mathlib.Core.Path.{◌≡◌, refl}
 use mathlib.Core.Bool.{Bool, true, false, cond, ◌&&◌, ◌||◌}
 use mathlib.Core.List.{List, []}
-use mathlib.Core.Option.{Option, none, some}
+use Rattle.std.specs.Prelude.{Option, None, Some}
 use Prim.Native.Nat.{ℕ, ◌<◌, ◌≤◌}
 use native.Mathlib.Omega.{arith}
 use lib.Dec.{eqb}
@@ -99,12 +99,12 @@ plain_sound f h = (
 )
 
 as_sound : (o : Option Figures) → If Fits o → If Sound (as_type o)
-as_sound none h = tt
-as_sound (some f) h = plain_sound f h
+as_sound None h = tt
+as_sound (Some f) h = plain_sound f h
 
 of_kind_sound : (o : Option ℕ) → If (λ k. Fits (of_kind k)) o → If Sound (of_kind_type o)
-of_kind_sound none h = tt
-of_kind_sound (some k) h = plain_sound (of_kind k) h
+of_kind_sound None h = tt
+of_kind_sound (Some k) h = plain_sound (of_kind k) h
 
 -- a timestamp
 timestamp_sound : (unit : ℕ) (zone : Zone) → unit ≤ 3 → Label (zone_bytes zone) → Sound (zoned (of_unit Kind.timestamp unit) zone)
@@ -165,7 +165,7 @@ binary_fits k j =
 
 -- the plain rules
 module _ (l r : DataType) (hl : Sound l) (hr : Sound r) where
-  pub alike_sound : If Sound (cond (alike l r) (some l) none)
+  pub alike_sound : If Sound (cond (alike l r) (Some l) None)
   alike_sound = cond_is (If Sound) (alike l r) _ _ hl tt
 
   pub number_sound : If Sound (as_type (binary_numeric_coercion (figures_of l) (figures_of r)))

@@ -1,7 +1,7 @@
 -- The families of finitely many types: the integers with Decimal128(20,0), the strings, the timestamps without a zone. Assumes nothing.
 use mathlib.Core.Path.{◌≡◌, refl, ap, sym, subst, ◌∙◌}
 use mathlib.Core.Bool.{Bool, true, false, cond, not}
-use mathlib.Core.Option.{Option, none, some}
+use Rattle.std.specs.Prelude.{Option, None, Some}
 use Prim.Native.Nat.{ℕ, ◌+◌, ◌-◌, ◌<◌, ◌≤◌, max}
 use native.Mathlib.Omega.{arith}
 use native.Mathlib.Decide.{ℕ_discrete}
@@ -45,12 +45,12 @@ abbrev pub timestamp_at : ℕ → Figures
 timestamp_at u = of_unit Kind.timestamp u
 
 abbrev answers_to : Option DataType → DataType → Bool
-answers_to none t = false
-answers_to (some u) t = equal u t
+answers_to None t = false
+answers_to (Some u) t = equal u t
 
-answers_to_lem : (o : Option DataType) (g : Figures) → answers_to o (plain g) ≡ true → o ≡ some (plain g)
-answers_to_lem none g h = never h
-answers_to_lem (some u) g h = ap {B = Option DataType} some (equal_plain u g h)
+answers_to_lem : (o : Option DataType) (g : Figures) → answers_to o (plain g) ≡ true → o ≡ Some (plain g)
+answers_to_lem None g h = never h
+answers_to_lem (Some u) g h = ap {B = Option DataType} Some (equal_plain u g h)
 
 abbrev Answering : (ℕ → Figures) → (ℕ → ℕ → ℕ) → ℕ → ℕ → ℕ → Bool
 Answering figuresAt up m r s = answers_to (coercion (asking m) (plain (figuresAt r)) (plain (figuresAt s))) (plain (figuresAt (up r s)))

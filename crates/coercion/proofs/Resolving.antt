@@ -2,7 +2,7 @@
 use mathlib.Core.Path.{◌≡◌, refl, ap, sym, subst, ◌∙◌}
 use mathlib.Core.Bool.{Bool, true, false, cond, beq}
 use mathlib.Core.List.{List, [], ◌∷◌}
-use mathlib.Core.Option.{Option, some}
+use Rattle.std.specs.Prelude.{Option, Some}
 use Prim.Native.Nat.{ℕ, ◌+◌, ◌≤◌}
 use native.Mathlib.Omega.{arith}
 use borrow.Author.Tests.{eqb-true, le-leb}
@@ -95,29 +95,29 @@ module _ (f : Family) (laws : Joins f) where
       ∙ idem f laws t b
 
   -- the fold from a member
-  fold_from_lem : (m : ℕ) (c : DataType) (ts : List DataType) → Member f c → AllIn f ts → fold_from (asking m) c ts ≡ some (join c (all ts))
+  fold_from_lem : (m : ℕ) (c : DataType) (ts : List DataType) → Member f c → AllIn f ts → fold_from (asking m) c ts ≡ Some (join c (all ts))
   unfolding fold_from all
-  fold_from_lem m c [] b a = ap {B = Option DataType} some (sym (join_null f laws c (member b)))
+  fold_from_lem m c [] b a = ap {B = Option DataType} Some (sym (join_null f laws c (member b)))
   fold_from_lem m c (t ∷ ts) b a = go t a.0 (λ x y. fold_from_lem m x ts y a.1)
     where
-      go : (t : DataType) → InFamily f t → ((x : DataType) → Member f x → fold_from (asking m) x ts ≡ some (join x (all ts)))
-          → fold_from (asking m) c (t ∷ ts) ≡ some (join c (all (t ∷ ts)))
-      go t null r = r c b ∙ ap (λ (x : DataType). some (join c x)) (sym (null_join (all ts)))
+      go : (t : DataType) → InFamily f t → ((x : DataType) → Member f x → fold_from (asking m) x ts ≡ Some (join x (all ts)))
+          → fold_from (asking m) c (t ∷ ts) ≡ Some (join c (all (t ∷ ts)))
+      go t null r = r c b ∙ ap (λ (x : DataType). Some (join c x)) (sym (null_join (all ts)))
       go t (member d) r =
           rw (laws.solid t d)
           (rw (laws.answers m t c d b)
           (r (join t c) (laws.closed t c d b)
-          ∙ ap {B = Option DataType} some
+          ∙ ap {B = Option DataType} Some
           (ap (λ (x : DataType). join x (all ts)) (laws.comm t c d b) ∙ assoc f laws c t (all ts) (member b) (member d) (in_all f laws ts a.1))))
 
-  fold_types_lem : (m : ℕ) (ts : List DataType) → AllIn f ts → is_null (all ts) ≡ false → fold_types (asking m) ts ≡ some (all ts)
+  fold_types_lem : (m : ℕ) (ts : List DataType) → AllIn f ts → is_null (all ts) ≡ false → fold_types (asking m) ts ≡ Some (all ts)
   unfolding fold_types all
   fold_types_lem m [] a h = never (sym h)
   fold_types_lem m (t ∷ ts) a h = go t a.0 h (fold_types_lem m ts a.1)
     where
-      go : (t : DataType) → InFamily f t → is_null (all (t ∷ ts)) ≡ false → (is_null (all ts) ≡ false → fold_types (asking m) ts ≡ some (all ts))
-          → fold_types (asking m) (t ∷ ts) ≡ some (all (t ∷ ts))
-      go t null h r = r (ap is_null (sym (null_join (all ts))) ∙ h) ∙ ap {B = Option DataType} some (sym (null_join (all ts)))
+      go : (t : DataType) → InFamily f t → is_null (all (t ∷ ts)) ≡ false → (is_null (all ts) ≡ false → fold_types (asking m) ts ≡ Some (all ts))
+          → fold_types (asking m) (t ∷ ts) ≡ Some (all (t ∷ ts))
+      go t null h r = r (ap is_null (sym (null_join (all ts))) ∙ h) ∙ ap {B = Option DataType} Some (sym (null_join (all ts)))
       go t (member d) h r = rw (laws.solid t d) (fold_from_lem m t ts d a.1)
 
   -- a list that begins with a member is not of Nulls alone
@@ -166,10 +166,10 @@ module _ (f : Family) (laws : Joins f) where
 
     -- the list answer
     pub resolved : (m : ℕ) (t : DataType) (ts : List DataType) → is_category notSupported c ≡ false → AllIn f (t ∷ ts)
-        → type_union_resolution (asking m) (t ∷ ts) ≡ some (all (t ∷ ts))
+        → type_union_resolution (asking m) (t ∷ ts) ≡ Some (all (t ∷ ts))
     unfolding type_union_resolution all
     resolved m t ts h a =
-        by_test (all_equal t ts) (λ e. ap {B = Option DataType} some (sym (same_all t ts a.0 a.1 e)))
+        by_test (all_equal t ts) (λ e. ap {B = Option DataType} Some (sym (same_all t ts a.0 a.1 e)))
         (λ e. rw (no_other notSupported (t ∷ ts) h a) (rw (few (t ∷ ts) a) (fold_types_lem m (t ∷ ts) a (go (is_null (join t (all ts))) refl e))))
       where
         go : (b : Bool) → is_null (join t (all ts)) ≡ b → all_equal t ts ≡ false → is_null (join t (all ts)) ≡ false

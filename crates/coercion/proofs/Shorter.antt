@@ -2,7 +2,7 @@
 use mathlib.Core.Path.{◌≡◌}
 use mathlib.Core.Bool.{true}
 use mathlib.Core.List.{List}
-use mathlib.Core.Option.{some}
+use Rattle.std.specs.Prelude.{Some}
 use Prim.Native.Nat.{ℕ, ◌+◌, ◌<◌, ◌≤◌}
 use native.Mathlib.Omega.{arith}
 use lib.ListN.{length}
@@ -26,7 +26,7 @@ types_weigh a b end = omega arith
 types_weigh a b (field name nullable shape parts rest) = omega (arith, types_weigh a b rest)
 
 -- the common type of two types
-pub coercion_smaller : (rules : Rules) (l r t : DataType) → names_differ (single l) ≡ true → names_differ (single r) ≡ true → coercion rules l r ≡ some t
+pub coercion_smaller : (rules : Rules) (l r t : DataType) → names_differ (single l) ≡ true → names_differ (single r) ≡ true → coercion rules l r ≡ Some t
     → size t < size l + size r
 coercion_smaller rules l r t hl hr e =
     let dl = differ_apart (single l) hl in
@@ -34,7 +34,7 @@ coercion_smaller rules l r t hl hr e =
     let h = if_some _ (coercion rules l r) t (coercion_light nothing one records_scales rules l r (dl.0, dl.1.0) (dr.0, dr.1.0)) e in
     omega (arith, h.light, records_weigh t.parts, records_weigh l.parts, records_weigh r.parts)
 
-pub coercion_shorter : (rules : Rules) (l r t : DataType) → names_differ (single l) ≡ true → names_differ (single r) ≡ true → coercion rules l r ≡ some t
+pub coercion_shorter : (rules : Rules) (l r t : DataType) → names_differ (single l) ≡ true → names_differ (single r) ≡ true → coercion rules l r ≡ Some t
     → length (labels (single t)) ≤ length (labels (single l)) + length (labels (single r))
 coercion_shorter rules l r t hl hr e =
     let dl = differ_apart (single l) hl in
@@ -43,7 +43,7 @@ coercion_shorter rules l r t hl hr e =
     omega (arith, h.light, labels_weigh (single t), labels_weigh (single l), labels_weigh (single r))
 
 -- the answer for a list
-module _ (q : Question) (rules : Rules) (ts : Fields) (t : DataType) (h : names_differ ts ≡ true) (e : answer_of q rules (types_of ts) ≡ some t) where
+module _ (q : Question) (rules : Rules) (ts : Fields) (t : DataType) (h : names_differ ts ≡ true) (e : answer_of q rules (types_of ts) ≡ Some t) where
   answer_is : (a : List ℕ → ℕ) (b : Zone → ℕ) (scales : Scales a b) → Under TypeApart (weight a b) (total (weight a b) (types_of ts)) t
   answer_is a b scales =
       if_some (Under TypeApart (weight a b) (total (weight a b) (types_of ts))) (answer_of q rules (types_of ts)) t

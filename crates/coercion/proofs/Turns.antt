@@ -1,7 +1,7 @@
 -- "Wrong turns", on types: in a list the later zone wins, two widths are not clamped, and nullability goes by place. Assumes nothing.
 use mathlib.Core.Path.{◌≡◌, refl}
 use mathlib.Core.List.{[], ◌∷◌}
-use mathlib.Core.Option.{some}
+use Rattle.std.specs.Prelude.{Some}
 use Prim.Native.Nat.{ℕ}
 use Rattle.sheet.specs.Tests.{all_of, between}
 use Rattle.sheet.specs.Kind as Kind
@@ -26,7 +26,7 @@ asked mask = record { question = list; mask = mask }
 abbrev stamp : ℕ → DataType
 stamp z = zoned (of_unit Kind.timestamp 0) (present (z ∷ []))
 
-pub later_zone_lem : (mask : ℕ) → type_union_resolution (asked mask) (stamp 65 ∷ stamp 66 ∷ []) ≡ some (stamp 66)
+pub later_zone_lem : (mask : ℕ) → type_union_resolution (asked mask) (stamp 65 ∷ stamp 66 ∷ []) ≡ Some (stamp 66)
 unfolding all_of between is_decimal arity count same_bytes first_of Same.same_zone Same.same_shape Same.same_fields Same.same_type Wrappers.wrapper_coercion
     Numbers.binary_numeric_coercion Nested.list_coercion Nested.map_coercion Times.temporal_coercion_nonstrict_timezone Strings.string_coercion
     Strings.binary_coercion Plain.null_coercion Plain.string_numeric_coercion Answers.coerce_in Answers.coercion Answers.category_of Answers.has_category

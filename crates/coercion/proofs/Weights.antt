@@ -2,7 +2,7 @@
 use mathlib.Core.Path.{◌≡◌, refl, sym, ◌∙◌}
 use mathlib.Core.Bool.{Bool, true, false, cond, not, ◌&&◌, ◌||◌}
 use mathlib.Core.List.{List, [], ◌++◌}
-use mathlib.Core.Option.{some}
+use Rattle.std.specs.Prelude.{Some}
 use Prim.Native.Nat.{ℕ, ◌+◌, ◌≤◌}
 use native.Mathlib.Omega.{arith}
 use lib.ListN.{length, length-append}
@@ -140,7 +140,7 @@ module _ (a : List ℕ → ℕ) (b : Zone → ℕ) where
   unfolding with_name
   taken_named name end more h k = tt
   taken_named name (field name' nullable shape parts rest) more h k =
-      if_cond (Taken _) (same_bytes name name') (some (field name' nullable shape parts more)) (with_name name rest more)
+      if_cond (Taken _) (same_bytes name name') (Some (field name' nullable shape parts more)) (with_name name rest more)
       (λ e. let s = same_comm name name' e in record { light = rw s (omega arith); apart = (h.0, (h.1.0, k)) })
       (λ e. if_weak (Taken _) (Taken _) (with_name name rest more) (taken_named name rest more h.1.1 k)
       (λ f g. record { light = omega (arith, g.light); apart = g.apart }))

@@ -2,7 +2,7 @@
 use mathlib.Core.Path.{◌≡◌, refl, sym, ◌∙◌, ap, ap₂, subst}
 use mathlib.Core.Bool.{Bool, true, false, cond, ◌&&◌, ◌||◌}
 use mathlib.Core.List.{List, [], ◌∷◌, map, Memᴰ}
-use mathlib.Core.Option.{Option, none, some}
+use Rattle.std.specs.Prelude.{Option, None, Some}
 use Prim.Native.Nat.{ℕ, zero, suc, ◌+◌}
 use native.Mathlib.Omega.{arith}
 use lib.ListN.{replicate}
@@ -33,7 +33,7 @@ pub data Pairs : Question → Type 0 where
 
 -- "Alike types (`equals_datatype`) give the left"
 alike_asked : (q : Question) → Pairs q → (rules : Rules) (coerce : DataType → DataType → Option DataType) (l r : DataType)
-    → alike l r ≡ true → ask q rules coerce l r ≡ some l
+    → alike l r ≡ true → ask q rules coerce l r ≡ Some l
 unfolding first_of
 alike_asked list x'' rules coerce l r h = elim x'' [ ]
 alike_asked union of_union rules coerce l r h = rw h
@@ -46,22 +46,22 @@ coercion_step rules l r =
     let e : size l + size r ≡ suc (1 + (count l.parts + count r.parts)) = omega arith in
     ap (λ (f : ℕ). coerce_in f rules l r) e
 
-pub alike_left : (rules : Rules) → Pairs rules.question → (l r : DataType) → alike l r ≡ true → coercion rules l r ≡ some l
+pub alike_left : (rules : Rules) → Pairs rules.question → (l r : DataType) → alike l r ≡ true → coercion rules l r ≡ Some l
 alike_left rules q l r h = coercion_step rules l r ∙ alike_asked rules.question q rules _ l r h
 
 -- equal types give themselves in all three
-equal_asked : (q : Question) (rules : Rules) (coerce : DataType → DataType → Option DataType) (t : DataType) → ask q rules coerce t t ≡ some t
+equal_asked : (q : Question) (rules : Rules) (coerce : DataType → DataType → Option DataType) (t : DataType) → ask q rules coerce t t ≡ Some t
 equal_asked list rules coerce t = rw (equal_self t)
 equal_asked union rules coerce t = alike_asked union of_union rules coerce t t (alike_self t)
 equal_asked compare rules coerce t = alike_asked compare of_compare rules coerce t t (alike_self t)
 
-pub equal_left : (rules : Rules) (l r : DataType) → equal l r ≡ true → coercion rules l r ≡ some l
+pub equal_left : (rules : Rules) (l r : DataType) → equal l r ≡ true → coercion rules l r ≡ Some l
 equal_left rules l r h =
     let e = equal_same l r h in
     ap (coercion rules l) (sym e) ∙ coercion_step rules l l ∙ equal_asked rules.question rules _ l
 
 -- "All the same, with names and nullability: that type, so all Nulls give Null"
-pub list_of_same : (rules : Rules) (t : DataType) (n : ℕ) → type_union_resolution rules (t ∷ replicate n t) ≡ some t
+pub list_of_same : (rules : Rules) (t : DataType) (n : ℕ) → type_union_resolution rules (t ∷ replicate n t) ≡ Some t
 unfolding type_union_resolution
 list_of_same rules t n = rw (all n)
   where
@@ -85,20 +85,20 @@ pub record Merged (coerce : DataType → DataType → Option DataType) (l m n t 
   -- "Nullability is joined"
   pub nulls : nulls_of t ≡ by_place ◌||◌ (nulls_of l) (nulls_of n)
   -- the column types are those of the columns
-  pub types : map some (types_of t) ≡ by_place coerce (types_of l) (types_of m)
+  pub types : map Some (types_of t) ≡ by_place coerce (types_of l) (types_of m)
   pub many : (arity l ≡ arity m) × (arity l ≡ arity n) × (arity t ≡ arity l)
 
-clash : {A : Type 0} {t : Fields} → none ≡ some t → A
+clash : {A : Type 0} {t : Fields} → None ≡ Some t → A
 clash e = let z : ◌≡◌ {A = ℕ} 0 1 = cc in absurd (omega arith)
 
 -- none is not one of types
-pub all_some : (ts : List DataType) → Memᴰ none (map some ts) → ⊥
+pub all_some : (ts : List DataType) → Memᴰ None (map Some ts) → ⊥
 all_some [] x' = elim x' [ ]
 all_some (t ∷ ts) (Memᴰ.head e) = let z : ◌≡◌ {A = ℕ} 0 1 = cc in omega arith
 all_some (t ∷ ts) (Memᴰ.tail m) = all_some ts m
 
 -- an answer under a test
-held : (b : Bool) (o : Option DataType) (t : DataType) → cond b o none ≡ some t → o ≡ some t
+held : (b : Bool) (o : Option DataType) (t : DataType) → cond b o None ≡ Some t → o ≡ Some t
 held true o t h = h
 held false o t h = let z : ◌≡◌ {A = ℕ} 0 1 = cc in absurd (omega arith)
 
@@ -107,7 +107,7 @@ and_false true = refl
 and_false false = refl
 
 module _ (coerce : DataType → DataType → Option DataType) where
-  pub merged : (l m n t : Fields) → join_fields coerce l m n ≡ some t → Merged coerce l m n t
+  pub merged : (l m n t : Fields) → join_fields coerce l m n ≡ Some t → Merged coerce l m n t
   unfolding join_fields rows_of types_of arity
   merged end end end t h =
       let e : end ≡ t = cc in
@@ -123,12 +123,12 @@ module _ (coerce : DataType → DataType → Option DataType) where
     where
       go : (o : Option DataType) → coerce (record { shape = s; parts = p }) (record { shape = s'; parts = p' }) ≡ o
           → (f : Option Fields) → join_fields coerce q q' q'' ≡ f
-          → ((t : Fields) → join_fields coerce q q' q'' ≡ some t → Merged coerce q q' q'' t)
+          → ((t : Fields) → join_fields coerce q q' q'' ≡ Some t → Merged coerce q q' q'' t)
           → Merged coerce (field n b s p q) (field n' b' s' p' q') (field n'' b'' s'' p'' q'') t
-      go none e f i rec = clash (rw e at h)
-      go (some u) e none i rec = clash (rw (e, i) at h)
-      go (some u) e (some v) i rec =
-          let x : some (field n (b || b'') u.shape u.parts v) ≡ some t = rw (e, i) at h in
+      go None e f i rec = clash (rw e at h)
+      go (Some u) e None i rec = clash (rw (e, i) at h)
+      go (Some u) e (Some v) i rec =
+          let x : Some (field n (b || b'') u.shape u.parts v) ≡ Some t = rw (e, i) at h in
           let y : field n (b || b'') u.shape u.parts v ≡ t = cc in
           let k = rec v i in
           subst (λ (t : Fields). Merged coerce (field n b s p q) (field n' b' s' p' q') (field n'' b'' s'' p'' q'') t) y
@@ -140,16 +140,16 @@ module _ (coerce : DataType → DataType → Option DataType) where
           })
 
   -- "one column with none makes the whole none"
-  pub merged_none : (l m n : Fields) → Memᴰ none (by_place coerce (types_of l) (types_of m)) → join_fields coerce l m n ≡ none
+  pub merged_none : (l m n : Fields) → Memᴰ None (by_place coerce (types_of l) (types_of m)) → join_fields coerce l m n ≡ None
   merged_none l m n h = go (join_fields coerce l m n) refl
     where
-      go : (o : Option Fields) → join_fields coerce l m n ≡ o → join_fields coerce l m n ≡ none
-      go none e = e
-      go (some t) e = absurd (all_some (types_of t) (rw (sym (merged l m n t e).types) at h))
+      go : (o : Option Fields) → join_fields coerce l m n ≡ o → join_fields coerce l m n ≡ None
+      go None e = e
+      go (Some t) e = absurd (all_some (types_of t) (rw (sym (merged l m n t e).types) at h))
 
   -- and where each column has a type, so has the whole
-  pub merged_some : (l m n : Fields) (ts : List DataType) → arity l ≡ arity m → arity l ≡ arity n → map some ts ≡ by_place coerce (types_of l) (types_of m)
-      → (t : Fields) × (join_fields coerce l m n ≡ some t)
+  pub merged_some : (l m n : Fields) (ts : List DataType) → arity l ≡ arity m → arity l ≡ arity n → map Some ts ≡ by_place coerce (types_of l) (types_of m)
+      → (t : Fields) × (join_fields coerce l m n ≡ Some t)
   unfolding join_fields types_of arity
   merged_some end end end ts a c e = (end, refl)
   merged_some end end (field n b s p q) ts a c e = absurd (omega arith)
@@ -160,68 +160,68 @@ module _ (coerce : DataType → DataType → Option DataType) where
   merged_some (field n b s p q) (field n' b' s' p' q') end ts a c e = absurd (omega arith)
   merged_some (field n b s p q) (field n' b' s' p' q') (field n'' b'' s'' p'' q'') [] a c e = let z : ◌≡◌ {A = ℕ} 0 1 = cc in absurd (omega arith)
   merged_some (field n b s p q) (field n' b' s' p' q') (field n'' b'' s'' p'' q'') (u ∷ us) a c e =
-      let x : coerce (record { shape = s; parts = p }) (record { shape = s'; parts = p' }) ≡ some u = cc in
-      let y : map some us ≡ by_place coerce (types_of q) (types_of q') = cc in
+      let x : coerce (record { shape = s; parts = p }) (record { shape = s'; parts = p' }) ≡ Some u = cc in
+      let y : map Some us ≡ by_place coerce (types_of q) (types_of q') = cc in
       let k = merged_some q q' q'' us (omega arith) (omega arith) y in
       (field n (b || b'') u.shape u.parts k.0, step u k.0 x k.1)
     where
-      step : (u : DataType) (f : Fields) → coerce (record { shape = s; parts = p }) (record { shape = s'; parts = p' }) ≡ some u
-          → join_fields coerce q q' q'' ≡ some f
-          → join_fields coerce (field n b s p q) (field n' b' s' p' q') (field n'' b'' s'' p'' q'') ≡ some (field n (b || b'') u.shape u.parts f)
+      step : (u : DataType) (f : Fields) → coerce (record { shape = s; parts = p }) (record { shape = s'; parts = p' }) ≡ Some u
+          → join_fields coerce q q' q'' ≡ Some f
+          → join_fields coerce (field n b s p q) (field n' b' s' p' q') (field n'' b'' s'' p'' q'') ≡ Some (field n (b || b'') u.shape u.parts f)
       step u f x y = rw (x, y)
 
   -- The answer for two Structs whose right fields were ordered before they were joined with the left's: the fields that give types, those that give
   -- nullability, and what was made of them.
-  made_of : (l : Fields) (o : Option Fields) (nulls : Fields → Fields) (t : DataType) → struct_of (and_then o (λ fields. join_fields coerce l fields (nulls fields))) ≡ some t
-      → (fields : Fields) × (o ≡ some fields) × (t.shape ≡ shape_of_kind Kind.struct) × Merged coerce l fields (nulls fields) t.parts
-  made_of l none nulls t h = let z : ◌≡◌ {A = ℕ} 0 1 = cc in absurd (omega arith)
-  made_of l (some fields) nulls t h = go (join_fields coerce l fields (nulls fields)) refl
+  made_of : (l : Fields) (o : Option Fields) (nulls : Fields → Fields) (t : DataType) → struct_of (and_then o (λ fields. join_fields coerce l fields (nulls fields))) ≡ Some t
+      → (fields : Fields) × (o ≡ Some fields) × (t.shape ≡ shape_of_kind Kind.struct) × Merged coerce l fields (nulls fields) t.parts
+  made_of l None nulls t h = let z : ◌≡◌ {A = ℕ} 0 1 = cc in absurd (omega arith)
+  made_of l (Some fields) nulls t h = go (join_fields coerce l fields (nulls fields)) refl
     where
       go : (j : Option Fields) → join_fields coerce l fields (nulls fields) ≡ j
-          → (fields' : Fields) × (some fields ≡ some fields') × (t.shape ≡ shape_of_kind Kind.struct) × Merged coerce l fields' (nulls fields') t.parts
-      go none e = let i : none ≡ some t = rw e at h in let z : ◌≡◌ {A = ℕ} 0 1 = cc in absurd (omega arith)
-      go (some f) e =
-          let i : some (record { shape = shape_of_kind Kind.struct; parts = f }) ≡ some t = rw e at h in
+          → (fields' : Fields) × (Some fields ≡ Some fields') × (t.shape ≡ shape_of_kind Kind.struct) × Merged coerce l fields' (nulls fields') t.parts
+      go None e = let i : None ≡ Some t = rw e at h in let z : ◌≡◌ {A = ℕ} 0 1 = cc in absurd (omega arith)
+      go (Some f) e =
+          let i : Some (record { shape = shape_of_kind Kind.struct; parts = f }) ≡ Some t = rw e at h in
           let j : record { shape = shape_of_kind Kind.struct; parts = f } ≡ t = cc in
-          (fields, refl, ap (λ (t : DataType). t.shape) (sym j), merged l fields (nulls fields) t.parts (e ∙ ap (λ (t : DataType). some t.parts) j))
+          (fields, refl, ap (λ (t : DataType). t.shape) (sym j), merged l fields (nulls fields) t.parts (e ∙ ap (λ (t : DataType). Some t.parts) j))
 
   -- union and compare: types and nullability go by the pairing, "Equal name sets match by name, in the left's order; otherwise by place, under the left's names.
   -- Nullability is joined"
-  pub struct_answer : (l r t : DataType) → struct_coercion coerce l r ≡ some t
-      → (fields : Fields) × (partners l.parts r.parts ≡ some fields) × (t.shape ≡ shape_of_kind Kind.struct) × Merged coerce l.parts fields fields t.parts
+  pub struct_answer : (l r t : DataType) → struct_coercion coerce l r ≡ Some t
+      → (fields : Fields) × (partners l.parts r.parts ≡ Some fields) × (t.shape ≡ shape_of_kind Kind.struct) × Merged coerce l.parts fields fields t.parts
   unfolding struct_coercion
   struct_answer l r t h =
       made_of l.parts (partners l.parts r.parts) (λ fields. fields) t
       (held (is_of Kind.struct l && (is_of Kind.struct r && eqb (arity l.parts) (arity r.parts))) _ t h)
 
   -- a list: "Its Struct rule finds types by name but joins nullability by place"
-  pub list_struct_answer : (l r t : DataType) → list_struct coerce l r ≡ some t
-      → (fields : Fields) × (by_name l.parts r.parts ≡ some fields) × (t.shape ≡ shape_of_kind Kind.struct) × Merged coerce l.parts fields r.parts t.parts
+  pub list_struct_answer : (l r t : DataType) → list_struct coerce l r ≡ Some t
+      → (fields : Fields) × (by_name l.parts r.parts ≡ Some fields) × (t.shape ≡ shape_of_kind Kind.struct) × Merged coerce l.parts fields r.parts t.parts
   list_struct_answer l r t h =
       made_of l.parts (by_name l.parts r.parts) (λ fields. r.parts) t (held (eqb (arity l.parts) (arity r.parts)) _ t h)
 
   -- "Structs with unequal numbers of fields give none"
-  pub struct_unequal : (l r : DataType) → (arity l.parts ≡ arity r.parts → ⊥) → struct_coercion coerce l r ≡ none
+  pub struct_unequal : (l r : DataType) → (arity l.parts ≡ arity r.parts → ⊥) → struct_coercion coerce l r ≡ None
   unfolding struct_coercion
   struct_unequal l r n = rw (ne_eqb (arity l.parts) (arity r.parts) n) (rw (and_false (is_of Kind.struct r)) (rw (and_false (is_of Kind.struct l))))
 
-  pub list_struct_unequal : (l r : DataType) → (arity l.parts ≡ arity r.parts → ⊥) → list_struct coerce l r ≡ none
+  pub list_struct_unequal : (l r : DataType) → (arity l.parts ≡ arity r.parts → ⊥) → list_struct coerce l r ≡ None
   list_struct_unequal l r n = rw (ne_eqb (arity l.parts) (arity r.parts) n)
 
   -- lists: the item under the left's name, its nullability joined
-  pub list_answer : (l r t : DataType) → list_coercion coerce l r ≡ some t
+  pub list_answer : (l r t : DataType) → list_coercion coerce l r ≡ Some t
       → (t.shape ≡ list_shape l.shape r.shape) × Merged coerce l.parts r.parts r.parts t.parts
   unfolding list_coercion
   list_answer l r t h = go (join_fields coerce l.parts r.parts r.parts) refl (held (is_list l.shape.kind && is_list r.shape.kind) _ t h)
     where
       go : (j : Option Fields) → join_fields coerce l.parts r.parts r.parts ≡ j
-          → list_of (list_shape l.shape r.shape) (join_fields coerce l.parts r.parts r.parts) ≡ some t
+          → list_of (list_shape l.shape r.shape) (join_fields coerce l.parts r.parts r.parts) ≡ Some t
           → (t.shape ≡ list_shape l.shape r.shape) × Merged coerce l.parts r.parts r.parts t.parts
-      go none e g = let i : none ≡ some t = rw e at g in let z : ◌≡◌ {A = ℕ} 0 1 = cc in absurd (omega arith)
-      go (some f) e g =
-          let i : some (record { shape = list_shape l.shape r.shape; parts = f }) ≡ some t = rw e at g in
+      go None e g = let i : None ≡ Some t = rw e at g in let z : ◌≡◌ {A = ℕ} 0 1 = cc in absurd (omega arith)
+      go (Some f) e g =
+          let i : Some (record { shape = list_shape l.shape r.shape; parts = f }) ≡ Some t = rw e at g in
           let j : record { shape = list_shape l.shape r.shape; parts = f } ≡ t = cc in
-          (ap (λ (t : DataType). t.shape) (sym j), merged l.parts r.parts r.parts t.parts (e ∙ ap (λ (t : DataType). some t.parts) j))
+          (ap (λ (t : DataType). t.shape) (sym j), merged l.parts r.parts r.parts t.parts (e ∙ ap (λ (t : DataType). Some t.parts) j))
 
   -- the entry of a map
   pub record Entry (l r t : DataType) : Type 0 where
@@ -229,32 +229,32 @@ module _ (coerce : DataType → DataType → Option DataType) where
     pub left : DataType
     pub right : DataType
     pub both : DataType
-    pub of_left : entry_type l.parts ≡ some left
-    pub of_right : entry_type r.parts ≡ some right
-    pub joined : struct_coercion coerce left right ≡ some both
+    pub of_left : entry_type l.parts ≡ Some left
+    pub of_right : entry_type r.parts ≡ Some right
+    pub joined : struct_coercion coerce left right ≡ Some both
     pub parts : t.parts ≡ entry_of l.parts both
 
   -- "A map's entry field keeps the left's name and nullability; it is sorted where both are"
-  pub map_answer : (l r t : DataType) → map_coercion coerce l r ≡ some t → Entry l r t
+  pub map_answer : (l r t : DataType) → map_coercion coerce l r ≡ Some t → Entry l r t
   unfolding map_coercion
   map_answer l r t h =
       entries (entry_type l.parts) refl (entry_type r.parts) refl (held (is_of Kind.map l && is_of Kind.map r) _ t h)
     where
-      shut : none ≡ some t → Entry l r t
+      shut : None ≡ Some t → Entry l r t
       shut e = let z : ◌≡◌ {A = ℕ} 0 1 = cc in absurd (omega arith)
 
       entries : (a : Option DataType) → entry_type l.parts ≡ a → (b : Option DataType) → entry_type r.parts ≡ b
           → and_then a (λ a. and_then b (λ b. and_then (struct_coercion coerce a b)
-          (λ t. some (record { shape = map_shape (l.shape.sorted && r.shape.sorted); parts = entry_of l.parts t })))) ≡ some t
+          (λ t. Some (record { shape = map_shape (l.shape.sorted && r.shape.sorted); parts = entry_of l.parts t })))) ≡ Some t
           → Entry l r t
-      entries none x b y g = shut g
-      entries (some a) x none y g = shut g
-      entries (some a) x (some b) y g = go (struct_coercion coerce a b) refl
+      entries None x b y g = shut g
+      entries (Some a) x None y g = shut g
+      entries (Some a) x (Some b) y g = go (struct_coercion coerce a b) refl
         where
           go : (o : Option DataType) → struct_coercion coerce a b ≡ o → Entry l r t
-          go none e = shut (rw e at g)
-          go (some u) e =
-              let i : some (record { shape = map_shape (l.shape.sorted && r.shape.sorted); parts = entry_of l.parts u }) ≡ some t = rw e at g in
+          go None e = shut (rw e at g)
+          go (Some u) e =
+              let i : Some (record { shape = map_shape (l.shape.sorted && r.shape.sorted); parts = entry_of l.parts u }) ≡ Some t = rw e at g in
               let j : record { shape = map_shape (l.shape.sorted && r.shape.sorted); parts = entry_of l.parts u } ≡ t = cc in
               record {
                 shape = ap (λ (t : DataType). t.shape) (sym j);
@@ -274,16 +274,16 @@ entry_kept end u a = absurd (omega arith)
 entry_kept (field n b s p end) u a = (refl, refl)
 entry_kept (field n b s p (field n' b' s' p' q)) u a = absurd (omega arith)
 
-pub map_kept : (coerce : DataType → DataType → Option DataType) (l r t : DataType) → map_coercion coerce l r ≡ some t → arity l.parts ≡ 1
+pub map_kept : (coerce : DataType → DataType → Option DataType) (l r t : DataType) → map_coercion coerce l r ≡ Some t → arity l.parts ≡ 1
     → (t.shape.sorted ≡ (l.shape.sorted && r.shape.sorted)) × (names_of t.parts ≡ names_of l.parts) × (nulls_of t.parts ≡ nulls_of l.parts)
 map_kept coerce l r t h a =
     let e = map_answer coerce l r t h in
     let k = entry_kept l.parts e.both a in
     (ap (λ (s : Shape). s.sorted) e.shape, ap names_of e.parts ∙ k.0, ap nulls_of e.parts ∙ k.1)
 
-pub or_none : (o : Option DataType) → or_else o none ≡ o
-or_none none = refl
-or_none (some t) = refl
+pub or_none : (o : Option DataType) → or_else o None ≡ o
+or_none None = refl
+or_none (Some t) = refl
 
 fails : (b : Bool) → (b ≡ true → ⊥) → b ≡ false
 fails true n = absurd (n refl)
@@ -339,12 +339,12 @@ module _ (coerce : DataType → DataType → Option DataType) (mask : ℕ) where
 
   -- "Structs with unequal numbers of fields give none", whichever the question
   unequal_asked : (q : Question) (l r : DataType) → is_of Kind.struct l ≡ true → is_of Kind.struct r ≡ true → (arity l.parts ≡ arity r.parts → ⊥)
-      → ask q (rules_for q mask) coerce l r ≡ none
+      → ask q (rules_for q mask) coerce l r ≡ None
   unequal_asked list l r x y n =
       list_structs_asked l r x y (fails (equal l r) (λ h. n (alike_arity l r (equal_alike l r h)))) ∙ list_struct_unequal coerce l r n
   unequal_asked union l r x y n = structs_asked union of_union l r x y (fails (alike l r) (λ h. n (alike_arity l r h))) ∙ struct_unequal coerce l r n
   unequal_asked compare l r x y n = structs_asked compare of_compare l r x y (fails (alike l r) (λ h. n (alike_arity l r h))) ∙ struct_unequal coerce l r n
 
 pub structs_unequal : (rules : Rules) (l r : DataType) → is_of Kind.struct l ≡ true → is_of Kind.struct r ≡ true → (arity l.parts ≡ arity r.parts → ⊥)
-    → coercion rules l r ≡ none
+    → coercion rules l r ≡ None
 structs_unequal rules l r x y n = coercion_step rules l r ∙ unequal_asked _ rules.mask rules.question l r x y n

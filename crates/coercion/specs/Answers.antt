@@ -1,6 +1,6 @@
 -- The three answers on types: `type_union_resolution`, `type_union_coercion`, `comparison_coercion`.
 use Rattle.std.specs.Prelude.{ℕ, zero, suc, ◌+◌, Bool, true, false, cond, not, ◌&&◌, ◌||◌, List, [], ◌∷◌, eqb}
-use Rattle.std.proofs.Math.Option.{Option, none, some}
+use Rattle.std.specs.Prelude.{Option, None, Some}
 use Rattle.sheet.specs.Kind as Kind
 use Rattle.sheet.specs.Types.{Shape, Fields, end, field, arity}
 use Rattle.coercion.specs.Data.{DataType, size, Question, list, union, compare, Rules, and_then, first_of, figures_of, plain, as_type, of_kind}
@@ -14,8 +14,8 @@ use Rattle.coercion.specs.Wrappers.{value_in, is_of, dictionary_coercion, ree_co
 use Rattle.coercion.specs.Nested.{before, join_fields, by_name, struct_of, struct_coercion, list_coercion, map_coercion}
 
 abbrev pub of_kind_type : Option ℕ → Option DataType
-of_kind_type none = none
-of_kind_type (some k) = some (plain (of_kind k))
+of_kind_type None = None
+of_kind_type (Some k) = Some (plain (of_kind k))
 
 -- `string_numeric_union_coercion` in a union, `string_numeric_coercion` else
 abbrev pub string_number : Question → DataType → DataType → Option DataType
@@ -26,7 +26,7 @@ string_number compare l r = string_numeric_coercion l r
 -- The rules of `type_union_coercion` and `comparison_coercion`, in the source's order; the alike test is number 1.
 abbrev pub pair_rules : Rules → (DataType → DataType → Option DataType) → DataType → DataType → List (Option DataType)
 pair_rules rules coerce l r =
-    cond (alike l r) (some l) none
+    cond (alike l r) (Some l) None
     ∷ as_type (binary_numeric_coercion (figures_of l) (figures_of r))
     ∷ dictionary_coercion coerce l r
     ∷ ree_coercion coerce l r
@@ -43,30 +43,30 @@ pair_rules rules coerce l r =
 
 -- a Dictionary of an index and a value
 abbrev pub dictionary_of : DataType → Fields → DataType → Option DataType
-dictionary_of d end value = none
+dictionary_of d end value = None
 dictionary_of d (field name nullable shape parts rest) value =
-    some (record { shape = d.shape; parts = field name nullable shape parts (before [] false value end) })
+    Some (record { shape = d.shape; parts = field name nullable shape parts (before [] false value end) })
 
 -- "Dict with View type is redundant, use value type instead"
 abbrev pub keep_dictionary : DataType → DataType → Option DataType
-keep_dictionary d value = cond (is_of Kind.utf8_view value) (some value) (dictionary_of d d.parts value)
+keep_dictionary d value = cond (is_of Kind.utf8_view value) (Some value) (dictionary_of d d.parts value)
 
 -- the parts of two Dictionaries or run ends are coerced one by one, under the left's names and nullability
 abbrev pub both_parts : (DataType → DataType → Option DataType) → DataType → Fields → Fields → Option DataType
-both_parts coerce l end r = none
-both_parts coerce l (field n b s p end) r = none
-both_parts coerce l (field n b s p (field n₂ b₂ s₂ p₂ q)) end = none
-both_parts coerce l (field n b s p (field n₂ b₂ s₂ p₂ q)) (field m c t u end) = none
+both_parts coerce l end r = None
+both_parts coerce l (field n b s p end) r = None
+both_parts coerce l (field n b s p (field n₂ b₂ s₂ p₂ q)) end = None
+both_parts coerce l (field n b s p (field n₂ b₂ s₂ p₂ q)) (field m c t u end) = None
 both_parts coerce l (field n b s p (field n₂ b₂ s₂ p₂ q)) (field m c t u (field m₂ c₂ t₂ u₂ v)) =
     and_then (coerce (record { shape = s; parts = p }) (record { shape = t; parts = u }))
     (λ x. and_then (coerce (record { shape = s₂; parts = p₂ }) (record { shape = t₂; parts = u₂ }))
-    (λ y. some (record { shape = l.shape; parts = before n b x (before n₂ b₂ y end) })))
+    (λ y. Some (record { shape = l.shape; parts = before n b x (before n₂ b₂ y end) })))
 
 -- run ends whose values are of another type
 abbrev pub run_ends_of : DataType → Fields → DataType → Option DataType
-run_ends_of d end value = none
-run_ends_of d (field n b s p end) value = none
-run_ends_of d (field n b s p (field n₂ b₂ s₂ p₂ q)) value = some (record { shape = d.shape; parts = field n b s p (before n₂ b₂ value end) })
+run_ends_of d end value = None
+run_ends_of d (field n b s p end) value = None
+run_ends_of d (field n b s p (field n₂ b₂ s₂ p₂ q)) value = Some (record { shape = d.shape; parts = field n b s p (before n₂ b₂ value end) })
 
 -- the wrapped value with the other type, "the wrapped value goes left", and what is made of it
 abbrev pub wrapped : (DataType → DataType → Option DataType) → DataType → DataType → (DataType → DataType → Option DataType) → Option DataType
@@ -77,7 +77,7 @@ abbrev pub list_struct : (DataType → DataType → Option DataType) → DataTyp
 list_struct coerce l r =
     cond (eqb (arity l.parts) (arity r.parts))
     (struct_of (and_then (by_name l.parts r.parts) (λ fields. join_fields coerce l.parts fields r.parts)))
-    none
+    None
 
 -- the other rules of `type_union_resolution_coercion`, in the source's order
 abbrev pub list_rules : Rules → (DataType → DataType → Option DataType) → DataType → DataType → List (Option DataType)
@@ -95,7 +95,7 @@ list_rules rules coerce l r =
 -- `type_union_resolution_coercion`
 abbrev pub resolution_coercion : Rules → (DataType → DataType → Option DataType) → DataType → DataType → Option DataType
 resolution_coercion rules coerce l r =
-    cond (equal l r) (some l)
+    cond (equal l r) (Some l)
     (cond (is_of Kind.dictionary l && is_of Kind.dictionary r) (both_parts coerce l l.parts r.parts)
     (cond (is_of Kind.dictionary l) (wrapped coerce l r keep_dictionary)
     (cond (is_of Kind.dictionary r) (wrapped coerce r l keep_dictionary)
@@ -113,7 +113,7 @@ ask compare rules coerce l r = first_of (pair_rules rules coerce l r)
 
 -- the same with a bound on the depth
 unfoldable pub coerce_in : ℕ → Rules → DataType → DataType → Option DataType
-coerce_in zero rules l r = none
+coerce_in zero rules l r = None
 coerce_in (suc f) rules l r = ask rules.question rules (coerce_in f rules) l r
 
 -- The common type of two types: `type_union_resolution_coercion`, `type_union_coercion` or `comparison_coercion`. "the records left in both falling"
@@ -180,28 +180,28 @@ all_equal t (u ∷ us) = equal u t && all_equal t us
 
 -- "folded by `type_union_resolution_coercion`, the new type on the left, the candidate on the right"; "Nulls are skipped"
 unfoldable pub fold_from : Rules → DataType → List DataType → Option DataType
-fold_from rules candidate [] = some candidate
+fold_from rules candidate [] = Some candidate
 fold_from rules candidate (t ∷ ts) = cond (is_null t) (fold_from rules candidate ts) (and_then (coercion rules t candidate) (λ c. fold_from rules c ts))
 
 unfoldable pub fold_types : Rules → List DataType → Option DataType
-fold_types rules [] = none
+fold_types rules [] = None
 fold_types rules (t ∷ ts) = cond (is_null t) (fold_types rules ts) (fold_from rules t ts)
 
 -- `type_union_resolution`: "An empty list: none. All the same, with names and nullability: that type"; "A type of no category gives none, and so do two
 -- categories besides Unknown"
 unfoldable pub type_union_resolution : Rules → List DataType → Option DataType
-type_union_resolution rules [] = none
+type_union_resolution rules [] = None
 type_union_resolution rules (t ∷ ts) =
-    cond (all_equal t ts) (some t)
-    (cond (has_category notSupported (t ∷ ts)) none
-    (cond (Rattle.sheet.specs.Tests.between 0 1 (categories_in (t ∷ ts))) (fold_types rules (t ∷ ts)) none))
+    cond (all_equal t ts) (Some t)
+    (cond (has_category notSupported (t ∷ ts)) None
+    (cond (Rattle.sheet.specs.Tests.between 0 1 (categories_in (t ∷ ts))) (fold_types rules (t ∷ ts)) None))
 
 -- "Two types, left then right"
 abbrev pub pair_answer : Rules → List DataType → Option DataType
-pair_answer rules [] = none
-pair_answer rules (l ∷ []) = none
+pair_answer rules [] = None
+pair_answer rules (l ∷ []) = None
 pair_answer rules (l ∷ r ∷ []) = coercion rules l r
-pair_answer rules (l ∷ r ∷ x ∷ xs) = none
+pair_answer rules (l ∷ r ∷ x ∷ xs) = None
 
 -- the answer for a list of types
 abbrev pub answer_of : Question → Rules → List DataType → Option DataType

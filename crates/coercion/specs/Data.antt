@@ -1,6 +1,6 @@
 -- Types, the question with its mask, and answers that may be missing.
 use Rattle.std.specs.Prelude.{ℕ, ◌+◌, ◌/◌, ◌%◌, ◌^◌, Bool, false, List, [], ◌∷◌, eqb}
-use Rattle.std.proofs.Math.Option.{Option, none, some}
+use Rattle.std.specs.Prelude.{Option, None, Some}
 use Rattle.sheet.specs.Types.{Zone, absent, Shape, Fields, end, field, count}
 use Rattle.coercion.specs.declared.Figures.{Figures}
 
@@ -36,18 +36,18 @@ abbrev pub may_become : ℕ → ℕ → Bool
 may_become mask k = eqb (mask / 2 ^ k % 2) 1
 
 -- `or_else`
-abbrev pub or_else {ℓ} : {A : Type ℓ} → Option A → Option A → Option A
-or_else none b = b
-or_else (some a) b = some a
+abbrev pub or_else : {A : Type 0} → Option A → Option A → Option A
+or_else None b = b
+or_else (Some a) b = Some a
 
 -- `?`
-abbrev pub and_then {ℓ κ} : {A : Type ℓ} {B : Type κ} → Option A → (A → Option B) → Option B
-and_then none f = none
-and_then (some a) f = f a
+abbrev pub and_then : {A B : Type 0} → Option A → (A → Option B) → Option B
+and_then None f = None
+and_then (Some a) f = f a
 
 -- the first answer of rules that are tried in turn
-unfoldable pub first_of {ℓ} : {A : Type ℓ} → List (Option A) → Option A
-first_of [] = none
+unfoldable pub first_of : {A : Type 0} → List (Option A) → Option A
+first_of [] = None
 first_of (a ∷ as') = or_else a (first_of as')
 
 -- the figures of a type
@@ -73,5 +73,5 @@ abbrev pub of_unit : ℕ → ℕ → Figures
 of_unit k unit = record { kind = k; figure = unit; scale = 0 }
 
 abbrev pub as_type : Option Figures → Option DataType
-as_type none = none
-as_type (some f) = some (plain f)
+as_type None = None
+as_type (Some f) = Some (plain f)

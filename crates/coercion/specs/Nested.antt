@@ -1,6 +1,6 @@
 -- Lists, structs and maps: `list_coercion`, `struct_coercion`, `map_coercion`. `coerce` is the source's `coerce_fn`.
 use Rattle.std.specs.Prelude.{ℕ, Bool, true, false, cond, ◌&&◌, ◌||◌, List, eqb}
-use Rattle.std.proofs.Math.Option.{Option, none, some}
+use Rattle.std.specs.Prelude.{Option, None, Some}
 use Rattle.sheet.specs.Kind as Kind
 use Rattle.sheet.specs.Types.{absent, Shape, Fields, end, field, arity}
 use Rattle.sheet.specs.Names.{same_bytes, has_name}
@@ -14,16 +14,16 @@ before name nullable t rest = field name nullable t.shape t.parts rest
 
 -- A chain of fields under the left's names, in the left's order. Types are coerced with those of one chain, nullability is joined with that of another.
 unfoldable pub join_fields : (DataType → DataType → Option DataType) → Fields → Fields → Fields → Option Fields
-join_fields coerce end end end = some end
-join_fields coerce end end (field name nullable shape parts rest) = none
-join_fields coerce end (field name nullable shape parts rest) end = none
-join_fields coerce end (field name nullable shape parts rest) (field name' nullable' shape' parts' rest') = none
-join_fields coerce (field name nullable shape parts rest) end end = none
-join_fields coerce (field name nullable shape parts rest) end (field name' nullable' shape' parts' rest') = none
-join_fields coerce (field name nullable shape parts rest) (field name' nullable' shape' parts' rest') end = none
+join_fields coerce end end end = Some end
+join_fields coerce end end (field name nullable shape parts rest) = None
+join_fields coerce end (field name nullable shape parts rest) end = None
+join_fields coerce end (field name nullable shape parts rest) (field name' nullable' shape' parts' rest') = None
+join_fields coerce (field name nullable shape parts rest) end end = None
+join_fields coerce (field name nullable shape parts rest) end (field name' nullable' shape' parts' rest') = None
+join_fields coerce (field name nullable shape parts rest) (field name' nullable' shape' parts' rest') end = None
 join_fields coerce (field name nullable shape parts rest) (field name' nullable' shape' parts' rest') (field name'' nullable'' shape'' parts'' rest'') =
     and_then (coerce (record { shape = shape; parts = parts }) (record { shape = shape'; parts = parts' }))
-    (λ t. and_then (join_fields coerce rest rest' rest'') (λ fields. some (before name (nullable || nullable'') t fields)))
+    (λ t. and_then (join_fields coerce rest rest' rest'') (λ fields. Some (before name (nullable || nullable'') t fields)))
 
 -- `fields_have_same_names`: each name of the left is one of the right's
 unfoldable pub fields_have_same_names : Fields → Fields → Bool
@@ -32,32 +32,32 @@ fields_have_same_names (field name nullable shape parts rest) r = has_name name 
 
 -- the field of a chain that has a name, before another chain
 unfoldable pub with_name : List ℕ → Fields → Fields → Option Fields
-with_name name end rest = none
-with_name name (field name' nullable shape parts more) rest = cond (same_bytes name name') (some (field name' nullable shape parts rest)) (with_name name more rest)
+with_name name end rest = None
+with_name name (field name' nullable shape parts more) rest = cond (same_bytes name name') (Some (field name' nullable shape parts rest)) (with_name name more rest)
 
 -- the right's fields in the order of the left's names; none where a name is missing
 unfoldable pub by_name : Fields → Fields → Option Fields
-by_name end r = some end
+by_name end r = Some end
 by_name (field name nullable shape parts rest) r = and_then (by_name rest r) (λ more. with_name name r more)
 
 -- Which of the right's fields feeds which of the left's: "Equal name sets match by name, in the left's order; otherwise by place"
 unfoldable pub partners : Fields → Fields → Option Fields
-partners l r = cond (fields_have_same_names l r) (by_name l r) (some r)
+partners l r = cond (fields_have_same_names l r) (by_name l r) (Some r)
 
 -- a shape that has no figure
 abbrev pub shape_of_kind : ℕ → Shape
 shape_of_kind k = record { kind = k; figure = 0; scale = 0; size = 0; sorted = false; zone = absent }
 
 abbrev pub struct_of : Option Fields → Option DataType
-struct_of none = none
-struct_of (some fields) = some (record { shape = shape_of_kind Kind.struct; parts = fields })
+struct_of None = None
+struct_of (Some fields) = Some (record { shape = shape_of_kind Kind.struct; parts = fields })
 
 -- `struct_coercion`, with `coerce_struct_by_name`, `coerce_struct_by_position` and `coerce_fields`
 unfoldable pub struct_coercion : (DataType → DataType → Option DataType) → DataType → DataType → Option DataType
 struct_coercion coerce l r =
     cond (is_of Kind.struct l && (is_of Kind.struct r && eqb (arity l.parts) (arity r.parts)))
     (struct_of (and_then (partners l.parts r.parts) (λ fields. join_fields coerce l.parts fields fields)))
-    none
+    None
 
 -- the kind and the size of two lists' common list
 abbrev pub list_shape : Shape → Shape → Shape
@@ -69,19 +69,19 @@ list_shape l r =
     (cond (eqb l.kind Kind.large_list || eqb r.kind Kind.large_list) (shape_of_kind Kind.large_list) (shape_of_kind Kind.list))
 
 abbrev pub list_of : Shape → Option Fields → Option DataType
-list_of shape none = none
-list_of shape (some item) = some (record { shape = shape; parts = item })
+list_of shape None = None
+list_of shape (Some item) = Some (record { shape = shape; parts = item })
 
 -- `list_coercion`, with `coerce_list_children`: the item under the left's name, its nullability joined
 unfoldable pub list_coercion : (DataType → DataType → Option DataType) → DataType → DataType → Option DataType
 list_coercion coerce l r =
     cond (is_list l.shape.kind && is_list r.shape.kind)
     (list_of (list_shape l.shape r.shape) (join_fields coerce l.parts r.parts r.parts))
-    none
+    None
 
 abbrev pub entry_type : Fields → Option DataType
-entry_type end = none
-entry_type (field name nullable shape parts rest) = some (record { shape = shape; parts = parts })
+entry_type end = None
+entry_type (field name nullable shape parts rest) = Some (record { shape = shape; parts = parts })
 
 abbrev pub entry_of : Fields → DataType → Fields
 entry_of end t = end
@@ -97,5 +97,5 @@ map_coercion coerce l r =
     (and_then (entry_type l.parts)
     (λ a. and_then (entry_type r.parts)
     (λ b. and_then (struct_coercion coerce a b)
-    (λ t. some (record { shape = map_shape (l.shape.sorted && r.shape.sorted); parts = entry_of l.parts t })))))
-    none
+    (λ t. Some (record { shape = map_shape (l.shape.sorted && r.shape.sorted); parts = entry_of l.parts t })))))
+    None

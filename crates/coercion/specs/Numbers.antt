@@ -1,6 +1,6 @@
 -- Numbers and decimals: the 14 functions of the source from `binary_numeric_coercion` on.
 use Rattle.std.specs.Prelude.{ℕ, ◌+◌, ◌-◌, ◌%◌, min, max, Bool, cond, not, ◌&&◌, ◌||◌, eqb, leb}
-use Rattle.std.proofs.Math.Option.{Option, none, some}
+use Rattle.std.specs.Prelude.{Option, None, Some}
 use Rattle.sheet.specs.Tests.{between}
 use Rattle.sheet.specs.Kind as Kind
 use Rattle.sheet.specs.Kind.{is_decimal, cap}
@@ -37,7 +37,7 @@ get_wider_decimal_type l r = create_decimal_type l.kind (wider_precision l r) (w
 unfoldable pub get_wider_decimal_type_cross_variant : Figures → Figures → Option Figures
 get_wider_decimal_type_cross_variant l r =
     let k = max l.kind r.kind in
-    cond (leb (wider_precision l r) (cap k)) (some (decimal k (wider_precision l r) (wider_scale l r))) none
+    cond (leb (wider_precision l r) (cap k)) (Some (decimal k (wider_precision l r) (wider_scale l r))) None
 
 -- Spark's DecimalType.scala: "digits 3, 5, 10, 20 for 8, 16, 32, 64-bit integers (Spark), (14,7) Float32, (30,15) Float64, and the source's own (6,3) Float16"
 abbrev pub digits_of : ℕ → ℕ
@@ -59,36 +59,36 @@ takes w k =
 
 -- `coerce_numeric_type_to_decimal32` to `256`: the decimal of kind w that a number of kind k takes
 unfoldable pub coerce_numeric_type_to_decimal : ℕ → ℕ → Option Figures
-coerce_numeric_type_to_decimal w k = cond (takes w k) (some (decimal w (digits_of k) (fraction_of k + 128))) none
+coerce_numeric_type_to_decimal w k = cond (takes w k) (Some (decimal w (digits_of k) (fraction_of k + 128))) None
 
 -- `get_common_decimal_type`
 unfoldable pub get_common_decimal_type : Figures → Figures → Option Figures
-get_common_decimal_type d other = and_then (coerce_numeric_type_to_decimal d.kind other.kind) (λ o. some (get_wider_decimal_type d o))
+get_common_decimal_type d other = and_then (coerce_numeric_type_to_decimal d.kind other.kind) (λ o. Some (get_wider_decimal_type d o))
 
 -- `decimal_coercion`
 unfoldable pub decimal_coercion : Figures → Figures → Option Figures
 decimal_coercion l r =
     cond (is_decimal l.kind && is_decimal r.kind)
-    (cond (eqb l.kind r.kind) (some (get_wider_decimal_type l r)) (get_wider_decimal_type_cross_variant l r))
-    (cond (is_decimal l.kind) (get_common_decimal_type l r) (cond (is_decimal r.kind) (get_common_decimal_type r l) none))
+    (cond (eqb l.kind r.kind) (Some (get_wider_decimal_type l r)) (get_wider_decimal_type_cross_variant l r))
+    (cond (is_decimal l.kind) (get_common_decimal_type l r) (cond (is_decimal r.kind) (get_common_decimal_type r l) None))
 
 -- `numerical_coercion`, on kinds: floats first
 abbrev pub float_coercion : ℕ → ℕ → Option Figures
 float_coercion k j =
-    cond (one_is Kind.float64 k j) (some (of_kind Kind.float64))
-    (cond (one_is Kind.float32 k j) (some (of_kind Kind.float32)) (cond (one_is Kind.float16 k j) (some (of_kind Kind.float16)) none))
+    cond (one_is Kind.float64 k j) (Some (of_kind Kind.float64))
+    (cond (one_is Kind.float32 k j) (Some (of_kind Kind.float32)) (cond (one_is Kind.float16 k j) (Some (of_kind Kind.float16)) None))
 
 -- and then integers
 abbrev pub integer_coercion : ℕ → ℕ → Option Figures
 integer_coercion k j =
-    cond (with_kind Kind.uint64 is_signed k j) (some (decimal Kind.decimal128 20 128))
-    (cond (one_is Kind.uint64 k j) (some (of_kind Kind.uint64))
-    (cond (one_is Kind.int64 k j || with_kind Kind.uint32 (between Kind.int8 Kind.int32) k j) (some (of_kind Kind.int64))
-    (cond (one_is Kind.uint32 k j) (some (of_kind Kind.uint32))
-    (cond (one_is Kind.int32 k j || with_kind Kind.uint16 (between Kind.int8 Kind.int16) k j) (some (of_kind Kind.int32))
-    (cond (one_is Kind.uint16 k j) (some (of_kind Kind.uint16))
-    (cond (one_is Kind.int16 k j || with_kind Kind.uint8 (λ i. eqb i Kind.int8) k j) (some (of_kind Kind.int16))
-    (cond (one_is Kind.int8 k j) (some (of_kind Kind.int8)) (cond (one_is Kind.uint8 k j) (some (of_kind Kind.uint8)) none))))))))
+    cond (with_kind Kind.uint64 is_signed k j) (Some (decimal Kind.decimal128 20 128))
+    (cond (one_is Kind.uint64 k j) (Some (of_kind Kind.uint64))
+    (cond (one_is Kind.int64 k j || with_kind Kind.uint32 (between Kind.int8 Kind.int32) k j) (Some (of_kind Kind.int64))
+    (cond (one_is Kind.uint32 k j) (Some (of_kind Kind.uint32))
+    (cond (one_is Kind.int32 k j || with_kind Kind.uint16 (between Kind.int8 Kind.int16) k j) (Some (of_kind Kind.int32))
+    (cond (one_is Kind.uint16 k j) (Some (of_kind Kind.uint16))
+    (cond (one_is Kind.int16 k j || with_kind Kind.uint8 (λ i. eqb i Kind.int8) k j) (Some (of_kind Kind.int16))
+    (cond (one_is Kind.int8 k j) (Some (of_kind Kind.int8)) (cond (one_is Kind.uint8 k j) (Some (of_kind Kind.uint8)) None))))))))
 
 unfoldable pub numerical_coercion : ℕ → ℕ → Option Figures
 numerical_coercion k j = or_else (float_coercion k j) (integer_coercion k j)
@@ -100,5 +100,5 @@ same_figures l r = eqb l.kind r.kind && (eqb l.figure r.figure && eqb l.scale r.
 unfoldable pub binary_numeric_coercion : Figures → Figures → Option Figures
 binary_numeric_coercion l r =
     cond (is_numeric l.kind && is_numeric r.kind)
-    (cond (same_figures l r) (some l) (or_else (decimal_coercion l r) (numerical_coercion l.kind r.kind)))
-    none
+    (cond (same_figures l r) (Some l) (or_else (decimal_coercion l r) (numerical_coercion l.kind r.kind)))
+    None

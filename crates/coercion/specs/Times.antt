@@ -1,6 +1,6 @@
 -- Units and times: `timeunit_coercion`, `temporal_coercion`, `temporal_coercion_nonstrict_timezone`, `is_time_with_valid_unit`.
 use Rattle.std.specs.Prelude.{ℕ, max, Bool, cond, ◌&&◌, ◌||◌, eqb, leb}
-use Rattle.std.proofs.Math.Option.{Option, none, some}
+use Rattle.std.specs.Prelude.{Option, None, Some}
 use Rattle.sheet.specs.Tests.{between}
 use Rattle.sheet.specs.Kind as Kind
 use Rattle.sheet.specs.Types.{Zone, absent, present}
@@ -21,12 +21,12 @@ timeunit_coercion u v = max u v
 -- `temporal_coercion`, on kinds
 unfoldable pub temporal_coercion : ℕ → ℕ → Option Figures
 temporal_coercion k j =
-    cond (is_span k && is_span j) (some (of_unit Kind.interval month_day_nano))
-    (cond (with_kind Kind.date32 is_integer k j) (some (of_kind Kind.date32))
-    (cond (with_kind Kind.date64 is_integer k j) (some (of_kind Kind.date64))
-    (cond (with_kind Kind.date64 (λ i. eqb i Kind.date32) k j) (some (of_kind Kind.date64))
-    (cond (with_kind Kind.date32 is_time k j || with_kind Kind.date64 is_time k j) (some (of_unit Kind.timestamp nanosecond))
-    (cond (with_kind Kind.timestamp is_date k j) (some (of_unit Kind.timestamp nanosecond)) none)))))
+    cond (is_span k && is_span j) (Some (of_unit Kind.interval month_day_nano))
+    (cond (with_kind Kind.date32 is_integer k j) (Some (of_kind Kind.date32))
+    (cond (with_kind Kind.date64 is_integer k j) (Some (of_kind Kind.date64))
+    (cond (with_kind Kind.date64 (λ i. eqb i Kind.date32) k j) (Some (of_kind Kind.date64))
+    (cond (with_kind Kind.date32 is_time k j || with_kind Kind.date64 is_time k j) (Some (of_unit Kind.timestamp nanosecond))
+    (cond (with_kind Kind.timestamp is_date k j) (Some (of_unit Kind.timestamp nanosecond)) None)))))
 
 -- "the zone is the left's if it has one, else the right's"
 abbrev pub zone_coercion : Zone → Zone → Zone
@@ -37,7 +37,7 @@ zone_coercion absent w = w
 unfoldable pub temporal_coercion_nonstrict_timezone : DataType → DataType → Option DataType
 temporal_coercion_nonstrict_timezone l r =
     cond (eqb l.shape.kind Kind.timestamp && eqb r.shape.kind Kind.timestamp)
-    (some (zoned (of_unit Kind.timestamp (timeunit_coercion l.shape.figure r.shape.figure)) (zone_coercion l.shape.zone r.shape.zone)))
+    (Some (zoned (of_unit Kind.timestamp (timeunit_coercion l.shape.figure r.shape.figure)) (zone_coercion l.shape.zone r.shape.zone)))
     (as_type (temporal_coercion l.shape.kind r.shape.kind))
 
 -- `is_time_with_valid_unit`: Time32 has seconds and milliseconds, Time64 microseconds and nanoseconds

@@ -1,6 +1,6 @@
 -- Dictionary and run ends: `dictionary_coercion`, `ree_coercion`. `coerce` is the source's `coerce_fn`.
 use Rattle.std.specs.Prelude.{ℕ, Bool, cond, ◌&&◌, eqb}
-use Rattle.std.proofs.Math.Option.{Option, none, some}
+use Rattle.std.specs.Prelude.{Option, None, Some}
 use Rattle.sheet.specs.Kind as Kind
 use Rattle.sheet.specs.Types.{Fields, end, field}
 use Rattle.coercion.specs.Data.{DataType, and_then}
@@ -8,9 +8,9 @@ use Rattle.coercion.specs.Same.{equal}
 
 -- "37 two (index, value), 38 two (run ends, values)": the type of the second part
 abbrev pub value_in : Fields → Option DataType
-value_in end = none
-value_in (field name nullable shape parts end) = none
-value_in (field name nullable shape parts (field name' nullable' shape' parts' rest)) = some (record { shape = shape'; parts = parts' })
+value_in end = None
+value_in (field name nullable shape parts end) = None
+value_in (field name nullable shape parts (field name' nullable' shape' parts' rest)) = Some (record { shape = shape'; parts = parts' })
 
 abbrev pub is_of : ℕ → DataType → Bool
 is_of k t = eqb t.shape.kind k
@@ -19,8 +19,8 @@ is_of k t = eqb t.shape.kind k
 unfoldable pub wrapper_coercion : ℕ → (DataType → DataType → Option DataType) → DataType → DataType → Option DataType
 wrapper_coercion k coerce l r =
     cond (is_of k l && is_of k r) (and_then (value_in l.parts) (λ v. and_then (value_in r.parts) (λ w. coerce v w)))
-    (cond (is_of k l) (and_then (value_in l.parts) (λ v. cond (equal v r) (some l) (coerce v r)))
-    (cond (is_of k r) (and_then (value_in r.parts) (λ w. cond (equal w l) (some r) (coerce l w))) none))
+    (cond (is_of k l) (and_then (value_in l.parts) (λ v. cond (equal v r) (Some l) (coerce v r)))
+    (cond (is_of k r) (and_then (value_in r.parts) (λ w. cond (equal w l) (Some r) (coerce l w))) None))
 
 abbrev pub dictionary_coercion : (DataType → DataType → Option DataType) → DataType → DataType → Option DataType
 dictionary_coercion coerce l r = wrapper_coercion Kind.dictionary coerce l r

@@ -1,26 +1,34 @@
 // The types that the plain rules of the source take and give. The rules themselves stand in crates of their own, their definitions in specs/.
 #![tactic(auto)]
 
+ghost use Rattle.std.specs.Prelude.{◌≡◌};
+ghost use Rattle.coercion.specs.Data.{of_kind, of_unit};
+
 // What the rules for plain types look at: a kind, a decimal's precision or a unit, and a scale as it is stored.
-#[derive(Clone, Copy)]
+#[derive(Clone, Copy, PartialEq)]
 pub struct Figures {
     pub kind: u8,
     pub figure: u8,
     pub scale: u8,
 }
 
-// The figures of a common type, where there is one.
-#[derive(Clone, Copy)]
-pub enum Common {
-    Of(Figures),
-    Nothing,
-}
+impl Figures {
+    // Of a kind that has none.
+    pub fn of_kind(kind: u8) -> Figures
+        ensures { result ≡ of_kind kind }
+    {
+        Figures::of_unit(kind, 0)
+    }
 
-// The kind of a common type that has no figures, where there is one.
-#[derive(Clone, Copy)]
-pub enum Found {
-    Kind(u8),
-    Nothing,
+    pub fn of_unit(kind: u8, unit: u8) -> Figures
+        ensures { result ≡ of_unit kind unit }
+    {
+        Figures {
+            kind,
+            figure: unit,
+            scale: 0,
+        }
+    }
 }
 
 // Which of two types is their common type.
@@ -28,7 +36,6 @@ pub enum Found {
 pub enum Side {
     Left,
     Right,
-    Neither,
 }
 
 // A time that a string becomes: one of the two as it is, or a Timestamp in nanoseconds with the zone of one.
@@ -38,5 +45,4 @@ pub enum Moment {
     Right,
     LeftNanoseconds,
     RightNanoseconds,
-    Nothing,
 }

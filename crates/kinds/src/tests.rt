@@ -1,32 +1,13 @@
 // Tests on kinds.
-ghost use Rattle.std.specs.Prelude.{◌≡◌, ◌&&◌, ◌||◌};
+ghost use Rattle.std.specs.Prelude.{◌≡◌};
 ghost use Rattle.coercion.specs.Kinds.{is_numeric, is_integer, is_signed, is_string, is_date, is_time, is_span, is_list, one_is};
 
 use sheet::figure::within;
 
-pub fn both(a: bool, b: bool) -> bool
-    ensures { result ≡ (a && b) }
-{
-    if a { b } else { false }
-}
-
-pub fn either(a: bool, b: bool) -> bool
-    ensures { result ≡ (a || b) }
-{
-    if a { true } else { b }
-}
-
-// Two tests hold, or two others.
-pub fn paired(a: bool, b: bool, c: bool, d: bool) -> bool
-    ensures { result ≡ ((a && b) || (c && d)) }
-{
-    either(both(a, b), both(c, d))
-}
-
 pub fn one_is(x: u8, k: u8, j: u8) -> bool
     ensures { result ≡ one_is x k j }
 {
-    either(k == x, j == x)
+    k == x || j == x
 }
 
 pub fn is_numeric(k: u8) -> bool

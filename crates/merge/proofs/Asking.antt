@@ -3,7 +3,8 @@ use mathlib.Core.Path.{◌≡◌, refl, sym, subst, ◌∙◌}
 use mathlib.Core.Bool.{Bool, true, false, cond, not, ◌&&◌}
 use mathlib.Core.List.{List}
 use mathlib.Core.Logic.{◌⊎◌, inl, inr, ⊎_elim}
-use mathlib.Core.Option.{Option, some}
+use Rattle.std.specs.Prelude.{Option, None, Some}
+use Rattle.std.proofs.lemmas.Option.{same_Some}
 use Prim.Native.Nat.{ℕ, ◌+◌, ◌-◌, ◌<◌, ◌≤◌}
 use native.Mathlib.Omega.{arith}
 use lib.Dec.{ltb}
@@ -26,10 +27,9 @@ use Rattle.merge.specs.Merge.{MergesKnown, MergesHinted}
 use Rattle.buffers.specs.declared.Space.{Space}
 use Rattle.buffers.specs.declared.Goal.{Goal}
 use Rattle.buffers.specs.declared.Question.{Question}
-use Rattle.buffers.specs.declared.Out.{Out}
-use Rattle.buffers.specs.declared.Out.TheVariants.{No}
+use Rattle.buffers.specs.Out.{Out}
 use Rattle.turns.proofs.Orders.{ask_turns, bare_turns, plain_turns}
-use Rattle.merge.proofs.Merging.{chain_some, nothing_known, typed_differs, any_known, none_known, hinted_within, known_as, as_known, merges_left, merges_none}
+use Rattle.merge.proofs.Merging.{chain_some, nothing_known, typed_differs, any_known, none_known, hinted_within, known_as, as_known, merges_left}
 use Rattle.merge.proofs.Turning.{resolve_dictionary, resolve_runs, wrap_left}
 use Rattle.buffers.proofs.Sameness.{shapes_unlike}
 use Rattle.buffers.proofs.Differing.{type_same}
@@ -53,43 +53,40 @@ unfolding same_type
 types_unlike named x y ne = rw (shapes_unlike x.shape y.shape ne) refl
 
 -- where two types first differ, by the flag for their names
-told : {space : Space} {s t : List ℕ} {l r known e : ℕ} {flag names : Bool} → flag ≡ names → FirstDifference known flag space s l t r e
+pub told : {space : Space} {s t : List ℕ} {l r e : ℕ} {known : Option ℕ} {flag names : Bool} → flag ≡ names → FirstDifference known flag space s l t r e
     → (x y : DataType) → Typed space s l x → Typed space t r y → Known known names l x y → e ≡ type_differs names l x y
-told {space} {s} {t} {l} {r} {known} {e} ef f = subst (λ (n : Bool). FirstDifference known n space s l t r e) ef f
+told {space} {s} {t} {l} {r} {e} {known} ef f = subst (λ (n : Bool). FirstDifference known n space s l t r e) ef f
 
 -- two types that are not the same, of which something may be known, and what is handed down of them
-abbrev Handed : Bool → Space → List ℕ → ℕ → List ℕ → ℕ → ℕ → ℕ → Type 0
+abbrev Handed : Bool → Space → List ℕ → ℕ → List ℕ → ℕ → Option ℕ → Option ℕ → Type 0
 Handed names space s l t r known d =
     (x y : DataType) → Typed space s l x → Typed space t r y → Known known names l x y → (same_type names x y ≡ false) × Known d names l x y
 
-pub handed : {space : Space} {s t : List ℕ} {l r : ℕ} (known e : ℕ) {flag : Bool} (names : Bool) → flag ≡ names → FirstDifference known flag space s l t r e → ¬ (e ≡ 0) → Handed names space s l t r known e
+pub handed : {space : Space} {s t : List ℕ} {l r : ℕ} (known : Option ℕ) (e : ℕ) {flag : Bool} (names : Bool) → flag ≡ names → FirstDifference known flag space s l t r e → ¬ (e ≡ 0) → Handed names space s l t r known (Some e)
 handed {l = l} known e names ef f z x y a b d =
     let i = told ef f x y a b d in
-    (sym (type_same names l x y (chain_some a.chain)) ∙ ne_eqb _ 0 (λ q. z (i ∙ q)), λ h. sym i)
+    (sym (type_same names l x y (chain_some a.chain)) ∙ ne_eqb _ 0 (λ q. z (i ∙ q)), λ c p. sym i ∙ same_Some e c p)
 
 module _ (question : Question) (mask : ℕ) (space : Space) (left : ℕ) (swap : Bool) (s w : List ℕ) (l r : ℕ) (g : Goal) where
   abbrev both : DataType → DataType → Option DataType
   both = coercion (rules_of question mask)
 
-  turns : (x y : DataType) → both x y ≡ cond (same_type (is_list_question (asked question)) x y) (some x) (turns_of (rules_of question mask) both x y)
+  turns : (x y : DataType) → both x y ≡ cond (same_type (is_list_question (asked question)) x y) (Some x) (turns_of (rules_of question mask) both x y)
   turns x y = coercion_asks (rules_of question mask) x y ∙ ask_turns (rules_of question mask) both x y
 
   abbrev names : Bool
   names = is_list_question (asked question)
 
-  pub coerce_spent : {known : ℕ} → left ≡ 0 → MergesKnown known names both space left swap s w w l r g No
-  coerce_spent {known} e = any_known known swap (merges_none both space left swap s w l r g (λ x y a b q. absurd (omega arith)))
-
   -- two types that are the same
-  pub coerce_same : {known : ℕ} {flag : Bool} {e : ℕ} → flag ≡ names → FirstDifference known flag space (side swap s w) l (side (not swap) s w) r e → (v : List ℕ) (o : Out) → e ≡ 0
+  pub coerce_same : {known : Option ℕ} {flag : Bool} {e : ℕ} → flag ≡ names → FirstDifference known flag space (side swap s w) l (side (not swap) s w) r e → (v : List ℕ) (o : Out) → e ≡ 0
       → CopiedType space (side swap s w) w v l g o → MergesKnown known names both space left swap s w v l r g o
   coerce_same {known} ef f v o z c =
       as_known both space swap s w v l r g o known left (omega arith)
       (λ x y a b d. sym (turns x y ∙ rw (sym (type_same names l x y (chain_some a.chain)) ∙ eq-eqb _ 0 (sym (told ef f x y a b d) ∙ z)) refl))
-      (merges_left (λ x y. some x) space left swap s w l r g v o (λ x y a b. refl) c)
+      (merges_left (λ x y. Some x) space left swap s w l r g v o (λ x y a b. refl) c)
 
   -- two types that are not
-  module _ {known d : ℕ} (apart : Handed names space (side swap s w) l (side (not swap) s w) r known d) where
+  module _ {known d : Option ℕ} (apart : Handed names space (side swap s w) l (side (not swap) s w) r known d) where
     differ : (x y : DataType) → Typed space (side swap s w) l x → Typed space (side (not swap) s w) r y → Known known names l x y → turns_of (rules_of question mask) both x y ≡ both x y
     differ x y a b k = sym (turns x y ∙ rw (apart x y a b k).0 refl)
 
@@ -129,12 +126,12 @@ module _ (question : Question) (mask : ℕ) (space : Space) (left : ℕ) (swap :
 
   -- types of unlike kinds are not the same; the rule of two without parts
   module _ {k j : ℕ} (ek : k ≡ (head_at (side swap s w) l).kind) (ej : j ≡ (head_at (side (not swap) s w) r).kind) (ne : ¬ (k ≡ j)) where
-    unlike : Handed names space (side swap s w) l (side (not swap) s w) r 1 1
-    unlike x y a b d = (types_unlike names x y (λ q. ne (sym (kind_of_lem ek a) ∙ q ∙ kind_of_lem ej b)), nothing_known names x y a)
+    unlike : Handed names space (side swap s w) l (side (not swap) s w) r None None
+    unlike x y a b d = (types_unlike names x y (λ q. ne (sym (kind_of_lem ek a) ∙ q ∙ kind_of_lem ej b)), nothing_known names _ x y)
 
     pub coerce_unlike : (v : List ℕ) (o : Out) → (ltb k 32 && ltb j 32) ≡ true → ((i : ℕ) → Merges (plain_rules (rules_of question mask)) space i swap s w v l r g o)
         → Merges both space left swap s w v l r g o
-    coerce_unlike v o h m = none_known swap (coerce_plain {known = 1} {d = 1} unlike v o ek ej h m)
+    coerce_unlike v o h m = none_known swap (coerce_plain {known = None} {d = None} unlike v o ek ej h m)
 
   -- a wrapper in a list, and a type that is none: they are not the same, and come to the rule for one wrapper
   module _ {k j : ℕ} (ek : k ≡ (head_at (side swap s w) l).kind) (ej : j ≡ (head_at (side (not swap) s w) r).kind) (is : is_wrapper k ≡ true) (lt : j < 37) where
@@ -144,29 +141,23 @@ module _ (question : Question) (mask : ℕ) (space : Space) (left : ℕ) (swap :
     apart : ¬ (k ≡ j)
     apart q = omega (arith, high, lt)
 
-    one : (v : List ℕ) (o : Out) → MergesKnown 1 names (rewrapped k both) space (left - 1 + 1) swap s w v l r g o → MergesKnown 1 names (either_wrapped k both) space (left - 1 + 1) swap s w v l r g o
-    one v o m = wrap_left 1 both space (left - 1) swap s w l r g ek ej is v o refl (λ q. apart (sym q)) m
+    one : (v : List ℕ) (o : Out) → MergesKnown None names (rewrapped k both) space (left - 1 + 1) swap s w v l r g o → MergesKnown None names (either_wrapped k both) space (left - 1 + 1) swap s w v l r g o
+    one v o m = wrap_left None both space (left - 1) swap s w l r g ek ej is v o refl (λ q. apart (sym q)) m
 
-    by_kind : (v : List ℕ) (o : Out) → (k ≡ 37) ⊎ (k ≡ 38) → MergesKnown 1 names (rewrapped k both) space (left - 1 + 1) swap s w v l r g o
-        → MergesKnown 1 names (resolved (rules_of question mask) both) space (left - 1 + 1) swap s w v l r g o
+    by_kind : (v : List ℕ) (o : Out) → (k ≡ 37) ⊎ (k ≡ 38) → MergesKnown None names (rewrapped k both) space (left - 1 + 1) swap s w v l r g o
+        → MergesKnown None names (resolved (rules_of question mask) both) space (left - 1 + 1) swap s w v l r g o
     by_kind v o (inl e) m =
-        resolve_dictionary 1 names (rules_of question mask) both space (left - 1) swap s w l r g ek ej v o (rw (eq-eqb k 37 e) refl)
-        (subst (λ (i : ℕ). MergesKnown 1 names (either_wrapped i both) space (left - 1 + 1) swap s w v l r g o) e (one v o m))
+        resolve_dictionary None names (rules_of question mask) both space (left - 1) swap s w l r g ek ej v o (rw (eq-eqb k 37 e) refl)
+        (subst (λ (i : ℕ). MergesKnown None names (either_wrapped i both) space (left - 1 + 1) swap s w v l r g o) e (one v o m))
     by_kind v o (inr e) m =
-        resolve_runs 1 names (rules_of question mask) both space (left - 1) swap s w l r g ek ej v o
+        resolve_runs None names (rules_of question mask) both space (left - 1) swap s w l r g ek ej v o
         (rw (ne_eqb k 37 (λ q. omega arith)) (ne_eqb j 37 (λ q. omega (arith, lt)))) (rw (eq-eqb k 38 e) refl)
-        (subst (λ (i : ℕ). MergesKnown 1 names (either_wrapped i both) space (left - 1 + 1) swap s w v l r g o) e (one v o m))
+        (subst (λ (i : ℕ). MergesKnown None names (either_wrapped i both) space (left - 1 + 1) swap s w v l r g o) e (one v o m))
 
     pub coerce_wrapper : (v : List ℕ) (o : Out) → names ≡ true → ¬ (left ≡ 0) → Merges (rewrapped k both) space (left - 1 + 1) swap s w v l r g o
         → Merges both space left swap s w v l r g o
-    coerce_wrapper v o f more m = none_known swap (coerce_list {known = 1} {d = 1} (unlike ek ej apart) v o f more (by_kind v o (wrapper_is k is) (any_known 1 swap m)))
+    coerce_wrapper v o f more m = none_known swap (coerce_list {known = None} {d = None} (unlike ek ej apart) v o f more (by_kind v o (wrapper_is k is) (any_known None swap m)))
 
--- what is said of where two types differ: what is known, or what was found
-pub difference_none : (named : Bool) {space : Space} {s t : List ℕ} {l r : ℕ} {known : ℕ} → known ≡ 0 → FirstDifference known named space s l t r 0
-difference_none named z x y a b d = sym (d (inl z) ∙ z)
-
-pub difference_known : (named : Bool) {space : Space} {s t : List ℕ} {l r : ℕ} (known : ℕ) → l < known → FirstDifference known named space s l t r known
-difference_known named known h x y a b d = sym (d (inr h))
-
-pub difference_found : (named : Bool) {space : Space} {s t : List ℕ} {l r : ℕ} (known : ℕ) {e : ℕ} → DifferTypes s space.n l t space.n r named e → FirstDifference known named space s l t r e
+-- what was found
+pub difference_found : (named : Bool) {space : Space} {s t : List ℕ} {l r : ℕ} (known : Option ℕ) {e : ℕ} → DifferTypes s space.n l t space.n r named e → FirstDifference known named space s l t r e
 difference_found named known f x y a b d = typed_differs named f a b

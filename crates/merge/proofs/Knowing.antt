@@ -3,6 +3,8 @@ use mathlib.Core.Path.{◌≡◌, refl, ap, ap₂, sym, subst, ◌∙◌}
 use mathlib.Core.Bool.{Bool, true, false, cond, ◌&&◌, ◌||◌}
 use mathlib.Core.List.{List}
 use mathlib.Core.Logic.{◌⊎◌, inl, inr}
+use Rattle.std.specs.Prelude.{Option, None, Some}
+use Rattle.std.proofs.lemmas.Option.{none-some, same_Some}
 use Prim.Native.Nat.{ℕ, ◌+◌, ◌<◌, ◌≤◌}
 use native.Mathlib.Omega.{arith}
 use lib.Dec.{eqb, ltb}
@@ -65,12 +67,12 @@ module _ {space : Space} {s : List ℕ} {link : ℕ} {name : List ℕ} {nullable
   next_at_lem = (source_next c.held.source h e).leads.is ∙ ap (λ (r : ℕ). link_to (r + 1 + count parts) rest) (sym (link_is c.held.source))
 
 -- what is known of two types, of their parts
-pub parts_known : (known : ℕ) (named : Bool) {space : Space} {s : List ℕ} {l : ℕ} (x y : DataType) → Typed space s l x → (h : Head) → h ≡ head_at s l → Known known named l x y
+pub parts_known : (known : Option ℕ) (named : Bool) {space : Space} {s : List ℕ} {l : ℕ} (x y : DataType) → Typed space s l x → (h : Head) → h ≡ head_at s l → Known known named l x y
     → RowsKnown known named h.first x.parts y.parts
-parts_known known named {l = l} x y a h e k pos le =
+parts_known known named {l = l} x y a h e k d f pos le =
     let p = first_at_lem a.chain h e in
     let i = at_parts x.parts p pos in
-    from_link named 0 (l + 1) x.parts y.parts p ∙ parts_differ named l known x y (k (inr (omega arith))) (omega arith)
+    from_link named 0 (l + 1) x.parts y.parts p ∙ parts_differ named l d x y (k d f) (omega arith)
   where
     at_parts : (t : Fields) → h.first ≡ link_to (l + 1) t → 0 < h.first → h.first ≡ l + 1
     at_parts end e lt = absurd (omega arith)
@@ -103,7 +105,7 @@ behind_is Feed.Name name shape parts {rf = rf} n c sh p q i f =
 behind_is Feed.NameThenPlace name shape parts n c sh p q i f = let a = f.nullables in let b = f.feeds.1.0 in let d = i.1.0 in cc
 
 -- a row at l, of which something may be known, and the record next that follows it
-module _ (known : ℕ) (named : Bool) {space : Space} {s : List ℕ} {l : ℕ} (name : List ℕ) (nullable : Bool) (shape : Shape) (parts rest : Fields)
+module _ (known : Option ℕ) (named : Bool) {space : Space} {s : List ℕ} {l : ℕ} (name : List ℕ) (nullable : Bool) (shape : Shape) (parts rest : Fields)
     (a : Chain space s l (field name nullable shape parts rest)) (next : ℕ) (en : next ≡ link_to (l + 1 + count parts) rest) where
   start : 0 < l
   start = omega (arith, a.held.source.leads.is, a.held.source.leads.above)
@@ -115,15 +117,15 @@ module _ (known : ℕ) (named : Bool) {space : Space} {s : List ℕ} {l : ℕ} (
   -- of the rows behind it
   behind_known : (n : List ℕ) (c : Bool) (sh : Shape) (p q : Fields) → RowsKnown known named l (field name nullable shape parts rest) (field n c sh p q)
       → RowsKnown known named next rest q
-  behind_known n c sh p q k pos le =
+  behind_known n c sh p q k d f pos le =
       let i = there rest en (λ z. omega arith) in
       from_link named 0 (l + 1 + count parts) rest q en
-      ∙ (row_same named l known name nullable shape parts rest n c sh p q (k start (omega arith)) (omega arith) (omega arith)).1
+      ∙ (row_same named l d name nullable shape parts rest n c sh p q (k d f start (omega arith)) (omega arith) (omega arith)).1
 
   pub rest_known : {t : List ℕ} (feed : Feed) {rf tf nf : Fields} (pf : Fields) {row : Row} → Feeds feed (field name nullable shape parts rest) rf pf tf nf
       → (f : Fed space t feed nullable rest rf row tf nf) → RowsKnown known named l (field name nullable shape parts rest) pf → RowsKnown known named next rest f.behind
   unfolding fields_differ
-  rest_known feed end i f k = λ pos le. let z = there rest en (λ z. omega arith) in absurd (omega (arith, k start (omega arith)))
+  rest_known feed end i f k = λ d e pos le. let z = there rest en (λ z. omega arith) in absurd (omega (arith, k d e start (omega arith)))
   rest_known feed (field n c sh p q) i f k = subst (RowsKnown known named next rest) (sym (behind_is feed name shape parts n c sh p q i f)) (behind_known n c sh p q k)
 
   -- of its own types, where it is fed from its place
@@ -132,49 +134,51 @@ module _ (known : ℕ) (named : Bool) {space : Space} {s : List ℕ} {l : ℕ} (
   ended end e z = refl
   ended (field n c sh p q) e z = absurd (omega arith)
 
-  of_types : (n : List ℕ) (c : Bool) (sh : Shape) (p q : Fields) → fields_differ named 0 l (field name nullable shape parts rest) (field n c sh p q) ≡ known → l < known
-      → type_differs named l (type_of shape parts) (type_of sh p) ≡ cond (eqb next 0 || ltb known next) known 0
+  of_types : (d : ℕ) (n : List ℕ) (c : Bool) (sh : Shape) (p q : Fields) → fields_differ named 0 l (field name nullable shape parts rest) (field n c sh p q) ≡ d → l < d
+      → type_differs named l (type_of shape parts) (type_of sh p) ≡ cond (eqb next 0 || ltb d next) d 0
   unfolding count
-  of_types n c sh p q e lt = go (eqb next 0) refl (ltb known next) refl
+  of_types d n c sh p q e lt = go (eqb next 0) refl (ltb d next) refl
     where
-      last : count rest ≡ 0 → known < l + 1 + count parts
+      last : count rest ≡ 0 → d < l + 1 + count parts
       last z = within _ (fields_within named 0 l (field name nullable shape parts rest) (field n c sh p q)) e
         where
-          within : (d : ℕ) → (d ≡ 0) ⊎ ((d ≡ 0) ⊎ ((l ≤ d) × (d < l + count (field name nullable shape parts rest)))) → d ≡ known → known < l + 1 + count parts
-          within d (inl i) e = absurd (omega arith)
-          within d (inr (inl i)) e = absurd (omega arith)
-          within d (inr (inr i)) e = omega arith
+          within : (i : ℕ) → (i ≡ 0) ⊎ ((i ≡ 0) ⊎ ((l ≤ i) × (i < l + count (field name nullable shape parts rest)))) → i ≡ d → d < l + 1 + count parts
+          within m (inl i) e = absurd (omega arith)
+          within m (inr (inl i)) e = absurd (omega arith)
+          within m (inr (inr i)) e = omega arith
 
-      go : (u : Bool) → eqb next 0 ≡ u → (v : Bool) → ltb known next ≡ v → type_differs named l (type_of shape parts) (type_of sh p) ≡ cond (u || v) known 0
-      go true eu v ev = row_differs named l known name nullable shape parts rest n c sh p q e lt (last (ended rest en (eqb-true next 0 eu)))
+      go : (u : Bool) → eqb next 0 ≡ u → (v : Bool) → ltb d next ≡ v → type_differs named l (type_of shape parts) (type_of sh p) ≡ cond (u || v) d 0
+      go true eu v ev = row_differs named l d name nullable shape parts rest n c sh p q e lt (last (ended rest en (eqb-true next 0 eu)))
       go false eu true ev =
           let i = there rest en (eqb-false next 0 eu) in
-          row_differs named l known name nullable shape parts rest n c sh p q e lt (omega (arith, ltb-true known next ev))
+          row_differs named l d name nullable shape parts rest n c sh p q e lt (omega (arith, ltb-true d next ev))
       go false eu false ev =
           let i = there rest en (eqb-false next 0 eu) in
-          (row_same named l known name nullable shape parts rest n c sh p q e lt (omega (arith, ltb-false known next ev))).0
+          (row_same named l d name nullable shape parts rest n c sh p q e lt (omega (arith, ltb-false d next ev))).0
 
   pub row_known_lem : {t : List ℕ} {partner p : ℕ} (pf : Fields) {y : DataType} → Chain space t p pf → Typed space t partner y
       → RowsKnown known named l (field name nullable shape parts rest) pf → Known (row_known known l next partner p) named l (type_of shape parts) y
-  row_known_lem {t} {partner} {p} pf {y} b c k = go (eqb partner p) refl (ltb l known) refl
+  row_known_lem {t} {partner} {p} pf {y} b c k = go known k
     where
-      fed : (pf : Fields) → partner ≡ p → Chain space t p pf → RowsKnown known named l (field name nullable shape parts rest) pf → l < known
-          → type_differs named l (type_of shape parts) y ≡ cond (eqb next 0 || ltb known next) known 0
-      fed end e b k lt = absurd (omega (arith, b.held.source.leads.is, c.chain.held.source.leads.is, c.chain.held.source.leads.above))
-      fed (field n d sh ps q) e b k lt =
-          ap (λ (z : DataType). type_differs named l (type_of shape parts) z) (typed_one n d sh ps q (subst (λ (i : ℕ). Typed space t i y) e c) b) ∙ of_types n d sh ps q (k start (omega arith)) lt
+      fed : (d : ℕ) (pf : Fields) → partner ≡ p → Chain space t p pf → RowsKnown (Some d) named l (field name nullable shape parts rest) pf → l < d
+          → type_differs named l (type_of shape parts) y ≡ cond (eqb next 0 || ltb d next) d 0
+      fed d end e b k lt = absurd (omega (arith, b.held.source.leads.is, c.chain.held.source.leads.is, c.chain.held.source.leads.above))
+      fed d (field n nb sh ps q) e b k lt =
+          ap (λ (z : DataType). type_differs named l (type_of shape parts) z) (typed_one n nb sh ps q (subst (λ (i : ℕ). Typed space t i y) e c) b)
+          ∙ of_types d n nb sh ps q (k d refl start (omega arith)) lt
 
-      go : (u : Bool) → eqb partner p ≡ u → (v : Bool) → ltb l known ≡ v
-          → (cond (u && v) (cond (eqb next 0 || ltb known next) known 0) 1 ≡ 0) ⊎ (l < cond (u && v) (cond (eqb next 0 || ltb known next) known 0) 1)
-          → type_differs named l (type_of shape parts) y ≡ cond (u && v) (cond (eqb next 0 || ltb known next) known 0) 1
-      go true eu true ev i = fed pf (eqb-true partner p eu) b k (ltb-true l known ev)
-      go true eu false ev (inl i) = absurd (omega arith)
-      go true eu false ev (inr i) = absurd (omega (arith, start))
-      go false eu v ev (inl i) = absurd (omega arith)
-      go false eu v ev (inr i) = absurd (omega (arith, start))
+      found : (d : ℕ) → RowsKnown (Some d) named l (field name nullable shape parts rest) pf → (u : Bool) → eqb partner p ≡ u → (v : Bool) → ltb l d ≡ v
+          → Known (cond (u && v) (Some (cond (eqb next 0 || ltb d next) d 0)) None) named l (type_of shape parts) y
+      found d k true eu true ev i f = fed d pf (eqb-true partner p eu) b k (ltb-true l d ev) ∙ same_Some _ i f
+      found d k true eu false ev i f = absurd (none-some i f)
+      found d k false eu v ev i f = absurd (none-some i f)
+
+      go : (o : Option ℕ) → RowsKnown o named l (field name nullable shape parts rest) pf → Known (row_known o l next partner p) named l (type_of shape parts) y
+      go None k i f = absurd (none-some i f)
+      go (Some d) k i f = found d k (eqb partner p) refl (ltb l d) refl i f
 
 -- what is known of two wrappers, of their values
-pub value_known : (known : ℕ) (named : Bool) {space : Space} {s t : List ℕ} {l r i j : ℕ} (x y : DataType) {u v : DataType} → Two x.parts → Two y.parts → Typed space s l x → Typed space t r y
+pub value_known : (known : Option ℕ) (named : Bool) {space : Space} {s t : List ℕ} {l r i j : ℕ} (x y : DataType) {u v : DataType} → Two x.parts → Two y.parts → Typed space s l x → Typed space t r y
     → i ≡ (head_at s (head_at s l).first).next → j ≡ (head_at t (head_at t r).first).next → Typed space s i u → Typed space t j v → Known known named l x y
     → Known (row_known known i 0 j j) named i u v
 value_known known named {space} {s} {t} {l} {r} {i} {j} x y {u} {v} p q a b ei ej c d k =

@@ -5,4 +5,5 @@ pub mod Asking
 pub mod Turning
 pub mod Structs
 pub mod Parents
+pub mod Names
 pub mod Rewrapping

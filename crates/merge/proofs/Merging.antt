@@ -2,8 +2,8 @@
 use mathlib.Core.Path.{◌≡◌, refl, ap, sym, subst, ◌∙◌}
 use mathlib.Core.Bool.{Bool, true, not}
 use mathlib.Core.List.{List, [], ◌++◌}
-use mathlib.Core.Logic.{inl, inr}
-use mathlib.Core.Option.{Option, none, some}
+use Rattle.std.specs.Prelude.{Option, None, Some}
+use Rattle.std.proofs.lemmas.Option.{none-some}
 use Prim.Native.Nat.{ℕ, ◌+◌, ◌<◌, ◌≤◌}
 use native.Mathlib.Omega.{arith}
 use lib.ListN.{length, replicate, length-append}
@@ -26,12 +26,13 @@ use Rattle.merge.specs.Known.{Known}
 use Rattle.merge.specs.Merge.{Tabled, MergesKnown, MergesHinted}
 use Rattle.buffers.specs.declared.Space.{Space}
 use Rattle.buffers.specs.declared.Goal.{Goal}
-use Rattle.buffers.specs.declared.Out.{Out}
-use Rattle.buffers.specs.declared.Out.TheVariants.{Done, No, Full}
+use Rattle.buffers.specs.Out.{Out}
+use Rattle.std.specs.Prelude.{Ok, Err}
+use Rattle.buffers.specs.declared.Failure.TheVariants.{NoType, Full}
 use Rattle.buffers.proofs.Sources.{source_lower}
 use Rattle.buffers.proofs.Frames.{kept_self}
 use Rattle.buffers.proofs.Copying.{held_side}
-use Rattle.buffers.proofs.Laying.{no_record, named_kept}
+use Rattle.buffers.proofs.Laying.{named_kept}
 use Rattle.buffers.proofs.Fielding.{typed_reads}
 use Rattle.buffers.proofs.Stamping.{means_more}
 use Rattle.buffers.proofs.Partnering.{partners_zeros, partners_kept}
@@ -80,42 +81,41 @@ means_for space w v g {z} {y} z' y' o {m} p q e a = subst (Means space w v g z' 
 
 -- what is said of a goal after something else was written at it: the name there stood there before
 pub means_after : (space : Space) (w v u : List ℕ) (g : Goal) (z y : ℕ) (o : Out) (m : Option DataType) → Kept space w v g.at (g.label + g.nlen) → Means space v u g z y o m → Means space w u g z y o m
-means_after space w v u g z y (Done d) none k a = absurd a
-means_after space w v u g z y (Done d) (some t) k a = λ name nm. a name (named_kept space w v g.at (g.label + g.nlen) g (omega arith) k nm)
-means_after space w v u g z y No none k a = tt
-means_after space w v u g z y No (some t) k a = absurd a
-means_after space w v u g z y Full m k a = a
+means_after space w v u g z y (Ok d) None k a = absurd a
+means_after space w v u g z y (Ok d) (Some t) k a = λ name nm. a name (named_kept space w v g.at (g.label + g.nlen) g (omega arith) k nm)
+means_after space w v u g z y (Err NoType) None k a = tt
+means_after space w v u g z y (Err NoType) (Some t) k a = absurd a
+means_after space w v u g z y (Err Full) m k a = a
 
 -- a link to a field is not 0
 pub chain_some : {space : Space} {s : List ℕ} {link : ℕ} {name : List ℕ} {nullable : Bool} {shape : Shape} {parts rest : Fields} → Chain space s link (field name nullable shape parts rest) → 0 < link
 chain_some a = omega (arith, a.held.source.leads.is, a.held.source.leads.above)
 
--- record 1 says nothing of two types
-pub nothing_known : (named : Bool) {space : Space} {s : List ℕ} {l : ℕ} (x y : DataType) → Typed space s l x → Known 1 named l x y
-nothing_known named x y a (inl e) = absurd (omega arith)
-nothing_known named x y a (inr h) = absurd (omega (arith, chain_some a.chain))
+-- nothing is known of two types
+pub nothing_known : (named : Bool) (l : ℕ) (x y : DataType) → Known None named l x y
+nothing_known named l x y d e = absurd (none-some d e)
 
 -- two types of which something may be known, and of which nothing is
-pub any_known : (known : ℕ) {named : Bool} {A : DataType → DataType → Option DataType} {space : Space} {left : ℕ} (swap : Bool) {s w v : List ℕ} {l r : ℕ} {g : Goal} {o : Out}
+pub any_known : (known : Option ℕ) {named : Bool} {A : DataType → DataType → Option DataType} {space : Space} {left : ℕ} (swap : Bool) {s w v : List ℕ} {l r : ℕ} {g : Goal} {o : Out}
     → Merges A space left swap s w v l r g o → MergesKnown known named A space left swap s w v l r g o
 any_known known swap m = record { writes = m.writes; means = λ x y a b q d. m.means x y a b q }
 
 pub none_known : {named : Bool} {A : DataType → DataType → Option DataType} {space : Space} {left : ℕ} (swap : Bool) {s w v : List ℕ} {l r : ℕ} {g : Goal} {o : Out}
-    → MergesKnown 1 named A space left swap s w v l r g o → Merges A space left swap s w v l r g o
-none_known {named} swap m = record { writes = m.writes; means = λ x y a b q. m.means x y a b q (nothing_known named x y a) }
+    → MergesKnown None named A space left swap s w v l r g o → Merges A space left swap s w v l r g o
+none_known {named} swap {l = l} m = record { writes = m.writes; means = λ x y a b q. m.means x y a b q (nothing_known named l x y) }
 
 -- two types of whose wrappers something may be known, and of whose nothing is
-pub any_hint : (hint mask : ℕ) {known : ℕ} {named : Bool} {A : DataType → DataType → Option DataType} {space : Space} {left : ℕ} (swap : Bool) {s w v : List ℕ} {l r : ℕ} {g : Goal} {o : Out}
+pub any_hint : (hint mask : ℕ) {known : Option ℕ} {named : Bool} {A : DataType → DataType → Option DataType} {space : Space} {left : ℕ} (swap : Bool) {s w v : List ℕ} {l r : ℕ} {g : Goal} {o : Out}
     → MergesKnown known named A space left swap s w v l r g o → MergesHinted hint mask known named A space left swap s w v l r g o
 any_hint hint mask swap m = record { writes = m.writes; means = λ x y a b q d n. m.means x y a b q d }
 
-pub none_hint : {mask known : ℕ} {named : Bool} {A : DataType → DataType → Option DataType} {space : Space} {left : ℕ} (swap : Bool) {s w v : List ℕ} {l r : ℕ} {g : Goal} {o : Out}
+pub none_hint : {mask : ℕ} {known : Option ℕ} {named : Bool} {A : DataType → DataType → Option DataType} {space : Space} {left : ℕ} (swap : Bool) {s w v : List ℕ} {l r : ℕ} {g : Goal} {o : Out}
     → MergesHinted 0 mask known named A space left swap s w v l r g o → MergesKnown known named A space left swap s w v l r g o
 none_hint swap m = record { writes = m.writes; means = λ x y a b q d. m.means x y a b q d (λ n. absurd (n refl)) }
 
 module _ {A : DataType → DataType → Option DataType} (B : DataType → DataType → Option DataType) (space : Space) (swap : Bool) (s w v : List ℕ) (l r : ℕ) (g : Goal) (o : Out) where
   -- a rule that says the same of the types at hand, of which as much is known, where no more records are left in them
-  pub hinted_within : {hint mask known : ℕ} (known' : ℕ) {named : Bool} {left : ℕ} (left' : ℕ) → left' ≤ left
+  pub hinted_within : {hint mask : ℕ} {known : Option ℕ} (known' : Option ℕ) {named : Bool} {left : ℕ} (left' : ℕ) → left' ≤ left
       → ((x y : DataType) → Typed space (side swap s w) l x → Typed space (side (not swap) s w) r y → size x + size y ≤ left' → Known known' named l x y → Hint hint mask x y
       → (A x y ≡ B x y) × Known known named l x y)
       → MergesHinted hint mask known named A space left swap s w v l r g o → MergesHinted hint mask known' named B space left' swap s w v l r g o
@@ -128,15 +128,15 @@ module _ {A : DataType → DataType → Option DataType} (B : DataType → DataT
             means_for space w v g (size x + size y) (letters x + letters y) o (omega arith) (omega arith) i.0 (m.means x y a b (omega arith) i.1 n);
       }
 
-  pub known_as : {known : ℕ} (known' : ℕ) {named : Bool} {left : ℕ} (left' : ℕ) → left' ≤ left
+  pub known_as : {known : Option ℕ} (known' : Option ℕ) {named : Bool} {left : ℕ} (left' : ℕ) → left' ≤ left
       → ((x y : DataType) → Typed space (side swap s w) l x → Typed space (side (not swap) s w) r y → Known known' named l x y → (A x y ≡ B x y) × Known known named l x y)
       → MergesKnown known named A space left swap s w v l r g o → MergesKnown known' named B space left' swap s w v l r g o
   known_as known' left' h f m = none_hint {mask = 0} swap (hinted_within known' left' h (λ x y a b q d n. f x y a b d) (any_hint 0 0 swap m))
 
-  pub as_known : (known : ℕ) {named : Bool} {left : ℕ} (left' : ℕ) → left' ≤ left
+  pub as_known : (known : Option ℕ) {named : Bool} {left : ℕ} (left' : ℕ) → left' ≤ left
       → ((x y : DataType) → Typed space (side swap s w) l x → Typed space (side (not swap) s w) r y → Known known named l x y → A x y ≡ B x y)
       → Merges A space left swap s w v l r g o → MergesKnown known named B space left' swap s w v l r g o
-  as_known known {named} left' h f m = known_as {known = 1} known left' h (λ x y a b d. (f x y a b d, nothing_known named x y a)) (any_known 1 swap m)
+  as_known known {named} left' h f m = known_as {known = None} known left' h (λ x y a b d. (f x y a b d, nothing_known named l x y)) (any_known None swap m)
 
   -- the sides exchanged
   pub merges_swapped : (left : ℕ) → ((x y : DataType) → Typed space (side swap s w) l x → Typed space (side (not swap) s w) r y → A y x ≡ B x y)
@@ -152,7 +152,7 @@ module _ {A : DataType → DataType → Option DataType} (B : DataType → DataT
 
 module _ (B : DataType → DataType → Option DataType) (space : Space) (left : ℕ) (swap : Bool) (s w : List ℕ) (l r : ℕ) (g : Goal) where
   -- the left type as it is
-  pub merges_left : (v : List ℕ) (o : Out) → ((x y : DataType) → Typed space (side swap s w) l x → Typed space (side (not swap) s w) r y → some x ≡ B x y)
+  pub merges_left : (v : List ℕ) (o : Out) → ((x y : DataType) → Typed space (side swap s w) l x → Typed space (side (not swap) s w) r y → Some x ≡ B x y)
       → CopiedType space (side swap s w) w v l g o → Merges B space left swap s w v l r g o
   merges_left v o f c =
       record {
@@ -164,7 +164,7 @@ module _ (B : DataType → DataType → Option DataType) (space : Space) (left :
       }
 
   -- the right type as it is
-  pub merges_right : (v : List ℕ) (o : Out) → ((x y : DataType) → Typed space (side swap s w) l x → Typed space (side (not swap) s w) r y → some y ≡ B x y)
+  pub merges_right : (v : List ℕ) (o : Out) → ((x y : DataType) → Typed space (side swap s w) l x → Typed space (side (not swap) s w) r y → Some y ≡ B x y)
       → CopiedType space (side (not swap) s w) w v r g o → Merges B space left swap s w v l r g o
   merges_right v o f c =
       record {
@@ -176,17 +176,13 @@ module _ (B : DataType → DataType → Option DataType) (space : Space) (left :
       }
 
   -- no common type
-  pub merges_none : ((x y : DataType) → Typed space (side swap s w) l x → Typed space (side (not swap) s w) r y → size x + size y ≤ left → none ≡ B x y)
-      → Merges B space left swap s w w l r g No
+  pub merges_none : ((x y : DataType) → Typed space (side swap s w) l x → Typed space (side (not swap) s w) r y → size x + size y ≤ left → None ≡ B x y)
+      → Merges B space left swap s w w l r g (Err NoType)
   merges_none f =
       record {
         writes = record { kept = kept_self w g.at (g.label + g.nlen); passes = tt };
-        means = λ x y a b q. subst (Means space w w g (size x + size y) (letters x + letters y) No) (f x y a b q) tt;
+        means = λ x y a b q. subst (Means space w w g (size x + size y) (letters x + letters y) (Err NoType)) (f x y a b q) tt;
       }
-
-  -- no room for a record
-  pub merges_full : space.n ≤ g.at → Merges B space left swap s w w l r g Full
-  merges_full h = record { writes = no_record space w g h; means = λ x y a b q. inl (omega arith) }
 
 -- names within a type differ
 pub type_differ : {space : Space} {s : List ℕ} {link : ℕ} (t : DataType) → Typed space s link t → names_differ (single t) ≡ true
@@ -198,7 +194,7 @@ unfolding labels
 single_letters t = length-append (zone_bytes t.shape.zone) (labels t.parts ++ []) ∙ ap (λ (k : ℕ). length (zone_bytes t.shape.zone) + k) (length-append (labels t.parts) [] ∙ omega arith)
 
 -- the common type takes no more than both
-pub common_fits : {space : Space} {s u : List ℕ} {i j : ℕ} (rules : Rules) {x y : DataType} (t : DataType) → Typed space s i x → Typed space u j y → coercion rules x y ≡ some t
+pub common_fits : {space : Space} {s u : List ℕ} {i j : ℕ} (rules : Rules) {x y : DataType} (t : DataType) → Typed space s i x → Typed space u j y → coercion rules x y ≡ Some t
     → (size t ≤ size x + size y) × (letters t ≤ letters x + letters y)
 common_fits rules {x} {y} t a b e =
     let p = coercion_smaller rules x y t (type_differ x a) (type_differ y b) e in

@@ -3,7 +3,7 @@ use mathlib.Core.Path.{◌≡◌, refl, ap, ap₂, sym, subst, subst₂, ◌∙�
 use mathlib.Core.Bool.{Bool, true, false, cond, not, ◌&&◌}
 use mathlib.Core.List.{List, [], ◌++◌}
 use mathlib.Core.Logic.{inl, inr, ⊎_elim}
-use mathlib.Core.Option.{Option, none, some}
+use Rattle.std.specs.Prelude.{Option, None, Some}
 use Prim.Native.Nat.{ℕ, ◌+◌, ◌<◌, ◌≤◌}
 use native.Mathlib.Omega.{arith}
 use lib.ListN.{length, length-append}
@@ -28,12 +28,13 @@ use Rattle.buffers.specs.declared.Space.{Space}
 use Rattle.buffers.specs.declared.Spot.{Spot}
 use Rattle.buffers.specs.declared.Goal.{Goal}
 use Rattle.buffers.specs.declared.Feed.{Feed}
-use Rattle.buffers.specs.declared.Out.{Out}
-use Rattle.buffers.specs.declared.Out.TheVariants.{Done, No, Full}
+use Rattle.buffers.specs.Out.{Out}
+use Rattle.std.specs.Prelude.{Ok, Err}
+use Rattle.buffers.specs.declared.Failure.{Failure}
+use Rattle.buffers.specs.declared.Failure.TheVariants.{NoType, Full}
 use Rattle.buffers.proofs.Sources.{read_shape}
 use Rattle.buffers.proofs.Frames.{stands_frame, kept_trans, kept_wider}
 use Rattle.buffers.proofs.Chained.{labels_sum}
-use Rattle.buffers.proofs.Laying.{no_record}
 use Rattle.wrappers.proofs.Values.{chain_first}
 use Rattle.merge.proofs.Knowing.{next_at_lem, parts_known, row_known_lem}
 use Rattle.merge.proofs.Merging.{chain_side, typed_side, chain_some, nothing_known, means_for, any_known, merges_none}
@@ -55,7 +56,7 @@ pub parent_laid : {space : Space} {w v : List ℕ} {g : Goal} {kind figure scale
 parent_laid l = record { at = refl; label = omega arith; stands = l.stands }
 
 pub parent_copied : {space : Space} {s w v : List ℕ} {h : Head} {link : ℕ} {g : Goal} {d : Spot} {name : List ℕ} {nullable : Bool} {shape : Shape} {parts rest : Fields}
-    → h ≡ head_at s link → CopiedHead space s w v h link g 0 (Done d) → Chain space s link (field name nullable shape parts rest)
+    → h ≡ head_at s link → CopiedHead space s w v h link g 0 (Ok d) → Chain space s link (field name nullable shape parts rest)
     → Parent space w v g shape (link_to (g.at + 1) parts) d
 parent_copied {name = name} {nullable} {shape} {parts} {rest} e c a =
     let m = c.means.1 a.floor a.at a.label a.up name nullable shape parts rest a.held e in
@@ -87,30 +88,30 @@ parent_wrote {space} {w} {v} u {g} {shape} {link} {d} {e} parts p el k q name nm
 pub parent_means : {space : Space} {w v : List ℕ} (u : List ℕ) {g : Goal} {shape : Shape} {link : ℕ} {d : Spot} (z y : ℕ) (o : Out) (m : Option Fields)
     → Parent space w v g shape link d → If (λ parts. link ≡ link_to (g.at + 1) parts) m → Kept space v u d.at d.label → ChainIs space u d z y o m
     → Means space w u g (1 + z) (length (zone_bytes shape.zone) + y) o (list_of shape m)
-parent_means u z y (Done e) none p el k a = absurd a
-parent_means u z y (Done e) (some parts) p el k a = parent_wrote u parts p el k a
-parent_means u z y No none p el k a = tt
-parent_means u z y No (some parts) p el k a = absurd a
-parent_means u z y Full m p el k a = ⊎_elim (λ i. inl (omega (arith, p.at))) (λ i. inr (omega (arith, p.label))) a
+parent_means u z y (Ok e) None p el k a = absurd a
+parent_means u z y (Ok e) (Some parts) p el k a = parent_wrote u parts p el k a
+parent_means u z y (Err NoType) None p el k a = tt
+parent_means u z y (Err NoType) (Some parts) p el k a = absurd a
+parent_means u z y (Err Full) m p el k a = ⊎_elim (λ i. inl (omega (arith, p.at))) (λ i. inr (omega (arith, p.label))) a
 
 -- writes at a goal, and then after its record
-pub kept_on : {space : Space} {w v u : List ℕ} (g : Goal) {d : Spot} → Kept space w v g.at (g.label + g.nlen) → Passes space g (Done d) → Kept space v u d.at d.label
+pub kept_on : {space : Space} {w v u : List ℕ} (g : Goal) {d : Spot} → Kept space w v g.at (g.label + g.nlen) → Passes space g (Ok d) → Kept space v u d.at d.label
     → Kept space w u g.at (g.label + g.nlen)
 kept_on g a p k = kept_trans a (kept_wider g.at (g.label + g.nlen) (omega (arith, p.1.0)) p.1.1 k)
 
-pub writes_on : {space : Space} {w v u : List ℕ} (g : Goal) {d : Spot} (o : Out) → Kept space w v g.at (g.label + g.nlen) → Passes space g (Done d)
+pub writes_on : {space : Space} {w v u : List ℕ} (g : Goal) {d : Spot} (o : Out) → Kept space w v g.at (g.label + g.nlen) → Passes space g (Ok d)
     → Kept space v u d.at d.label → Grows space d o → Writes space w u g o
-writes_on g (Done e) a p k q =
+writes_on g (Ok e) a p k q =
     record { kept = kept_on g a p k; passes = (q.0, (omega (arith, p.1.0, q.1.0), omega (arith, p.1.1, q.1.1))) }
-writes_on g No a p k q = record { kept = kept_on g a p k; passes = tt }
-writes_on g Full a p k q = record { kept = kept_on g a p k; passes = tt }
+writes_on g (Err NoType) a p k q = record { kept = kept_on g a p k; passes = tt }
+writes_on g (Err Full) a p k q = record { kept = kept_on g a p k; passes = tt }
 
-pub after_passes : {space : Space} (g : Goal) → Ready space g → g.at < space.n → Passes space g (Done (after g))
+pub after_passes : {space : Space} (g : Goal) → Ready space g → g.at < space.n → Passes space g (Ok (after g))
 after_passes g ready lt = (record { some = omega arith; records = omega arith; letters = ready.letters }, (omega arith, omega arith))
 
 always : {A : Type 0} (o : Option A) → If (λ a. Unit {0}) o
-always none = tt
-always (some a) = tt
+always None = tt
+always (Some a) = tt
 
 -- a merged chain is empty where the left chain is
 join_link : (c : DataType → DataType → Option DataType) (i : ℕ) (lf tf nf : Fields) → If (λ parts. link_to i lf ≡ link_to i parts) (join_fields c lf tf nf)
@@ -132,10 +133,7 @@ link_is {l = l} at end a = rw (eq-eqb l 0 (chain_link refl a)) refl
 link_is {l = l} at (field name nullable shape parts rest) a = rw (ne_eqb l 0 (λ e. omega (arith, chain_some a))) refl
 
 -- the record of a type with parts, and the merged rows
-module _ {known : ℕ} {named : Bool} (c : DataType → DataType → Option DataType) (space : Space) (left : ℕ) (swap : Bool) (s w : List ℕ) (feed : Feed) (l r p : ℕ) (g : Goal) where
-  pub under_full : (shape : Shape) → space.n ≤ g.at → Under known named c space left swap s w w feed shape l r p g Full
-  under_full shape h = record { writes = no_record space w g h; means = λ lf rf pf tf nf a b q f k d. inl (omega arith) }
-
+module _ {known : Option ℕ} {named : Bool} (c : DataType → DataType → Option DataType) (space : Space) (left : ℕ) (swap : Bool) (s w : List ℕ) (feed : Feed) (l r p : ℕ) (g : Goal) where
   pub under_on : (v u : List ℕ) (o : Out) {kind sz first : ℕ} → Room w space → Ready space g → g.at < space.n → first ≡ cond (eqb l 0) 0 (g.at + 1)
       → Laid space w v g (shape_for kind 0 0 sz false) first → Rowed known named c space left swap s v u feed l r p (after g) o
       → Under known named c space left swap s w u feed (shape_for kind 0 0 sz false) l r p g o
@@ -157,7 +155,7 @@ module _ {known : ℕ} {named : Bool} (c : DataType → DataType → Option Data
 
 -- the record of the left did not fit
 pub head_crowded : (B : DataType → DataType → Option DataType) (space : Space) (left : ℕ) (swap : Bool) (s w : List ℕ) (l r : ℕ) (g : Goal) (h : Head) → h ≡ head_at (side swap s w) l
-    → (v : List ℕ) → CopiedHead space (side swap s w) w v h l g 0 Full → Merges B space left swap s w v l r g Full
+    → (v : List ℕ) → CopiedHead space (side swap s w) w v h l g 0 (Err Full) → Merges B space left swap s w v l r g (Err Full)
 head_crowded B space left swap s w l r g h eh v m =
     record {
       writes = record { kept = m.kept; passes = tt };
@@ -167,10 +165,15 @@ head_crowded B space left swap s w l r g h eh v m =
           inr (omega (arith, m.means d.floor d.at d.label d.up a.name a.nullable x.shape x.parts a.rest d.held eh));
     }
 
+pub head_stopped : (B : DataType → DataType → Option DataType) (space : Space) (left : ℕ) (swap : Bool) (s w : List ℕ) (l r : ℕ) (g : Goal) (h : Head) → h ≡ head_at (side swap s w) l
+    → (v : List ℕ) (f : Failure) → CopiedHead space (side swap s w) w v h l g 0 (Err f) → Merges B space left swap s w v l r g (Err f)
+head_stopped B space left swap s w l r g h eh v NoType m = absurd m.means
+head_stopped B space left swap s w l r g h eh v Full m = head_crowded B space left swap s w l r g h eh v m
+
 -- two wrappers: the left's record was copied, and the parts of both were merged
-module _ (known : ℕ) {named : Bool} (c : DataType → DataType → Option DataType) (space : Space) (left : ℕ) (swap : Bool) (s w : List ℕ) (l r : ℕ) (g : Goal) (room : Room w space) (h k : Head)
+module _ (known : Option ℕ) {named : Bool} (c : DataType → DataType → Option DataType) (space : Space) (left : ℕ) (swap : Bool) (s w : List ℕ) (l r : ℕ) (g : Goal) (room : Room w space) (h k : Head)
     (eh : h ≡ head_at (side swap s w) l) (ek : k ≡ head_at (side (not swap) s w) r) (v : List ℕ) where
-  pub both_on : (d : Spot) (u : List ℕ) (o : Out) → CopiedHead space (side swap s w) w v h l g 0 (Done d)
+  pub both_on : (d : Spot) (u : List ℕ) (o : Out) → CopiedHead space (side swap s w) w v h l g 0 (Ok d)
       → Rowed known named c space left swap s v u Feed.Own h.first k.first k.first d o → MergesKnown known named (both_wrapped c) space (left + 1) swap s w u l r g o
   both_on d u o m rows =
       record {
@@ -189,15 +192,7 @@ module _ (known : ℕ) {named : Bool} (c : DataType → DataType → Option Data
 -- a field that was merged with a type: its name, and then its type
 module _ (A : DataType → DataType → Option DataType) (space : Space) (left : ℕ) (swap : Bool) (s w : List ℕ) (l r : ℕ) (to : Spot) (h : Head) (eh : h ≡ head_at (side swap s w) l)
     (v : List ℕ) (b : Bool) (named : NamedAt space (side swap s w) w v h to b) where
-  pub field_crowded : {known : ℕ} {by_names : Bool} → b ≡ false → MergesField known by_names A space left swap s w v l r to Full
-  field_crowded z =
-      record {
-        kept = named.kept;
-        grows = tt;
-        means = λ name nullable x y rest a t q d. inr (omega (arith, named.full z, name_length_lem a h eh));
-      }
-
-  field_merged : {known own-known : ℕ} {by_names : Bool}
+  field_merged : {known own-known : Option ℕ} {by_names : Bool}
       → ((name : List ℕ) (nullable : Bool) (x y : DataType) (rest : Fields) → Chain space (side swap s w) l (field name nullable x.shape x.parts rest) → (t : Typed space (side (not swap) s w) r y)
       → RowsKnown known by_names l (field name nullable x.shape x.parts rest) (field t.name t.nullable y.shape y.parts t.rest) → Known own-known by_names l x y)
       → (u : List ℕ) (o : Out) (own : Bool) → Room w space → b ≡ true → own ≡ nullable_in h → MergesKnown own-known by_names A space left swap s v u l r (goal_at to h.nlen own) o
@@ -214,47 +209,47 @@ module _ (A : DataType → DataType → Option DataType) (space : Space) (left :
       }
     where
       grown : (o : Out) → Passes space (goal_at to h.nlen own) o → Grows space to o
-      grown (Done d) p = (p.0, (omega (arith, p.1.0), omega (arith, p.1.1)))
-      grown No p = tt
-      grown Full p = tt
+      grown (Ok d) p = (p.0, (omega (arith, p.1.0), omega (arith, p.1.1)))
+      grown (Err NoType) p = tt
+      grown (Err Full) p = tt
 
       told : (name : List ℕ) (nullable : Bool) (z y₁ y₂ : ℕ) (o : Out) (t : Option DataType) → h.nlen ≡ length name → own ≡ nullable → Named space v (goal_at to h.nlen own) name
           → Means space v u (goal_at to h.nlen own) z (y₁ + y₂) o t → ChainIs space u to z (length name + y₁ + y₂) o (field_of name nullable t)
-      told name nullable z y₁ y₂ (Done d) none en eb nm a = absurd a
-      told name nullable z y₁ y₂ (Done d) (some t) en eb nm a = subst (λ (y : Bool). Wrote space u to d (field name y t.shape t.parts end)) eb (a name nm)
-      told name nullable z y₁ y₂ No none en eb nm a = tt
-      told name nullable z y₁ y₂ No (some t) en eb nm a = absurd a
-      told name nullable z y₁ y₂ Full t en eb nm a = ⊎_elim (λ i. inl (omega arith)) (λ i. inr (omega arith)) a
+      told name nullable z y₁ y₂ (Ok d) None en eb nm a = absurd a
+      told name nullable z y₁ y₂ (Ok d) (Some t) en eb nm a = subst (λ (y : Bool). Wrote space u to d (field name y t.shape t.parts end)) eb (a name nm)
+      told name nullable z y₁ y₂ (Err NoType) None en eb nm a = tt
+      told name nullable z y₁ y₂ (Err NoType) (Some t) en eb nm a = absurd a
+      told name nullable z y₁ y₂ (Err Full) t en eb nm a = ⊎_elim (λ i. inl (omega arith)) (λ i. inr (omega arith)) a
 
   module _ {by_names : Bool} (u : List ℕ) (o : Out) (own : Bool) (room : Room w space) (z : b ≡ true) (eo : own ≡ nullable_in h) where
     -- nothing was known of its type
-    pub field_alone : Merges A space left swap s v u l r (goal_at to h.nlen own) o → MergesField 0 by_names A space left swap s w u l r to o
-    field_alone m = field_merged (λ name nullable x y rest a t k. nothing_known by_names x y (chain_typed a)) u o own room z eo (any_known 1 swap m)
+    pub field_alone : Merges A space left swap s v u l r (goal_at to h.nlen own) o → MergesField None by_names A space left swap s w u l r to o
+    field_alone m = field_merged (λ name nullable x y rest a t k. nothing_known by_names _ x y) u o own room z eo (any_known None swap m)
 
     -- what was known of its chain was handed down
-    pub field_on : {known own-known : ℕ} → own-known ≡ row_known known l h.next r r → MergesKnown own-known by_names A space left swap s v u l r (goal_at to h.nlen own) o
+    pub field_on : {known own-known : Option ℕ} → own-known ≡ row_known known l h.next r r → MergesKnown own-known by_names A space left swap s v u l r (goal_at to h.nlen own) o
         → MergesField known by_names A space left swap s w u l r to o
     field_on {known} ek m =
         field_merged (λ name nullable x y rest a t k.
-        subst (λ (i : ℕ). Known i by_names l x y) (sym ek) (row_known_lem known by_names name nullable x.shape x.parts rest a h.next (next_at_lem a h eh) _ t.chain t k))
+        subst (λ (i : Option ℕ). Known i by_names l x y) (sym ek) (row_known_lem known by_names name nullable x.shape x.parts rest a h.next (next_at_lem a h eh) _ t.chain t k))
         u o own room z eo m
 
 -- two maps
 module _ (c : DataType → DataType → Option DataType) (space : Space) (left : ℕ) (swap : Bool) (s w : List ℕ) (l r : ℕ) (g : Goal) (h k : Head)
     (eh : h ≡ head_at (side swap s w) l) (ek : k ≡ head_at (side (not swap) s w) r) where
-  pub map_left_end : {known : ℕ} {by_names : Bool} → h.first ≡ 0 → MergesKnown known by_names (map_rule c) space left swap s w w l r g No
+  pub map_left_end : {known : Option ℕ} {by_names : Bool} → h.first ≡ 0 → MergesKnown known by_names (map_rule c) space left swap s w w l r g (Err NoType)
   map_left_end {known} z = any_known known swap (merges_none (map_rule c) space left swap s w l r g (λ x y a b q. go x y (chain_end z (chain_first h eh a.chain))))
     where
-      go : (x y : DataType) → x.parts ≡ end → none ≡ map_rule c x y
+      go : (x y : DataType) → x.parts ≡ end → None ≡ map_rule c x y
       go x y e = rw e refl
 
-  pub map_right_end : {known : ℕ} {by_names : Bool} → k.first ≡ 0 → MergesKnown known by_names (map_rule c) space left swap s w w l r g No
+  pub map_right_end : {known : Option ℕ} {by_names : Bool} → k.first ≡ 0 → MergesKnown known by_names (map_rule c) space left swap s w w l r g (Err NoType)
   map_right_end {known} z = any_known known swap (merges_none (map_rule c) space left swap s w l r g (λ x y a b q. go x.parts x y (chain_end z (chain_first k ek b.chain))))
     where
       go : (f : Fields) (x y : DataType) → y.parts ≡ end
-          → ◌≡◌ {A = Option DataType} none (and_then (entry_type f) (λ a. and_then (entry_type y.parts)
+          → ◌≡◌ {A = Option DataType} None (and_then (entry_type f) (λ a. and_then (entry_type y.parts)
           (λ b. and_then (struct_coercion c a b)
-          (λ t. some (record { shape = map_shape (x.shape.sorted && y.shape.sorted); parts = entry_of f t })))))
+          (λ t. Some (record { shape = map_shape (x.shape.sorted && y.shape.sorted); parts = entry_of f t })))))
       go end x y e = refl
       go (field n b sh p q) x y e = rw e refl
 
@@ -264,16 +259,16 @@ module _ (c : DataType → DataType → Option DataType) (space : Space) (left :
 
   module _ (room : Room w space) (ready : Ready space g) (lt : g.at < space.n) (v u : List ℕ) (o : Out) (sorted : Bool) (es : sorted ≡ (sorted_in h && sorted_in k))
       (some_left : ¬ (h.first ≡ 0)) (some_right : ¬ (k.first ≡ 0)) (laid : Laid space w v g (shape_for 36 0 0 0 sorted) (g.at + 1))
-      (known : ℕ) (named : Bool) (m : MergesField known named (struct_coercion c) space left swap s v u h.first k.first (after g) o) where
+      (known : Option ℕ) (named : Bool) (m : MergesField known named (struct_coercion c) space left swap s v u h.first k.first (after g) o) where
     linked : (n : List ℕ) (b : Bool) (t : Option DataType) → If (λ parts. g.at + 1 ≡ link_to (g.at + 1) parts) (field_of n b t)
-    linked n b none = tt
-    linked n b (some t) = refl
+    linked n b None = tt
+    linked n b (Some t) = refl
 
     shaped : (n : List ℕ) (b : Bool) {sx : Bool} (sh : Shape) (p q : Fields) (t : Option DataType) → sorted ≡ sx
         → list_of (shape_for 36 0 0 0 sorted) (field_of n b t)
-        ≡ and_then t (λ t. some (record { shape = map_shape sx; parts = entry_of (field n b sh p q) t }))
-    shaped n b sh p q none e = refl
-    shaped n b sh p q (some t) e = rw e refl
+        ≡ and_then t (λ t. Some (record { shape = map_shape sx; parts = entry_of (field n b sh p q) t }))
+    shaped n b sh p q None e = refl
+    shaped n b sh p q (Some t) e = rw e refl
 
     over : (way : Bool) {i : ℕ} {t : Fields} → Chain space (side way s w) i t → Chain space (side way s v) i t
     over way a = chain_side way space s w v g.at (g.label + g.nlen) room laid.kept a
@@ -281,7 +276,7 @@ module _ (c : DataType → DataType → Option DataType) (space : Space) (left :
     entries : {sx : Bool} (f f' : Fields) → sorted ≡ sx → Chain space (side swap s w) h.first f → Chain space (side (not swap) s w) k.first f'
         → 1 + count f + (1 + count f') ≤ left → RowsKnown known named h.first f f'
         → Means space w u g (1 + count f + (1 + count f')) (length (labels f) + length (labels f')) o
-        (and_then (entry_type f) (λ a. and_then (entry_type f') (λ b. and_then (struct_coercion c a b) (λ t. some (record { shape = map_shape sx; parts = entry_of f t })))))
+        (and_then (entry_type f) (λ a. and_then (entry_type f') (λ b. and_then (struct_coercion c a b) (λ t. Some (record { shape = map_shape sx; parts = entry_of f t })))))
     unfolding count
     entries end f' e a b q d = absurd (some_left (chain_link refl a))
     entries (field n nb sh p more) end e a b q d = absurd (some_right (chain_link refl b))

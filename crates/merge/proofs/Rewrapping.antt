@@ -3,7 +3,8 @@ use mathlib.Core.Path.{◌≡◌, refl, ap, ap₂, sym, subst, subst₂, ◌∙�
 use mathlib.Core.Bool.{Bool, true, false, not, ◌&&◌}
 use mathlib.Core.List.{List, [], ◌∷◌}
 use mathlib.Core.Logic.{◌⊎◌, inl, inr, ⊎_elim}
-use mathlib.Core.Option.{Option, none, some}
+use Rattle.std.specs.Prelude.{Option, None, Some}
+use Rattle.std.proofs.lemmas.Option.{none-some}
 use Prim.Native.Nat.{ℕ, ◌+◌, ◌<◌, ◌≤◌}
 use native.Mathlib.Omega.{arith}
 use lib.ListN.{length, length-append}
@@ -32,8 +33,10 @@ use Rattle.merge.specs.Merge.{Tabled, MergesField, field_of}
 use Rattle.buffers.specs.declared.Space.{Space}
 use Rattle.buffers.specs.declared.Spot.{Spot}
 use Rattle.buffers.specs.declared.Goal.{Goal}
-use Rattle.buffers.specs.declared.Out.{Out}
-use Rattle.buffers.specs.declared.Out.TheVariants.{Done, No, Full}
+use Rattle.buffers.specs.Out.{Out}
+use Rattle.std.specs.Prelude.{Ok, Err}
+use Rattle.buffers.specs.declared.Failure.{Failure}
+use Rattle.buffers.specs.declared.Failure.TheVariants.{NoType, Full}
 use Rattle.buffers.proofs.Frames.{kept_trans, kept_wider, wrote_frame}
 use Rattle.buffers.proofs.Chained.{labels_sum}
 use Rattle.buffers.proofs.Tying.{tied_kept, chain_tied}
@@ -118,16 +121,16 @@ value_of z = type_of z.shape₂ z.parts₂
 abbrev refilled : Two → DataType → Fields
 refilled z t = field z.name₁ z.null₁ z.shape₁ z.parts₁ (before z.name₂ z.null₂ t end)
 
-rewrap_view : (k : ℕ) (z : Two) (t : DataType) → eqb k 37 ≡ true → eqb t.shape.kind 27 ≡ true → rewrap k (wrapper_of z) t ≡ some t
+rewrap_view : (k : ℕ) (z : Two) (t : DataType) → eqb k 37 ≡ true → eqb t.shape.kind 27 ≡ true → rewrap k (wrapper_of z) t ≡ Some t
 rewrap_view k z t e q = rw e (rw q refl)
 
 rewrap_stays : (k : ℕ) (z : Two) (t : DataType) → (k ≡ 37) ⊎ (k ≡ 38) → (k ≡ 37 → (z.name₂ ≡ []) × (z.null₂ ≡ false)) → (eqb k 37 && eqb t.shape.kind 27) ≡ false
-    → rewrap k (wrapper_of z) t ≡ some (type_of z.shape (refilled z t))
+    → rewrap k (wrapper_of z) t ≡ Some (type_of z.shape (refilled z t))
 rewrap_stays k z t (inl e) bare n =
     let q : eqb k 37 ≡ true = eq-eqb k 37 e in
     let n' : eqb t.shape.kind 27 ≡ false = rw q at n in
     rw q (rw n' (ap₂ (λ (name : List ℕ) (nullable : Bool).
-    some (type_of z.shape (field z.name₁ z.null₁ z.shape₁ z.parts₁ (before name nullable t end)))) (sym (bare e).0) (sym (bare e).1)))
+    Some (type_of z.shape (field z.name₁ z.null₁ z.shape₁ z.parts₁ (before name nullable t end)))) (sym (bare e).0) (sym (bare e).1)))
 rewrap_stays k z t (inr e) bare n = rw (ne_eqb k 37 (λ q. omega arith)) refl
 
 -- how long the labels of a wrapper are
@@ -189,30 +192,34 @@ module _ (rules : Rules) (space : Space) (left : ℕ) (swap : Bool) (s w : List 
   merged v o wr f = record { writes = wr; means = λ x y a b q. apart (Says v o) f x a y b q }
 
   -- the record was copied
-  module _ (v₁ : List ℕ) (a : Spot) (cp : CopiedHead space (side swap s w) w v₁ h l g 0 (Done a)) where
+  module _ (v₁ : List ℕ) (a : Spot) (cp : CopiedHead space (side swap s w) w v₁ h l g 0 (Ok a)) where
     over₁ : (way : Bool) {i : ℕ} {t : Fields} → Chain space (side way s w) i t → Chain space (side way s v₁) i t
     over₁ way c = chain_side way space s w v₁ g.at (g.label + g.nlen) room cp.kept c
 
     parent : (z : Two) → Pair z → Parent space w v₁ g z.shape (g.at + 1) a
     parent z i = parent_copied eh cp i.whole.chain
 
-    pub index_none : (v₂ : List ℕ) → CopiedField space (side swap s v₁) v₁ v₂ h.first a No → Merges answer space (left + 1) swap s w v₂ l r g No
+    pub index_none : (v₂ : List ℕ) → CopiedField space (side swap s v₁) v₁ v₂ h.first a (Err NoType) → Merges answer space (left + 1) swap s w v₂ l r g (Err NoType)
     index_none v₂ cf =
-        merged v₂ No (writes_on g No cp.kept cp.passes cf.kept tt)
+        merged v₂ (Err NoType) (writes_on g (Err NoType) cp.kept cp.passes cf.kept tt)
         (λ z i y b q. absurd (cf.means z.name₁ z.null₁ z.shape₁ z.parts₁ (behind z) (over₁ swap i.first)))
 
-    pub index_full : (v₂ : List ℕ) → CopiedField space (side swap s v₁) v₁ v₂ h.first a Full → Merges answer space (left + 1) swap s w v₂ l r g Full
+    pub index_full : (v₂ : List ℕ) → CopiedField space (side swap s v₁) v₁ v₂ h.first a (Err Full) → Merges answer space (left + 1) swap s w v₂ l r g (Err Full)
     unfolding count
     index_full v₂ cf =
-        merged v₂ Full (writes_on g Full cp.kept cp.passes cf.kept tt)
+        merged v₂ (Err Full) (writes_on g (Err Full) cp.kept cp.passes cf.kept tt)
         (λ z i y b q.
         let p = parent z i in
         let e = wrapper_letters z in
         ⊎_elim (λ u. inl (omega (arith, p.at))) (λ u. inr (omega (arith, p.label)))
         (cf.means z.name₁ z.null₁ z.shape₁ z.parts₁ (behind z) (over₁ swap i.first)))
 
+    pub index_stopped : (v₂ : List ℕ) (f : Failure) → CopiedField space (side swap s v₁) v₁ v₂ h.first a (Err f) → Merges answer space (left + 1) swap s w v₂ l r g (Err f)
+    index_stopped v₂ NoType cf = index_none v₂ cf
+    index_stopped v₂ Full cf = index_full v₂ cf
+
     -- the first part was copied
-    module _ (v₂ : List ℕ) (b : Spot) (cf : CopiedField space (side swap s v₁) v₁ v₂ h.first a (Done b)) where
+    module _ (v₂ : List ℕ) (b : Spot) (cf : CopiedField space (side swap s v₁) v₁ v₂ h.first a (Ok b)) where
       kept₂ : Kept space w v₂ g.at (g.label + g.nlen)
       kept₂ = kept_on g cp.kept cp.passes cf.kept
 
@@ -230,24 +237,24 @@ module _ (rules : Rules) (space : Space) (left : ℕ) (swap : Bool) (s w : List 
       wider c = kept_trans cf.kept (kept_wider a.at a.label cf.grows.1.0 cf.grows.1.1 c)
 
       -- what is said of the second part
-      value : {named : Bool} {v₃ : List ℕ} {o : Out} → MergesField 0 named (coercion rules) space left swap s v₂ v₃ j.next r b o → (z : Two) → Pair z → (y : DataType)
+      value : {named : Bool} {v₃ : List ℕ} {o : Out} → MergesField None named (coercion rules) space left swap s v₂ v₃ j.next r b o → (z : Two) → Pair z → (y : DataType)
           → Typed space (side (not swap) s w) r y → size (wrapper_of z) + size y ≤ left + 1
           → ChainIs space v₃ b (size (value_of z) + size y) (length z.name₂ + letters (value_of z) + letters y) o (field_of z.name₂ z.null₂ (coercion rules (value_of z) y))
       unfolding count
-      value mf z i y t q = mf.means z.name₂ z.null₂ (value_of z) y z.rest (over₂ swap i.second) (other t) (omega arith) (λ pos le. absurd (omega arith))
+      value mf z i y t q = mf.means z.name₂ z.null₂ (value_of z) y z.rest (over₂ swap i.second) (other t) (omega arith) (λ d e. absurd (none-some d e))
 
-      pub value_none : {named : Bool} (v₃ : List ℕ) → MergesField 0 named (coercion rules) space left swap s v₂ v₃ j.next r b No → Merges answer space (left + 1) swap s w v₃ l r g No
-      value_none v₃ mf = merged v₃ No (writes_on g No cp.kept cp.passes (wider mf.kept) tt) (λ z i y t q. go z 0 0 0 0 (coercion rules (value_of z) y) (value mf z i y t q))
+      pub value_none : {named : Bool} (v₃ : List ℕ) → MergesField None named (coercion rules) space left swap s v₂ v₃ j.next r b (Err NoType) → Merges answer space (left + 1) swap s w v₃ l r g (Err NoType)
+      value_none v₃ mf = merged v₃ (Err NoType) (writes_on g (Err NoType) cp.kept cp.passes (wider mf.kept) tt) (λ z i y t q. go z 0 0 0 0 (coercion rules (value_of z) y) (value mf z i y t q))
         where
-          go : (z : Two) (z₀ y₀ z₁ y₁ : ℕ) (m : Option DataType) → ChainIs space v₃ b z₀ y₀ No (field_of z.name₂ z.null₂ m)
-              → Means space w v₃ g z₁ y₁ No (and_then m (λ t. rewrap k (wrapper_of z) t))
-          go z z₀ y₀ z₁ y₁ none c = tt
-          go z z₀ y₀ z₁ y₁ (some t) c = absurd c
+          go : (z : Two) (z₀ y₀ z₁ y₁ : ℕ) (m : Option DataType) → ChainIs space v₃ b z₀ y₀ (Err NoType) (field_of z.name₂ z.null₂ m)
+              → Means space w v₃ g z₁ y₁ (Err NoType) (and_then m (λ t. rewrap k (wrapper_of z) t))
+          go z z₀ y₀ z₁ y₁ None c = tt
+          go z z₀ y₀ z₁ y₁ (Some t) c = absurd c
 
-      pub value_full : {named : Bool} (v₃ : List ℕ) → MergesField 0 named (coercion rules) space left swap s v₂ v₃ j.next r b Full → Merges answer space (left + 1) swap s w v₃ l r g Full
+      pub value_full : {named : Bool} (v₃ : List ℕ) → MergesField None named (coercion rules) space left swap s v₂ v₃ j.next r b (Err Full) → Merges answer space (left + 1) swap s w v₃ l r g (Err Full)
       unfolding count labels
       value_full v₃ mf =
-          merged v₃ Full (writes_on g Full cp.kept cp.passes (wider mf.kept) tt)
+          merged v₃ (Err Full) (writes_on g (Err Full) cp.kept cp.passes (wider mf.kept) tt)
           (λ z i y t q.
           let p = parent z i in
           let e = wrapper_letters z in
@@ -256,8 +263,12 @@ module _ (rules : Rules) (space : Space) (left : ℕ) (swap : Bool) (s w : List 
           let l₂ = length-append z.name₁ (zone_bytes z.shape₁.zone) in
           ⊎_elim (λ u. inl (omega (arith, p.at, c.records))) (λ u. inr (omega (arith, p.label, c.letters))) (value mf z i y t q))
 
+      pub value_stopped : {named : Bool} (v₃ : List ℕ) (f : Failure) → MergesField None named (coercion rules) space left swap s v₂ v₃ j.next r b (Err f) → Merges answer space (left + 1) swap s w v₃ l r g (Err f)
+      value_stopped v₃ NoType mf = value_none v₃ mf
+      value_stopped v₃ Full mf = value_full v₃ mf
+
       -- the second part was merged, and tied to the first
-      module _ {named : Bool} (v₃ : List ℕ) (e : Spot) (mf : MergesField 0 named (coercion rules) space left swap s v₂ v₃ j.next r b (Done e)) (v₄ : List ℕ) (tied : Tied space v₃ v₄ a.at b.at)
+      module _ {named : Bool} (v₃ : List ℕ) (e : Spot) (mf : MergesField None named (coercion rules) space left swap s v₂ v₃ j.next r b (Ok e)) (v₄ : List ℕ) (tied : Tied space v₃ v₄ a.at b.at)
           (v₅ : List ℕ) (o : Out) (vw : Viewed space v₄ v₅ k b.at g e o) where
         inside : a.at < space.n
         inside = omega (arith, cf.further, cf.grows.0.records)
@@ -268,12 +279,12 @@ module _ (rules : Rules) (space : Space) (left : ℕ) (swap : Bool) (s w : List 
         kept_all : Kept space w v₄ g.at (g.label + g.nlen)
         kept_all = kept_on g cp.kept cp.passes kept₄
 
-        grows : Grows space a (Done e)
+        grows : Grows space a (Ok e)
         grows = (mf.grows.0, (omega (arith, cf.grows.1.0, mf.grows.1.0), omega (arith, cf.grows.1.1, mf.grows.1.1)))
 
         written : (c : Bool) → is_view space v₄ k b.at ≡ c → Writes space w v₅ g o
         written false q =
-            subst₂ (λ (o : Out) (u : List ℕ). Writes space w u g o) (sym (vw.stays q).0) (sym (vw.stays q).1) (writes_on g (Done e) cp.kept cp.passes kept₄ grows)
+            subst₂ (λ (o : Out) (u : List ℕ). Writes space w u g o) (sym (vw.stays q).0) (sym (vw.stays q).1) (writes_on g (Ok e) cp.kept cp.passes kept₄ grows)
         written true q = let m = (vw.view q).writes in record { kept = kept_trans kept_all m.kept; passes = m.passes }
 
         -- the parts of the wrapper, about the new value
@@ -297,19 +308,19 @@ module _ (rules : Rules) (space : Space) (left : ℕ) (swap : Bool) (s w : List 
             → Means space w v₅ g z₁ y₁ o (rewrap k (wrapper_of z) t)
         said z i z₁ y₁ le t sound c false q =
             let n = ap (λ (x : ℕ). eqb k 37 && eqb x 27) (sym (value_kind z i t c)) ∙ q in
-            let m : Means space w v₄ g z₁ y₁ (Done e) (some (type_of z.shape (refilled z t))) = parent_wrote v₄ (refilled z t) (parent z i) refl kept₄ c in
+            let m : Means space w v₄ g z₁ y₁ (Ok e) (Some (type_of z.shape (refilled z t))) = parent_wrote v₄ (refilled z t) (parent z i) refl kept₄ c in
             subst (λ (x : Option DataType). Means space w v₅ g z₁ y₁ o x) (sym (rewrap_stays k z t (wrapper_is k is) i.bare n))
-            (subst₂ (λ (o : Out) (u : List ℕ). Means space w u g z₁ y₁ o (some (type_of z.shape (refilled z t)))) (sym (vw.stays q).0) (sym (vw.stays q).1) m)
+            (subst₂ (λ (o : Out) (u : List ℕ). Means space w u g z₁ y₁ o (Some (type_of z.shape (refilled z t)))) (sym (vw.stays q).0) (sym (vw.stays q).1) m)
         said z i z₁ y₁ le t sound c true q =
             let p = and_fst (eqb k 37) (eqb (head_at (region space v₄) b.at).kind 27) q in
             let n = ap (λ (x : ℕ). eqb x 27) (sym (value_kind z i t c)) ∙ and_snd (eqb k 37) (eqb (head_at (region space v₄) b.at).kind 27) q in
-            means_for space w v₅ g z₁ y₁ o le (omega arith) (ap (λ (x : DataType). some x) (sym (view_plain t sound (eqb-true t.shape.kind 27 n))) ∙ sym (rewrap_view k z t p n))
-            (means_after space w v₄ v₅ g 1 0 o (some (type_of (shape_for 27 0 0 0 false) end)) kept_all (vw.view q).means)
+            means_for space w v₅ g z₁ y₁ o le (omega arith) (ap (λ (x : DataType). Some x) (sym (view_plain t sound (eqb-true t.shape.kind 27 n))) ∙ sym (rewrap_view k z t p n))
+            (means_after space w v₄ v₅ g 1 0 o (Some (type_of (shape_for 27 0 0 0 false) end)) kept_all (vw.view q).means)
 
-        both : (z : Two) → Pair z → (z₀ y₀ z₁ y₁ : ℕ) → 1 ≤ z₁ → (m : Option DataType) → If Sound m → ChainIs space v₃ b z₀ y₀ (Done e) (field_of z.name₂ z.null₂ m)
+        both : (z : Two) → Pair z → (z₀ y₀ z₁ y₁ : ℕ) → 1 ≤ z₁ → (m : Option DataType) → If Sound m → ChainIs space v₃ b z₀ y₀ (Ok e) (field_of z.name₂ z.null₂ m)
             → Means space w v₅ g z₁ y₁ o (and_then m (λ t. rewrap k (wrapper_of z) t))
-        both z i z₀ y₀ z₁ y₁ le none sound c = absurd c
-        both z i z₀ y₀ z₁ y₁ le (some t) sound c = said z i z₁ y₁ le t sound (parts_wrote z i t c) (is_view space v₄ k b.at) refl
+        both z i z₀ y₀ z₁ y₁ le None sound c = absurd c
+        both z i z₀ y₀ z₁ y₁ le (Some t) sound c = said z i z₁ y₁ le t sound (parts_wrote z i t c) (is_view space v₄ k b.at) refl
 
         pub wrapper_on : Merges answer space (left + 1) swap s w v₅ l r g o
         wrapper_on =

@@ -2,7 +2,8 @@
 use mathlib.Core.Path.{◌≡◌, refl, ap, ap₂, sym, subst, ◌∙◌}
 use mathlib.Core.Bool.{Bool, true, false, cond, not, ◌&&◌}
 use mathlib.Core.List.{List}
-use mathlib.Core.Option.{Option, none, some}
+use Rattle.std.specs.Prelude.{Option, None, Some, unwrap_or}
+use Rattle.std.proofs.lemmas.Option.{none-some, same_Some}
 use Prim.Native.Nat.{ℕ, ◌+◌, ◌≤◌}
 use native.Mathlib.Omega.{arith}
 use lib.Dec.{eqb}
@@ -11,7 +12,7 @@ use Rattle.sheet.specs.Types.{Fields, arity}
 use Rattle.sheet.specs.Head.{head_at}
 use Rattle.sheet.specs.Names.{repeats, names_differ}
 use Rattle.sheet.specs.declared.Head.{Head}
-use Rattle.sheet.proofs.Tests.{all_at, and_fst, and_snd}
+use Rattle.sheet.proofs.Tests.{never, all_at, and_fst, and_snd}
 use Rattle.coercion.specs.Data.{DataType, size}
 use Rattle.coercion.specs.Wrappers.{is_of}
 use Rattle.coercion.specs.Nested.{join_fields, by_name, fields_have_same_names, partners, list_of, struct_of, struct_coercion}
@@ -22,11 +23,12 @@ use Rattle.buffers.specs.Typed.{Chain, Typed}
 use Rattle.buffers.specs.Feeds.{Feeds}
 use Rattle.buffers.specs.Partners.{same_order}
 use Rattle.merge.specs.Known.{Known}
-use Rattle.merge.specs.Merge.{StructFed, MergesKnown, Under}
+use Rattle.merge.specs.Merge.{StructFed, StructsFed, MergesKnown, Under}
 use Rattle.buffers.specs.declared.Space.{Space}
 use Rattle.buffers.specs.declared.Goal.{Goal}
-use Rattle.buffers.specs.declared.Out.{Out}
-use Rattle.buffers.specs.declared.Out.TheVariants.{No}
+use Rattle.buffers.specs.Out.{Out}
+use Rattle.std.specs.Prelude.{Err}
+use Rattle.buffers.specs.declared.Failure.TheVariants.{NoType}
 use Rattle.buffers.specs.declared.Feed.{Feed}
 use Rattle.buffers.proofs.Chained.{held_first}
 use Rattle.wrappers.proofs.Values.{chain_first}
@@ -42,15 +44,75 @@ struct_differ {t = t} e a =
     not-true (repeats t.parts) (rw (eq-eqb t.shape.kind 35 e) at (all_at _ 0 a.chain.held.differ))
 
 struct_list : (o : Option Fields) → list_of (shape_for 35 0 0 0 false) o ≡ struct_of o
-struct_list none = refl
-struct_list (some fields) = refl
+struct_list None = refl
+struct_list (Some fields) = refl
 
 -- two Structs of one arity whose fields have the same names
 struct_by_name : (c : DataType → DataType → Option DataType) (X Y : DataType) (tf : Fields) → (is_of 35 X && (is_of 35 Y && eqb (arity X.parts) (arity Y.parts))) ≡ true
-    → fields_have_same_names X.parts Y.parts ≡ true → by_name X.parts Y.parts ≡ some tf
+    → fields_have_same_names X.parts Y.parts ≡ true → by_name X.parts Y.parts ≡ Some tf
     → list_of (shape_for 35 0 0 0 false) (join_fields c X.parts tf tf) ≡ struct_coercion c X Y
 unfolding struct_coercion partners
 struct_by_name c X Y tf k n f = struct_list (join_fields c X.parts tf tf) ∙ rw k (rw n (rw f refl))
+
+-- by name and by place are not the same
+is_place : Feed → Bool
+is_place Feed.Place = true
+is_place Feed.Own = false
+is_place Feed.Name = false
+is_place Feed.NameThenPlace = false
+
+-- what is said of the names of two Structs by what feeds the fields of one
+module _ {space : Space} {s t : List ℕ} {floor l r : ℕ} where
+  pub fed_or_placed : {o : Option Feed} {feed : Feed} → feed ≡ unwrap_or o Feed.Place → StructsFed Feed.Name space s t floor l r o → StructFed space s t floor l r feed
+  fed_or_placed e f a o up lf rf h c = e ∙ rw (f a o up lf rf h c) (go (same_order lf rf) (fields_have_same_names lf rf))
+    where
+      go : (i j : Bool) → unwrap_or (cond i (Some Feed.Place) (cond j (Some Feed.Name) None)) Feed.Place ≡ cond i Feed.Place (cond j Feed.Name Feed.Place)
+      go true j = refl
+      go false true = refl
+      go false false = refl
+
+  pub fed_none : StructsFed Feed.NameThenPlace space s t floor l r None → Asks fields_have_same_names space s t floor l r false
+  fed_none f a o up lf rf h c = go (same_order lf rf) (fields_have_same_names lf rf) (f a o up lf rf h c)
+    where
+      go : (i j : Bool) → ◌≡◌ {A = Option Feed} None (cond i (Some Feed.Place) (cond j (Some Feed.NameThenPlace) None)) → false ≡ j
+      go true j e = absurd (none-some Feed.Place e)
+      go false true e = absurd (none-some Feed.NameThenPlace e)
+      go false false e = refl
+
+  fed_ordered : StructsFed Feed.NameThenPlace space s t floor l r (Some Feed.Place) → Asks same_order space s t floor l r true
+  unfolding is_place
+  fed_ordered f a o up lf rf h c = go (same_order lf rf) (fields_have_same_names lf rf) (f a o up lf rf h c)
+    where
+      go : (i j : Bool) → Some Feed.Place ≡ cond i (Some Feed.Place) (cond j (Some Feed.NameThenPlace) None) → true ≡ i
+      go true j e = refl
+      go false true e = never (sym (ap is_place (same_Some _ _ e)))
+      go false false e = absurd (none-some Feed.Place (sym e))
+
+  fed_named : StructsFed Feed.NameThenPlace space s t floor l r (Some Feed.NameThenPlace) → Asks fields_have_same_names space s t floor l r true
+  unfolding is_place
+  fed_named f a o up lf rf h c = go (same_order lf rf) (fields_have_same_names lf rf) (f a o up lf rf h c)
+    where
+      go : (i j : Bool) → Some Feed.NameThenPlace ≡ cond i (Some Feed.Place) (cond j (Some Feed.NameThenPlace) None) → true ≡ j
+      go true j e = never (ap is_place (same_Some _ _ e))
+      go false true e = refl
+      go false false e = absurd (none-some Feed.NameThenPlace (sym e))
+
+and_assoc : (i j k : Bool) → (i && (j && k)) ≡ ((i && j) && k)
+and_assoc true j k = refl
+and_assoc false j k = refl
+
+-- two types of which one is no Struct
+pub struct_other : (c : DataType → DataType → Option DataType) (space : Space) (left : ℕ) (swap : Bool) (s w : List ℕ) (l r : ℕ) (g : Goal) (x y : Head) → x ≡ head_at (side swap s w) l
+    → y ≡ head_at (side (not swap) s w) r → {known : Option ℕ} {by_names : Bool} → (eqb x.kind 35 && eqb y.kind 35) ≡ false
+    → MergesKnown known by_names (struct_coercion c) space (left + 1) swap s w w l r g (Err NoType)
+unfolding struct_coercion
+struct_other c space left swap s w l r g x y ex ey {known} h =
+    any_known known swap (merges_none (struct_coercion c) space (left + 1) swap s w l r g (λ X Y a b q. rw (kinds a b) refl))
+  where
+    kinds : {X Y : DataType} → Typed space (side swap s w) l X → Typed space (side (not swap) s w) r Y → (is_of 35 X && (is_of 35 Y && eqb (arity X.parts) (arity Y.parts))) ≡ false
+    kinds {X} {Y} a b =
+        ap₂ (λ (i j : ℕ). eqb i 35 && (eqb j 35 && eqb (arity X.parts) (arity Y.parts))) (typed_reads a ex).kind (typed_reads b ey).kind
+        ∙ and_assoc (eqb x.kind 35) (eqb y.kind 35) (eqb (arity X.parts) (arity Y.parts)) ∙ rw h refl
 
 -- the parts of two types, and what was asked of them
 module _ (c : DataType → DataType → Option DataType) (space : Space) (left : ℕ) (swap : Bool) (s w : List ℕ) (l r : ℕ) (g : Goal) (x y : Head)
@@ -64,10 +126,6 @@ module _ (c : DataType → DataType → Option DataType) (space : Space) (left :
     kinds =
         ap₂ (λ (i j : ℕ). eqb i 35 && (eqb j 35 && eqb (arity X.parts) (arity Y.parts))) (typed_reads a ex).kind (typed_reads b ey).kind
         ∙ ap (λ (t : Bool). eqb x.kind 35 && (eqb y.kind 35 && t)) (sym arities) ∙ and_assoc (eqb x.kind 35) (eqb y.kind 35) alike
-      where
-        and_assoc : (i j k : Bool) → (i && (j && k)) ≡ ((i && j) && k)
-        and_assoc true j k = refl
-        and_assoc false j k = refl
 
     left_kind : ((eqb x.kind 35 && eqb y.kind 35) && alike) ≡ true → X.shape.kind ≡ 35
     left_kind h = (typed_reads a ex).kind ∙ eqb-true x.kind 35 (and_fst _ (eqb y.kind 35) (and_fst _ alike h))
@@ -76,12 +134,12 @@ module _ (c : DataType → DataType → Option DataType) (space : Space) (left :
     right_kind h = (typed_reads b ey).kind ∙ eqb-true y.kind 35 (and_snd (eqb x.kind 35) _ (and_fst _ alike h))
 
   -- no common type
-  pub struct_none : {known : ℕ} {by_names : Bool} → ((eqb x.kind 35 && eqb y.kind 35) && alike) ≡ false → MergesKnown known by_names (struct_coercion c) space (left + 1) swap s w w l r g No
+  pub struct_none : {known : Option ℕ} {by_names : Bool} → ((eqb x.kind 35 && eqb y.kind 35) && alike) ≡ false → MergesKnown known by_names (struct_coercion c) space (left + 1) swap s w w l r g (Err NoType)
   unfolding struct_coercion
   struct_none {known} h = any_known known swap (merges_none (struct_coercion c) space (left + 1) swap s w l r g (λ X Y a b q. rw (kinds a b ∙ h) refl))
 
   -- two Structs, by the fields that feed theirs
-  module _ (h : ((eqb x.kind 35 && eqb y.kind 35) && alike) ≡ true) (known : ℕ) (by_names : Bool) {feed : Feed}
+  module _ (h : ((eqb x.kind 35 && eqb y.kind 35) && alike) ≡ true) (known : Option ℕ) (by_names : Bool) {feed : Feed}
       (ff : StructFed space (side swap s w) (side (not swap) s w) l x.first y.first feed) (v : List ℕ) (o : Out)
       (u : Under known by_names c space left swap s w v feed (shape_for 35 0 0 0 false) x.first y.first y.first g o) where
     module _ {X Y : DataType} (a : Typed space (side swap s w) l X) (b : Typed space (side (not swap) s w) r Y) (q : size X + size Y ≤ left + 1) (d : Known known by_names l X Y) where
@@ -130,7 +188,7 @@ module _ (c : DataType → DataType → Option DataType) (space : Space) (left :
         }
 
   -- two Structs of a list
-  pub listed_unlike : {known : ℕ} {by_names : Bool} → alike ≡ false → MergesKnown known by_names (list_struct c) space (left + 1) swap s w w l r g No
+  pub listed_unlike : {known : Option ℕ} {by_names : Bool} → alike ≡ false → MergesKnown known by_names (list_struct c) space (left + 1) swap s w w l r g (Err NoType)
   listed_unlike {known} h = any_known known swap (merges_none (list_struct c) space (left + 1) swap s w l r g (λ X Y a b q. rw (sym (arities a b) ∙ h) refl))
 
   module _ (h : alike ≡ true) where
@@ -138,12 +196,12 @@ module _ (c : DataType → DataType → Option DataType) (space : Space) (left :
       names : {X Y : DataType} → Typed space (side swap s w) l X → Typed space (side (not swap) s w) r Y → named ≡ fields_have_same_names X.parts Y.parts
       names {X} {Y} a b = fn _ _ _ X.parts Y.parts (held_first a.chain.held x ex) (chain_first y ey b.chain)
 
-      pub listed_none : {known : ℕ} {by_names : Bool} → named ≡ false → MergesKnown known by_names (list_struct c) space (left + 1) swap s w w l r g No
+      pub listed_none : {known : Option ℕ} {by_names : Bool} → named ≡ false → MergesKnown known by_names (list_struct c) space (left + 1) swap s w w l r g (Err NoType)
       listed_none {known} e =
           any_known known swap (merges_none (list_struct c) space (left + 1) swap s w l r g
           (λ X Y a b q. rw (sym (arities a b) ∙ h) (rw (names_missing X.parts Y.parts (sym (names a b) ∙ e)) refl)))
 
-      pub listed_named : (known : ℕ) (by_names : Bool) → named ≡ true → (head_at (side swap s w) l).kind ≡ 35 → (head_at (side (not swap) s w) r).kind ≡ 35 → (v : List ℕ) (o : Out)
+      pub listed_named : (known : Option ℕ) (by_names : Bool) → named ≡ true → (head_at (side swap s w) l).kind ≡ 35 → (head_at (side (not swap) s w) r).kind ≡ 35 → (v : List ℕ) (o : Out)
           → Under known by_names c space left swap s w v Feed.NameThenPlace (shape_for 35 0 0 0 false) x.first y.first y.first g o
           → MergesKnown known by_names (list_struct c) space (left + 1) swap s w v l r g o
       listed_named known by_names e k k' v o u =
@@ -160,7 +218,7 @@ module _ (c : DataType → DataType → Option DataType) (space : Space) (left :
                 (f.is, (refl, (end_self Y.parts, struct_differ ((typed_reads b refl).kind ∙ k') b))) (omega (arith, fits.0)) (parts_known known by_names X Y a x ex d));
           }
 
-    pub listed_ordered : {ordered : Bool} → Asks same_order space (side swap s w) (side (not swap) s w) l x.first y.first ordered → (known : ℕ) (by_names : Bool)
+    pub listed_ordered : {ordered : Bool} → Asks same_order space (side swap s w) (side (not swap) s w) l x.first y.first ordered → (known : Option ℕ) (by_names : Bool)
         → ordered ≡ true → (head_at (side (not swap) s w) r).kind ≡ 35 → (v : List ℕ) (o : Out)
         → Under known by_names c space left swap s w v Feed.Place (shape_for 35 0 0 0 false) x.first y.first y.first g o
         → MergesKnown known by_names (list_struct c) space (left + 1) swap s w v l r g o
@@ -178,14 +236,30 @@ module _ (c : DataType → DataType → Option DataType) (space : Space) (left :
               (u.means X.parts Y.parts Y.parts Y.parts Y.parts (chain_first x ex a.chain) right right (refl, refl) (omega arith) (parts_known known by_names X Y a x ex d));
         }
 
--- what the tests of names say of the fields that feed a Struct's
-module _ {space : Space} {s t : List ℕ} {floor l r : ℕ} {ordered : Bool} (fo : Asks same_order space s t floor l r ordered) where
-  pub fed_ordered : ordered ≡ true → StructFed space s t floor l r Feed.Place
-  fed_ordered e a o up lf rf f c = rw (sym (fo a o up lf rf f c) ∙ e) refl
+    pub listed_fed : (known : Option ℕ) (by_names : Bool) {feed : Feed} → StructsFed Feed.NameThenPlace space (side swap s w) (side (not swap) s w) l x.first y.first (Some feed)
+        → (head_at (side swap s w) l).kind ≡ 35 → (head_at (side (not swap) s w) r).kind ≡ 35 → (v : List ℕ) (o : Out)
+        → Under known by_names c space left swap s w v feed (shape_for 35 0 0 0 false) x.first y.first y.first g o
+        → MergesKnown known by_names (list_struct c) space (left + 1) swap s w v l r g o
+    listed_fed known by_names {feed} f k k' v o u =
+        record {
+          writes = u.writes;
+          means =
+              λ X Y a b q d.
+              (go (same_order X.parts Y.parts) (fields_have_same_names X.parts Y.parts)
+              (f _ _ _ X.parts Y.parts (held_first a.chain.held x ex) (chain_first y ey b.chain))).means X Y a b q d;
+        }
+      where
+        Fed : Feed → Type 0
+        Fed i = StructsFed Feed.NameThenPlace space (side swap s w) (side (not swap) s w) l x.first y.first (Some i)
 
-  module _ {named : Bool} (fn : Asks fields_have_same_names space s t floor l r named) (z : ordered ≡ false) where
-    pub fed_named : named ≡ true → StructFed space s t floor l r Feed.Name
-    fed_named e a o up lf rf f c = rw (sym (fo a o up lf rf f c) ∙ z) (rw (sym (fn a o up lf rf f c) ∙ e) refl)
+        Merged : Feed → Type 0
+        Merged i = Under known by_names c space left swap s w v i (shape_for 35 0 0 0 false) x.first y.first y.first g o
 
-    pub fed_placed : named ≡ false → StructFed space s t floor l r Feed.Place
-    fed_placed e a o up lf rf f c = rw (sym (fo a o up lf rf f c) ∙ z) (rw (sym (fn a o up lf rf f c) ∙ e) refl)
+        go : (i j : Bool) → Some feed ≡ cond i (Some Feed.Place) (cond j (Some Feed.NameThenPlace) None) → MergesKnown known by_names (list_struct c) space (left + 1) swap s w v l r g o
+        go true j e =
+            let i = same_Some _ _ e in
+            listed_ordered (fed_ordered (subst (λ (p : Feed). Fed p) i f)) known by_names refl k' v o (subst (λ (p : Feed). Merged p) i u)
+        go false true e =
+            let i = same_Some _ _ e in
+            listed_named (fed_named (subst (λ (p : Feed). Fed p) i f)) known by_names refl k k' v o (subst (λ (p : Feed). Merged p) i u)
+        go false false e = absurd (none-some feed (sym e))

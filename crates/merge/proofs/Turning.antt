@@ -2,16 +2,17 @@
 use mathlib.Core.Path.{◌≡◌, refl, ap, ap₂, sym, subst, ◌∙◌}
 use mathlib.Core.Bool.{Bool, true, false, cond, not, ◌&&◌, ◌||◌}
 use mathlib.Core.List.{List}
-use mathlib.Core.Option.{Option, none, some}
-use Prim.Native.Nat.{ℕ, ◌+◌, ◌≤◌}
+use mathlib.Core.Logic.{◌⊎◌, inl, inr}
+use Rattle.std.specs.Prelude.{Option, None, Some}
+use Prim.Native.Nat.{ℕ, ◌+◌, ◌<◌, ◌≤◌}
 use native.Mathlib.Omega.{arith}
-use lib.Dec.{eqb}
-use borrow.Author.Tests.{eq-eqb, ne_eqb, eqb-true}
+use lib.Dec.{eqb, ltb}
+use borrow.Author.Tests.{eq-eqb, ne_eqb, eqb-true, lt-ltb}
 use Rattle.sheet.specs.Kind as Kind
 use Rattle.sheet.specs.Types.{Shape, Fields, end}
 use Rattle.sheet.specs.Head.{head_at}
 use Rattle.sheet.specs.declared.Head.{Head}
-use Rattle.sheet.proofs.Tests.{never, and_fst, and_snd}
+use Rattle.sheet.proofs.Tests.{never}
 use Rattle.coercion.specs.Data.{DataType, Rules, size, or_else, and_then}
 use Rattle.coercion.specs.Data as Data
 use Rattle.coercion.specs.Kinds.{is_list}
@@ -33,26 +34,55 @@ use Rattle.merge.specs.Merge.{MergesKnown, MergesHinted, Under}
 use Rattle.buffers.specs.declared.Space.{Space}
 use Rattle.buffers.specs.declared.Spot.{Spot}
 use Rattle.buffers.specs.declared.Goal.{Goal}
-use Rattle.buffers.specs.declared.Out.{Out}
-use Rattle.buffers.specs.declared.Out.TheVariants.{Done, No, Full}
+use Rattle.buffers.specs.Out.{Out}
+use Rattle.std.specs.Prelude.{Ok, Err}
+use Rattle.buffers.specs.declared.Failure.TheVariants.{NoType, Full}
 use Rattle.buffers.specs.declared.Feed.TheVariants as Feed
 use Rattle.buffers.proofs.Frames.{kept_trans}
 use Rattle.merge.proofs.Knowing.{parts_known, value_known}
 use Rattle.merge.proofs.Merging.{typed_side, typed_same, nothing_known, any_known, any_hint, means_for, means_after, hinted_within, known_as, as_known, merges_swapped, merges_left, merges_right, merges_none}
 use Rattle.wrappers.specs.Ways.{is_wrapper, Hint, without}
-use Rattle.wrappers.specs.Walks.{Way}
+use Rattle.wrappers.specs.Walks.{Way, kind_in}
 use Rattle.wrappers.specs.declared.walk.Turn.{Turn}
 use Rattle.wrappers.proofs.Choosing.{typed_whole, way_rule, way_none}
 use Rattle.wrappers.proofs.Hints.{hint_for, without_value, without_self}
 use Rattle.wrappers.proofs.Values.{side_twice, kind_of_lem, kind_is, chain_first, Two, typed_two, value_of}
 use Rattle.buffers.proofs.Fielding.{typed_reads}
 
--- the test of two tests, by what each is
-pub and_are : {a b p q r : Bool} → p ≡ a → q ≡ b → r ≡ (p && q) → (a && b) ≡ r
-and_are e f h = sym (h ∙ ap₂ ◌&&◌ e f)
+-- tests of two kinds, one after the other
+pub both_true : {a b : Bool} → a ≡ true → b ≡ true → (a && b) ≡ true
+both_true e f = rw e f
+
+pub left_false : {a : Bool} (b : Bool) → a ≡ false → (a && b) ≡ false
+left_false b e = rw e refl
+
+pub right_false : (a : Bool) {b : Bool} → b ≡ false → (a && b) ≡ false
+right_false true e = e
+right_false false e = refl
+
+pub both_are : {k j i : ℕ} → k ≡ i → j ≡ i → (eqb k i && eqb j i) ≡ true
+both_are {k} {j} {i} e f = both_true (eq-eqb k i e) (eq-eqb j i f)
+
+pub not_both : {k j i : ℕ} → ((k ≡ i) × ¬ (j ≡ i)) ⊎ ¬ (k ≡ i) → (eqb k i && eqb j i) ≡ false
+not_both {k} {j} {i} (inl n) = right_false (eqb k i) (ne_eqb j i n.1)
+not_both {k} {j} {i} (inr n) = left_false (eqb j i) (ne_eqb k i n)
+
+pub one_is : {k j i : ℕ} → (k ≡ i) ⊎ ((¬ (k ≡ i)) × (j ≡ i)) → (eqb k i || eqb j i) ≡ true
+one_is {k} {j} {i} (inl e) = rw (eq-eqb k i e) refl
+one_is {k} {j} {i} (inr e) = rw (ne_eqb k i e.0) (rw (eq-eqb j i e.1) refl)
+
+pub is_37_or_38 : {k : ℕ} → (k ≡ 37) ⊎ ((¬ (k ≡ 37)) × (k ≡ 38)) → is_wrapper k ≡ true
+is_37_or_38 (inl e) = rw e refl
+is_37_or_38 (inr e) = rw e.1 refl
+
+pub none_is : {k j i : ℕ} → ¬ (k ≡ i) → ¬ (j ≡ i) → (eqb k i || eqb j i) ≡ false
+none_is {k} {j} {i} m n = rw (ne_eqb k i m) (rw (ne_eqb j i n) refl)
+
+pub both_below : {k j i : ℕ} → k < i → j < i → (ltb k i && ltb j i) ≡ true
+both_below {k} {j} {i} e f = both_true (lt-ltb k i e) (lt-ltb j i f)
 
 -- what was merged after something else was written at the same goal
-pub merges_after : {known : ℕ} {named : Bool} {A : DataType → DataType → Option DataType} {space : Space} {left : ℕ} (swap : Bool) {s w v u : List ℕ} {l r : ℕ} {g : Goal} {o : Out} → Room w space
+pub merges_after : {known : Option ℕ} {named : Bool} {A : DataType → DataType → Option DataType} {space : Space} {left : ℕ} (swap : Bool) {s w v u : List ℕ} {l r : ℕ} {g : Goal} {o : Out} → Room w space
     → Kept space w v g.at (g.label + g.nlen) → MergesKnown known named A space left swap s v u l r g o → MergesKnown known named A space left swap s w u l r g o
 merges_after {A = A} {space} {left} swap {s} {w} {v} {u} {l} {r} {g} {o} room k m =
     record {
@@ -64,26 +94,26 @@ merges_after {A = A} {space} {left} swap {s} {w} {v} {u} {l} {r} {g} {o} room k 
     }
 
 -- the first of two rules that says something
-or_done : (space : Space) (w v : List ℕ) (g : Goal) (z y : ℕ) (d : Spot) (a b : Option DataType) → Means space w v g z y (Done d) a → Means space w v g z y (Done d) (or_else a b)
-or_done space w v g z y d none b k = absurd k
-or_done space w v g z y d (some t) b k = k
+or_done : (space : Space) (w v : List ℕ) (g : Goal) (z y : ℕ) (d : Spot) (a b : Option DataType) → Means space w v g z y (Ok d) a → Means space w v g z y (Ok d) (or_else a b)
+or_done space w v g z y d None b k = absurd k
+or_done space w v g z y d (Some t) b k = k
 
-or_none : (space : Space) (w v u : List ℕ) (g : Goal) (z y : ℕ) (o : Out) (a b : Option DataType) → Means space w v g z y No a → Means space w u g z y o b → Means space w u g z y o (or_else a b)
-or_none space w v u g z y o none b k m = m
-or_none space w v u g z y o (some t) b k m = absurd k
+or_none : (space : Space) (w v u : List ℕ) (g : Goal) (z y : ℕ) (o : Out) (a b : Option DataType) → Means space w v g z y (Err NoType) a → Means space w u g z y o b → Means space w u g z y o (or_else a b)
+or_none space w v u g z y o None b k m = m
+or_none space w v u g z y o (Some t) b k m = absurd k
 
-module _ {hint mask known : ℕ} {named : Bool} {A : DataType → DataType → Option DataType} (B : DataType → DataType → Option DataType) {space : Space} {left : ℕ} (swap : Bool)
+module _ {hint mask : ℕ} {known : Option ℕ} {named : Bool} {A : DataType → DataType → Option DataType} (B : DataType → DataType → Option DataType) {space : Space} {left : ℕ} (swap : Bool)
     {s w v : List ℕ} {l r : ℕ} {g : Goal} where
-  pub either_done : {d : Spot} → MergesHinted hint mask known named A space left swap s w v l r g (Done d)
-      → MergesHinted hint mask known named (λ x y. or_else (A x y) (B x y)) space left swap s w v l r g (Done d)
+  pub either_done : {d : Spot} → MergesHinted hint mask known named A space left swap s w v l r g (Ok d)
+      → MergesHinted hint mask known named (λ x y. or_else (A x y) (B x y)) space left swap s w v l r g (Ok d)
   either_done {d} m =
       record { writes = m.writes; means = λ x y a b q i n. or_done space w v g (size x + size y) (letters x + letters y) d (A x y) (B x y) (m.means x y a b q i n) }
 
-  pub either_full : MergesHinted hint mask known named A space left swap s w v l r g Full
-      → MergesHinted hint mask known named (λ x y. or_else (A x y) (B x y)) space left swap s w v l r g Full
+  pub either_full : MergesHinted hint mask known named A space left swap s w v l r g (Err Full)
+      → MergesHinted hint mask known named (λ x y. or_else (A x y) (B x y)) space left swap s w v l r g (Err Full)
   either_full m = record { writes = m.writes; means = λ x y a b q i n. m.means x y a b q i n }
 
-  pub either_next : {u : List ℕ} {o : Out} → Room w space → MergesHinted hint mask known named A space left swap s w v l r g No → MergesKnown known named B space left swap s v u l r g o
+  pub either_next : {u : List ℕ} {o : Out} → Room w space → MergesHinted hint mask known named A space left swap s w v l r g (Err NoType) → MergesKnown known named B space left swap s v u l r g o
       → MergesHinted hint mask known named (λ x y. or_else (A x y) (B x y)) space left swap s w u l r g o
   either_next {u} {o} room m n =
       let k = merges_after swap room m.writes.kept n in
@@ -104,13 +134,13 @@ both_two c l lf rf x y =
   where
     go : (o o₂ : Option DataType)
         → list_of l.shape
-        (and_then o (λ t. and_then (and_then o₂ (λ t₂. some (before x.n₂ (x.b₂ || x.b₂) t₂ end))) (λ fields. some (before x.n (x.b || x.b) t fields))))
-        ≡ and_then o (λ t. and_then o₂ (λ t₂. some (record { shape = l.shape; parts = before x.n x.b t (before x.n₂ x.b₂ t₂ end) })))
-    go none o₂ = refl
-    go (some t) none = refl
-    go (some t) (some t₂) = rw (sym (or_self x.b)) (rw (sym (or_self x.b₂)) refl)
+        (and_then o (λ t. and_then (and_then o₂ (λ t₂. Some (before x.n₂ (x.b₂ || x.b₂) t₂ end))) (λ fields. Some (before x.n (x.b || x.b) t fields))))
+        ≡ and_then o (λ t. and_then o₂ (λ t₂. Some (record { shape = l.shape; parts = before x.n x.b t (before x.n₂ x.b₂ t₂ end) })))
+    go None o₂ = refl
+    go (Some t) None = refl
+    go (Some t) (Some t₂) = rw (sym (or_self x.b)) (rw (sym (or_self x.b₂)) refl)
 
-module _ (known : ℕ) (named : Bool) (rules : Rules) (c : DataType → DataType → Option DataType) (space : Space) (left : ℕ) (swap : Bool) (s w : List ℕ) (l r : ℕ) (g : Goal) where
+module _ (known : Option ℕ) (named : Bool) (rules : Rules) (c : DataType → DataType → Option DataType) (space : Space) (left : ℕ) (swap : Bool) (s w : List ℕ) (l r : ℕ) (g : Goal) where
   abbrev S : List ℕ
   S = side swap s w
 
@@ -137,8 +167,8 @@ module _ (known : ℕ) (named : Bool) (rules : Rules) (c : DataType → DataType
     resolve_nested v o n h = known_as (resolved rules c) space swap s w v l r g o known (left + 1) (omega arith) (λ x y a b d. (rw (one_of 37 a b ∙ n) (rw (one_of 38 a b ∙ h) refl), d))
 
 or_assoc : (a b c : Option DataType) → or_else (or_else a b) c ≡ or_else a (or_else b c)
-or_assoc none b c = refl
-or_assoc (some t) b c = refl
+or_assoc None b c = refl
+or_assoc (Some t) b c = refl
 
 -- the rules of union and compare: the one rule for wrappers that can give an answer, and then the others
 asked : (rules : Rules) → is_list_question rules.question ≡ false → {space : Space} {s t : List ℕ} {l r : ℕ} (x y : DataType) → Typed space s l x → Typed space t r y
@@ -148,43 +178,43 @@ asked rules pairs x y a b =
     ap (λ (o : Option DataType). or_else o (nested_of rules (coercion rules) x y)) (sym (way_rule rules pairs x y (typed_whole a) (typed_whole b)))
     ∙ or_assoc (wrapper_coercion 37 (coercion rules) x y) (wrapper_coercion 38 (coercion rules) x y) (nested_of rules (coercion rules) x y)
 
-module _ {hint mask : ℕ} (known : ℕ) (named : Bool) (rules : Rules) (pairs : is_list_question rules.question ≡ false) (space : Space) (left : ℕ) (swap : Bool) (s w : List ℕ) (l r : ℕ) (g : Goal)
+module _ {hint mask : ℕ} (known : Option ℕ) (named : Bool) (rules : Rules) (pairs : is_list_question rules.question ≡ false) (space : Space) (left : ℕ) (swap : Bool) (s w : List ℕ) (l r : ℕ) (g : Goal)
     (v : List ℕ) where
   as_unwrapped : {u : List ℕ} {o : Out} → MergesHinted hint mask known named (λ x y. or_else (wrapper_rule rules (coercion rules) x y) (nested_of rules (coercion rules) x y)) space (left + 1) swap s w u l r g o
       → MergesHinted hint mask known named (unwrapped rules (coercion rules)) space (left + 1) swap s w u l r g o
   as_unwrapped {u} {o} = hinted_within (unwrapped rules (coercion rules)) space swap s w u l r g o known (left + 1) (omega arith) (λ x y a b q d n. (asked rules pairs x y a b, d))
 
-  pub unwrap_done : (d : Spot) → MergesHinted hint mask known named (wrapper_rule rules (coercion rules)) space (left + 1) swap s w v l r g (Done d)
-      → MergesHinted hint mask known named (unwrapped rules (coercion rules)) space (left + 1) swap s w v l r g (Done d)
+  pub unwrap_done : (d : Spot) → MergesHinted hint mask known named (wrapper_rule rules (coercion rules)) space (left + 1) swap s w v l r g (Ok d)
+      → MergesHinted hint mask known named (unwrapped rules (coercion rules)) space (left + 1) swap s w v l r g (Ok d)
   unwrap_done d m = as_unwrapped (either_done (nested_of rules (coercion rules)) swap m)
 
-  pub unwrap_full : MergesHinted hint mask known named (wrapper_rule rules (coercion rules)) space (left + 1) swap s w v l r g Full
-      → MergesHinted hint mask known named (unwrapped rules (coercion rules)) space (left + 1) swap s w v l r g Full
+  pub unwrap_full : MergesHinted hint mask known named (wrapper_rule rules (coercion rules)) space (left + 1) swap s w v l r g (Err Full)
+      → MergesHinted hint mask known named (unwrapped rules (coercion rules)) space (left + 1) swap s w v l r g (Err Full)
   unwrap_full m = as_unwrapped (either_full (nested_of rules (coercion rules)) swap m)
 
-  pub unwrap_nested : Room w space → (u : List ℕ) (o : Out) → MergesHinted hint mask known named (wrapper_rule rules (coercion rules)) space (left + 1) swap s w v l r g No
+  pub unwrap_nested : Room w space → (u : List ℕ) (o : Out) → MergesHinted hint mask known named (wrapper_rule rules (coercion rules)) space (left + 1) swap s w v l r g (Err NoType)
       → MergesKnown known named (nested_of rules (coercion rules)) space (left + 1) swap s v u l r g o
       → MergesHinted hint mask known named (unwrapped rules (coercion rules)) space (left + 1) swap s w u l r g o
   unwrap_nested room u o m n = as_unwrapped (either_next (nested_of rules (coercion rules)) swap room m n)
 
 -- the rule for wrappers that is asked
-module _ {hint known : ℕ} {named : Bool} (rules : Rules) (c : DataType → DataType → Option DataType) (space : Space) (left : ℕ) (swap : Bool) (s w : List ℕ) (l r : ℕ) (g : Goal)
-    {t : Turn} (way : Way hint rules.mask (left + 1) swap s w l r t) where
-  pub way_merged : (v : List ℕ) (o : Out) → MergesHinted hint rules.mask known named (wrapper_coercion t.kind c) space (left + 1) swap s w v l r g o
+module _ {hint : ℕ} {known : Option ℕ} {named : Bool} (rules : Rules) (c : DataType → DataType → Option DataType) (space : Space) (left : ℕ) (swap : Bool) (s w : List ℕ) (l r : ℕ) (g : Goal)
+    {t : Option Turn} (way : Way hint rules.mask (left + 1) swap s w l r t) where
+  pub way_merged : (v : List ℕ) (o : Out) → MergesHinted hint rules.mask known named (wrapper_coercion (kind_in t) c) space (left + 1) swap s w v l r g o
       → MergesHinted hint rules.mask known named (wrapper_rule rules c) space (left + 1) swap s w v l r g o
   way_merged v o =
       hinted_within (wrapper_rule rules c) space swap s w v l r g o known (left + 1) (omega arith)
       (λ x y a b q d n. (ap (λ (i : ℕ). wrapper_coercion i c x y) (way.is space x y a b q n), d))
 
   -- none can give an answer
-  pub way_spent : t.kind ≡ 0 → MergesHinted hint rules.mask known named (wrapper_rule rules c) space (left + 1) swap s w w l r g No
+  pub way_spent : kind_in t ≡ 0 → MergesHinted hint rules.mask known named (wrapper_rule rules c) space (left + 1) swap s w w l r g (Err NoType)
   way_spent e =
-      hinted_within (wrapper_rule rules c) space swap s w w l r g No known (left + 1) (omega arith)
+      hinted_within (wrapper_rule rules c) space swap s w w l r g (Err NoType) known (left + 1) (omega arith)
       (λ x y a b q d n. (sym (way_none rules.mask c x y (sym (way.is space x y a b q n) ∙ e)), d))
-      (any_hint hint rules.mask swap (any_known known swap (merges_none (λ x y. none) space (left + 1) swap s w l r g (λ x y a b q. refl))))
+      (any_hint hint rules.mask swap (any_known known swap (merges_none (λ x y. None) space (left + 1) swap s w l r g (λ x y a b q. refl))))
 
 -- wrappers of a kind, in a list
-module _ (known : ℕ) {named : Bool} (c : DataType → DataType → Option DataType) (space : Space) (left : ℕ) (swap : Bool) (s w : List ℕ) (l r : ℕ) (g : Goal)
+module _ (known : Option ℕ) {named : Bool} (c : DataType → DataType → Option DataType) (space : Space) (left : ℕ) (swap : Bool) (s w : List ℕ) (l r : ℕ) (g : Goal)
     {k j i : ℕ} (ek : k ≡ (head_at (side swap s w) l).kind) (ej : j ≡ (head_at (side (not swap) s w) r).kind) (is : is_wrapper i ≡ true) where
   pub wrap_both : (v : List ℕ) (o : Out) → k ≡ i → j ≡ i → MergesKnown known named (both_wrapped c) space (left + 1) swap s w v l r g o → MergesKnown known named (either_wrapped i c) space (left + 1) swap s w v l r g o
   unfolding either_wrapped
@@ -209,7 +239,7 @@ module _ (known : ℕ) {named : Bool} (c : DataType → DataType → Option Data
       (merges_swapped (either_wrapped i c) space swap s w v l r g o (left + 1)
       (λ x y a b. rw (kind_is ek i a ∙ ne_eqb k i p) (rw (kind_is ej i b ∙ eq-eqb j i q) refl)) m)
 
-  pub wrap_none : ¬ (k ≡ i) → ¬ (j ≡ i) → MergesKnown known named (either_wrapped i c) space (left + 1) swap s w w l r g No
+  pub wrap_none : ¬ (k ≡ i) → ¬ (j ≡ i) → MergesKnown known named (either_wrapped i c) space (left + 1) swap s w w l r g (Err NoType)
   unfolding either_wrapped
   wrap_none p q =
       any_known known swap
@@ -224,14 +254,14 @@ On space left swap s w l r i mask hint own =
 -- a wrapper of a kind on either side, in union and compare
 module _ (c : DataType → DataType → Option DataType) (space : Space) (left : ℕ) (swap : Bool) (s w : List ℕ) (l r : ℕ) (g : Goal)
     {k j i : ℕ} (ek : k ≡ (head_at (side swap s w) l).kind) (ej : j ≡ (head_at (side (not swap) s w) r).kind) (is : is_wrapper i ≡ true) where
-  pub wrapper_none : ¬ (k ≡ i) → ¬ (j ≡ i) → Merges (wrapper_coercion i c) space (left + 1) swap s w w l r g No
+  pub wrapper_none : ¬ (k ≡ i) → ¬ (j ≡ i) → Merges (wrapper_coercion i c) space (left + 1) swap s w w l r g (Err NoType)
   unfolding wrapper_coercion
   wrapper_none p q =
       merges_none (wrapper_coercion i c) space (left + 1) swap s w l r g
       (λ x y a b m. rw (kind_is ek i a ∙ ne_eqb k i p) (rw (kind_is ej i b ∙ ne_eqb j i q) refl))
 
   module _ (v : List ℕ) (o : Out) where
-    pub wrapper_both : (mask hint own : ℕ) → On space left swap s w l r i mask hint own → (known own-known : ℕ) {named : Bool} {m₁ m₂ : ℕ} → m₁ ≡ (head_at (side swap s w) (head_at (side swap s w) l).first).next
+    pub wrapper_both : (mask hint own : ℕ) → On space left swap s w l r i mask hint own → (known own-known : Option ℕ) {named : Bool} {m₁ m₂ : ℕ} → m₁ ≡ (head_at (side swap s w) (head_at (side swap s w) l).first).next
         → m₂ ≡ (head_at (side (not swap) s w) (head_at (side (not swap) s w) r).first).next → k ≡ i → j ≡ i → own-known ≡ row_known known m₁ 0 m₂ m₂
         → MergesHinted own mask own-known named c space left swap s w v m₁ m₂ g o → MergesHinted hint mask known named (wrapper_coercion i c) space (left + 1) swap s w v l r g o
     unfolding wrapper_coercion
@@ -245,7 +275,7 @@ module _ (c : DataType → DataType → Option DataType) (space : Space) (left :
               means_for space w v g (size x + size y) (letters x + letters y) o (omega (arith, vx.smaller, vy.smaller)) (omega (arith, vx.shorter, vy.shorter))
               (rw (kind_is ek i a ∙ eq-eqb k i p) (rw (kind_is ej i b ∙ eq-eqb j i q) (rw vx.is (rw vy.is refl))))
               (m.means vx.type vy.type vx.typed vy.typed (omega (arith, vx.smaller, vy.smaller))
-              (subst (λ (i : ℕ). Known i named m₁ vx.type vy.type) (sym eo)
+              (subst (λ (i : Option ℕ). Known i named m₁ vx.type vy.type) (sym eo)
               (value_known known named x y (typed_two is (kind_of_lem ek a ∙ p) a) (typed_two is (kind_of_lem ej b ∙ q) b) a b ea eb vx.typed vy.typed d))
               (hint_for own mask (without_value i x vx.type (kind_is ek i a ∙ eq-eqb k i p) vx.is) (without_value i y vy.type (kind_is ej i b ∙ eq-eqb j i q) vy.is) (on x y a b h n)));
         }
@@ -260,7 +290,7 @@ module _ (c : DataType → DataType → Option DataType) (space : Space) (left :
           let vx = value_of is (kind_of_lem ek a ∙ p) ea a in
           rw (kind_is ek i a ∙ eq-eqb k i p) (rw (kind_is ej i b ∙ ne_eqb j i q) (rw vx.is (rw (sym (typed_same true f vx.typed b) ∙ h) refl))))
 
-      pub wrapper_left : (mask hint own : ℕ) → On space left swap s w l r i mask hint own → (known : ℕ) {named : Bool} → e ≡ false → MergesHinted own mask 1 named c space left swap s w v a r g o → MergesHinted hint mask known named (wrapper_coercion i c) space (left + 1) swap s w v l r g o
+      pub wrapper_left : (mask hint own : ℕ) → On space left swap s w l r i mask hint own → (known : Option ℕ) {named : Bool} → e ≡ false → MergesHinted own mask None named c space left swap s w v a r g o → MergesHinted hint mask known named (wrapper_coercion i c) space (left + 1) swap s w v l r g o
       unfolding wrapper_coercion
       wrapper_left mask hint own on known {named} z m =
           record {
@@ -270,7 +300,7 @@ module _ (c : DataType → DataType → Option DataType) (space : Space) (left :
                 let vx = value_of is (kind_of_lem ek a ∙ p) ea a in
                 means_for space w v g (size x + size y) (letters x + letters y) o (omega (arith, vx.smaller)) (omega (arith, vx.shorter))
                 (rw (kind_is ek i a ∙ eq-eqb k i p) (rw (kind_is ej i b ∙ ne_eqb j i q) (rw vx.is (rw (sym (typed_same true f vx.typed b) ∙ z) refl))))
-                (m.means vx.type y vx.typed b (omega (arith, vx.smaller)) (nothing_known named vx.type y vx.typed)
+                (m.means vx.type y vx.typed b (omega (arith, vx.smaller)) (nothing_known named _ vx.type y)
                 (hint_for own mask (without_value i x vx.type (kind_is ek i a ∙ eq-eqb k i p) vx.is) (without_self i y (kind_is ej i b ∙ ne_eqb j i q)) (on x y a b h n)));
           }
 
@@ -287,7 +317,7 @@ module _ (c : DataType → DataType → Option DataType) (space : Space) (left :
           let vy = value_of is (kind_of_lem ej b ∙ q) ea b in
           rw (kind_is ek i a ∙ ne_eqb k i p) (rw (kind_is ej i b ∙ eq-eqb j i q) (rw vy.is (rw (sym (same vy.typed a) ∙ h) refl))))
 
-      pub wrapper_right : (mask hint own : ℕ) → On space left swap s w l r i mask hint own → (known : ℕ) {named : Bool} → e ≡ false → MergesHinted own mask 1 named c space left swap s w v l a g o → MergesHinted hint mask known named (wrapper_coercion i c) space (left + 1) swap s w v l r g o
+      pub wrapper_right : (mask hint own : ℕ) → On space left swap s w l r i mask hint own → (known : Option ℕ) {named : Bool} → e ≡ false → MergesHinted own mask None named c space left swap s w v l a g o → MergesHinted hint mask known named (wrapper_coercion i c) space (left + 1) swap s w v l r g o
       unfolding wrapper_coercion
       wrapper_right mask hint own on known {named} z m =
           record {
@@ -297,12 +327,12 @@ module _ (c : DataType → DataType → Option DataType) (space : Space) (left :
                 let vy = value_of is (kind_of_lem ej b ∙ q) ea b in
                 means_for space w v g (size x + size y) (letters x + letters y) o (omega (arith, vy.smaller)) (omega (arith, vy.shorter))
                 (rw (kind_is ek i a ∙ ne_eqb k i p) (rw (kind_is ej i b ∙ eq-eqb j i q) (rw vy.is (rw (sym (same vy.typed a) ∙ z) refl))))
-                (m.means x vy.type a vy.typed (omega (arith, vy.smaller)) (nothing_known named x vy.type a)
+                (m.means x vy.type a vy.typed (omega (arith, vy.smaller)) (nothing_known named _ x vy.type)
                 (hint_for own mask (without_self i x (kind_is ek i a ∙ ne_eqb k i p)) (without_value i y vy.type (kind_is ej i b ∙ eq-eqb j i q) vy.is) (on x y a b h n)));
           }
 
 -- two types that are no wrappers, by the kinds of both
-module _ (known : ℕ) (named : Bool) (rules : Rules) (c : DataType → DataType → Option DataType) (space : Space) (left : ℕ) (swap : Bool) (s w : List ℕ) (l r : ℕ) (g : Goal)
+module _ (known : Option ℕ) (named : Bool) (rules : Rules) (c : DataType → DataType → Option DataType) (space : Space) (left : ℕ) (swap : Bool) (s w : List ℕ) (l r : ℕ) (g : Goal)
     {k j : ℕ} (ek : k ≡ (head_at (side swap s w) l).kind) (ej : j ≡ (head_at (side (not swap) s w) r).kind) (v : List ℕ) (o : Out) where
   module _ {X Y : DataType} (a : Typed space (side swap s w) l X) (b : Typed space (side (not swap) s w) r Y) where
     lists : (is_list X.shape.kind && is_list Y.shape.kind) ≡ (is_list k && is_list j)
@@ -353,11 +383,6 @@ module _ (known : ℕ) (named : Bool) (rules : Rules) (c : DataType → DataType
           as_known (nested_of rules c) space swap s w v l r g o known (left + 1) (omega arith)
           (λ X Y a b d. rw (lists a b ∙ n) (rw (are a b 35 ∙ h) (rw (are a b 36 ∙ e) refl))) (m (left + 1))
 
--- the kinds of both sides, by a test of the two
-pub both_are : (s t : List ℕ) (l r k j : ℕ) → k ≡ (head_at s l).kind → j ≡ (head_at t r).kind → (eqb k 35 && eqb j 35) ≡ true
-    → ((head_at s l).kind ≡ 35) × ((head_at t r).kind ≡ 35)
-both_are s t l r k j e f q = (sym e ∙ eqb-true k 35 (and_fst (eqb k 35) (eqb j 35) q), sym f ∙ eqb-true j 35 (and_snd (eqb k 35) (eqb j 35) q))
-
 -- the shape of two lists' common list, by their heads
 size_of : {h : Head} {t : DataType} → Reads h t → eqb t.shape.kind 34 ≡ true → t.shape.size ≡ h.quad
 size_of {h} {t} a e =
@@ -385,7 +410,7 @@ shape_listed {x} {y} {X} {Y} a b = rw (sym a.kind) (rw (sym b.kind) (go (eqb X.s
     go false e q f = large (eqb X.shape.kind 33 || eqb Y.shape.kind 33)
 
 -- two lists
-module _ {known : ℕ} {named : Bool} (c : DataType → DataType → Option DataType) (space : Space) (left : ℕ) (swap : Bool) (s w : List ℕ) (l r : ℕ) (g : Goal) (x y : Head)
+module _ {known : Option ℕ} {named : Bool} (c : DataType → DataType → Option DataType) (space : Space) (left : ℕ) (swap : Bool) (s w : List ℕ) (l r : ℕ) (g : Goal) (x y : Head)
     (ex : x ≡ head_at (side swap s w) l) (ey : y ≡ head_at (side (not swap) s w) r) where
   pub list_merged : {kind sz : ℕ} → kind ≡ list_kind x y → sz ≡ list_size x y → (v : List ℕ) (o : Out)
       → Under known named c space left swap s w v Feed.Place (shape_for kind 0 0 sz false) x.first y.first y.first g o

@@ -1,6 +1,6 @@
 -- What the merge of two fields and of two chains says, whatever types stand at its links.
 use Rattle.std.specs.Prelude.{◌≡◌, ℕ, ◌+◌, ◌≤◌, Bool, cond, not, List, length}
-use Rattle.std.proofs.Math.Option.{Option, none, some}
+use Rattle.std.specs.Prelude.{Option, None, Some}
 use Rattle.sheet.specs.Types.{Shape, Fields, end, field, count, labels}
 use Rattle.coercion.specs.Data.{DataType, size}
 use Rattle.coercion.specs.Nested.{before, fields_have_same_names, join_fields, list_of}
@@ -15,7 +15,7 @@ use Rattle.merge.specs.Known.{Known, RowsKnown}
 use Rattle.buffers.specs.declared.Space.{Space}
 use Rattle.buffers.specs.declared.Spot.{Spot}
 use Rattle.buffers.specs.declared.Goal.{Goal}
-use Rattle.buffers.specs.declared.Out.{Out}
+use Rattle.buffers.specs.Out.{Out}
 use Rattle.buffers.specs.declared.Feed.{Feed}
 
 -- each entry of a table of partners is true
@@ -30,25 +30,32 @@ struct_feed l r = cond (same_order l r) Feed.Place (cond (fields_have_same_names
 abbrev pub StructFed : Space → List ℕ → List ℕ → ℕ → ℕ → ℕ → Feed → Type 0
 StructFed space s t floor l r feed = (a o up : ℕ) (lf rf : Fields) → Held space s floor l a o up lf → Chain space t r rf → feed ≡ struct_feed lf rf
 
+-- the same where names in another order say another feed, and names that are not the same say none
+abbrev pub structs_feed : Feed → Fields → Fields → Option Feed
+structs_feed by_name l r = cond (same_order l r) (Some Feed.Place) (cond (fields_have_same_names l r) (Some by_name) None)
+
+abbrev pub StructsFed : Feed → Space → List ℕ → List ℕ → ℕ → ℕ → ℕ → Option Feed → Type 0
+StructsFed by_name space s t floor l r feed = (a o up : ℕ) (lf rf : Fields) → Held space s floor l a o up lf → Chain space t r rf → feed ≡ structs_feed by_name lf rf
+
 -- two types, of which something may be known, were merged as a rule says, where no more than `left` records are left in both
-pub record MergesKnown (known : ℕ) (named : Bool) (answer : DataType → DataType → Option DataType) (space : Space) (left : ℕ) (swap : Bool) (s w v : List ℕ) (l r : ℕ) (g : Goal) (o : Out) : Type 0 where
+pub record MergesKnown (known : Option ℕ) (named : Bool) (answer : DataType → DataType → Option DataType) (space : Space) (left : ℕ) (swap : Bool) (s w v : List ℕ) (l r : ℕ) (g : Goal) (o : Out) : Type 0 where
   pub writes : Writes space w v g o
   pub means : (x y : DataType) → Typed space (side swap s w) l x → Typed space (side (not swap) s w) r y → size x + size y ≤ left → Known known named l x y
       → Means space w v g (size x + size y) (letters x + letters y) o (answer x y)
 
 -- the same, where something may be known of their wrappers too
-pub record MergesHinted (hint mask known : ℕ) (named : Bool) (answer : DataType → DataType → Option DataType) (space : Space) (left : ℕ) (swap : Bool) (s w v : List ℕ) (l r : ℕ) (g : Goal) (o : Out) : Type 0 where
+pub record MergesHinted (hint mask : ℕ) (known : Option ℕ) (named : Bool) (answer : DataType → DataType → Option DataType) (space : Space) (left : ℕ) (swap : Bool) (s w v : List ℕ) (l r : ℕ) (g : Goal) (o : Out) : Type 0 where
   pub writes : Writes space w v g o
   pub means : (x y : DataType) → Typed space (side swap s w) l x → Typed space (side (not swap) s w) r y → size x + size y ≤ left → Known known named l x y → Hint hint mask x y
       → Means space w v g (size x + size y) (letters x + letters y) o (answer x y)
 
 -- a type as a field
 abbrev pub field_of : List ℕ → Bool → Option DataType → Option Fields
-field_of name nullable none = none
-field_of name nullable (some t) = some (before name nullable t end)
+field_of name nullable None = None
+field_of name nullable (Some t) = Some (before name nullable t end)
 
 -- a field was merged with the type of another, where something may be known of the chains of both, as a rule says, under its own name and nullability
-pub record MergesField (known : ℕ) (named : Bool) (answer : DataType → DataType → Option DataType) (space : Space) (left : ℕ) (swap : Bool) (s w v : List ℕ) (l r : ℕ) (to : Spot) (o : Out) : Type 0 where
+pub record MergesField (known : Option ℕ) (named : Bool) (answer : DataType → DataType → Option DataType) (space : Space) (left : ℕ) (swap : Bool) (s w v : List ℕ) (l r : ℕ) (to : Spot) (o : Out) : Type 0 where
   pub kept : Kept space w v to.at to.label
   pub grows : Grows space to o
   pub means : (name : List ℕ) (nullable : Bool) (x y : DataType) (rest : Fields) → Chain space (side swap s w) l (field name nullable x.shape x.parts rest)
@@ -57,7 +64,7 @@ pub record MergesField (known : ℕ) (named : Bool) (answer : DataType → DataT
       → ChainIs space v to (size x + size y) (length name + letters x + letters y) o (field_of name nullable (answer x y))
 
 -- the rows of two chains, of which something may be known, were merged
-pub record Rowed (known : ℕ) (named : Bool) (coerce : DataType → DataType → Option DataType) (space : Space) (left : ℕ) (swap : Bool) (s w v : List ℕ) (feed : Feed) (l r p : ℕ) (to : Spot) (o : Out) : Type 0 where
+pub record Rowed (known : Option ℕ) (named : Bool) (coerce : DataType → DataType → Option DataType) (space : Space) (left : ℕ) (swap : Bool) (s w v : List ℕ) (feed : Feed) (l r p : ℕ) (to : Spot) (o : Out) : Type 0 where
   pub kept : Kept space w v to.at to.label
   pub grows : Grows space to o
   pub means : (lf rf pf tf nf : Fields) → Chain space (side swap s w) l lf → Chain space (side (not swap) s w) r rf → Chain space (side (not swap) s w) p pf
@@ -65,7 +72,7 @@ pub record Rowed (known : ℕ) (named : Bool) (coerce : DataType → DataType �
       → ChainIs space v to (count lf + count tf) (length (labels lf) + length (labels tf)) o (join_fields coerce lf tf nf)
 
 -- the record of a type with parts, and the merged rows under it
-pub record Under (known : ℕ) (named : Bool) (coerce : DataType → DataType → Option DataType) (space : Space) (left : ℕ) (swap : Bool) (s w v : List ℕ) (feed : Feed) (shape : Shape) (l r p : ℕ) (g : Goal) (o : Out) : Type 0 where
+pub record Under (known : Option ℕ) (named : Bool) (coerce : DataType → DataType → Option DataType) (space : Space) (left : ℕ) (swap : Bool) (s w v : List ℕ) (feed : Feed) (shape : Shape) (l r p : ℕ) (g : Goal) (o : Out) : Type 0 where
   pub writes : Writes space w v g o
   pub means : (lf rf pf tf nf : Fields) → Chain space (side swap s w) l lf → Chain space (side (not swap) s w) r rf → Chain space (side (not swap) s w) p pf
       → Feeds feed lf rf pf tf nf → count lf + count tf ≤ left → RowsKnown known named l lf pf

@@ -6,7 +6,8 @@ use Prim.Native.Nat.{ℕ, ◌+◌, ◌<◌, ◌≤◌}
 use native.Mathlib.Omega.{arith}
 use native.Mathlib.Numerals.{add-one}
 use lib.Dec.{eqb}
-use lib.ListN.{length, length-set, get_or, set}
+use lib.ListN.{length, length-set, get_or, set, take}
+use Rattle.std.proofs.lemmas.Grind.{common_steps}
 use borrow.Author.Tests.{eqb-true, eqb-false}
 use Rattle.sheet.specs.Types.{Fields, end, field, arity, count}
 use Rattle.sheet.specs.Head.{head_at}
@@ -14,9 +15,8 @@ use Rattle.sheet.specs.Names.{same_bytes, has_name, repeats}
 use Rattle.sheet.specs.Read.{label_at}
 use Rattle.sheet.specs.Holds.{Leads}
 use Rattle.sheet.specs.declared.Head.{Head}
-use Rattle.names.specs.declared.Pair.{Pair}
-use Rattle.names.specs.declared.Pair.TheVariants.{At, Nothing, Unsure}
-use Rattle.names.specs.Twins.{name_of, name_at, placed, Tells, Spells, Known, number_of, Numbered}
+use Rattle.std.specs.Prelude.{None, Some, Ok, Err}
+use Rattle.names.specs.Twins.{Pair, name_of, name_at, placed, Tells, HasEqual, Spells, Known, number_of, Numbered}
 use Rattle.sheet.proofs.Tests.{never}
 use Rattle.sheet.proofs.Bytewise.{same_self, same_equal}
 use Rattle.names.proofs.Marking.{filled_more}
@@ -62,21 +62,38 @@ module _ (f : ℕ → List ℕ) (k : ℕ) where
       go true g v = let q : i ≡ a = eqb-true i a g in rw (has_at (i + 1) rest name b p.1 (omega arith) m (p.0 ∙ ap f q ∙ e))
       go false g v = let n : i ≡ a → ⊥ = eqb-false i a g in rw (v (omega arith)) (or-true (has_name name rest))
 
-  repeats_not : (i : ℕ) (t : Fields) → Spells f k i t → Tells f k Nothing → repeats t ≡ false
+  repeats_not : (i : ℕ) (t : Fields) → Spells f k i t → Tells f k (Ok None) → repeats t ≡ false
   unfolding repeats
   repeats_not i end p d = refl
   repeats_not i (field name nullable shape parts rest) p d =
       rw (has_not (i + 1) rest name p.1 (λ j h l e. d i j (omega arith) l (sym p.0 ∙ e))) (repeats_not (i + 1) rest p.1 d)
 
   pub told : (t : Fields) (p : Pair) → Spells f k 0 t → Tells f k p → Known p (repeats t)
-  told t (At a b) w v = sym (repeats_at 0 t a b w (omega arith) v.0 v.1.0 v.1.1)
-  told t Nothing w v = sym (repeats_not 0 t w v)
-  told t Unsure w v = tt
+  told t (Ok (Some p)) w v = sym (repeats_at 0 t p.0 p.1 w (omega arith) v.0 v.1.0 v.1.1)
+  told t (Ok None) w v = sym (repeats_not 0 t w v)
+  told t (Err _) w v = tt
+
+  -- that two are equal, or that all differ, is what is said of the chain
+  pub told_whether : (t : Fields) (b : Bool) → Spells f k 0 t → HasEqual f k b → b ≡ repeats t
+  told_whether t false w e = sym (repeats_not 0 t w (e.0 refl))
+  told_whether t true w e = go (repeats t) refl
+    where
+      go : (c : Bool) → repeats t ≡ c → true ≡ c
+      go true q = refl
+      go false q = absurd (e.1 refl (λ a b l m g. never (sym q ∙ repeats_at 0 t a b w (omega arith) l m g)))
 
   spells_as : (g : ℕ → List ℕ) → ((i : ℕ) → i < k → f i ≡ g i) → (i : ℕ) (t : Fields) → Spells f k i t → Spells g k i t
   spells_as g e i end p = p
   spells_as g e i (field name nullable shape parts rest) p =
       (p.0 ∙ e i (omega (arith, spells_le (i + 1) rest p.1)), spells_as g e (i + 1) rest p.1)
+
+-- the same of the first records of a list
+pub told_first : (s : List ℕ) (n : ℕ) (recs : List ℕ) (k : ℕ) (t : Fields) (b : Bool) → k ≤ length recs → Spells (name_at s n recs) k 0 t
+    → HasEqual (name_at s n (take k recs)) (length (take k recs)) b → b ≡ repeats t
+told_first s n recs k t b h w e =
+    let long : length (take k recs) ≡ k = grind (arith, common_steps) in
+    told_whether (name_at s n (take k recs)) k t b
+    (spells_as (name_at s n recs) k (name_at s n (take k recs)) (λ i l. ap (name_of s n) (grind (arith, common_steps))) 0 t w) (rw long at e)
 
 -- the names of a chain by place
 abbrev pub names : List ℕ → ℕ → ℕ → ℕ → List ℕ
@@ -86,14 +103,10 @@ placed_next : (s : List ℕ) (link i : ℕ) → placed s link (i + 1) ≡ (head_
 unfolding placed
 placed_next s link i = ap (placed s link) (add-one i)
 
--- the name of a record, by its head
-pub name_of_lem : (s : List ℕ) (n at r : ℕ) → at ≡ r → (h : Head) → h ≡ head_at s at → label_at s n h.name h.nlen ≡ name_of s n r
-name_of_lem s n at r e h q = ap (λ (g : Head). label_at s n g.name g.nlen) q ∙ ap (name_of s n) e
-
 -- the record at a place of a chain: its name, and the next
 module _ (s : List ℕ) (n link at k : ℕ) (e : at ≡ placed s link k) (h : Head) (q : h ≡ head_at s at) where
   pub name_here : label_at s n h.name h.nlen ≡ names s n link k
-  name_here = name_of_lem s n at (placed s link k) e h q
+  name_here = ap (λ (g : Head). label_at s n g.name g.nlen) q ∙ ap (name_of s n) e
 
   pub next_here : h.next ≡ placed s link (k + 1)
   next_here = ap (λ (g : Head). g.next) q ∙ ap (λ (i : ℕ). (head_at s i).next) e ∙ sym (placed_next s link k)
@@ -205,13 +218,8 @@ module _ (s : List ℕ) (n floor link low at k : ℕ) (p : Passed s n floor link
   pub known_at : low < at → (h : Head) → h ≡ head_at s at → (j : ℕ) → j < k → names s n link j ≡ label_at s n h.name h.nlen
       → (r o : ℕ) (t : Fields) → Leads s n floor link r o t → true ≡ repeats t
   known_at lo h e j i q r o t l =
-      told (names s n link) (arity t) t (At j k) (spells s n floor link (arity t) r o t l refl)
+      told (names s n link) (arity t) t (Ok (Some (j, k))) (spells s n floor link (arity t) r o t l refl)
       (i, (passed_more s n floor link low at k p lo r o t l, q ∙ name_here s n link at k p.reached h e))
 
-  pub known_none : at ≤ low → Tells (names s n link) k Nothing → (r o : ℕ) (t : Fields) → Leads s n floor link r o t → false ≡ repeats t
-  known_none h d r o t l = told (names s n link) k t Nothing (spells s n floor link k r o t l (passed_low s n floor link low at k p h r o t l)) d
-
--- names whose numbers differ do so too
-pub numbers_differ : (s : List ℕ) (n : ℕ) (recs : List ℕ) (k : ℕ) (numbers : List ℕ) → Numbered s n recs k numbers
-    → Tells (λ i. get_or numbers i 0) k Nothing → Tells (name_at s n recs) k Nothing
-numbers_differ s n recs k numbers e d a b l m q = d a b l m (e.each a (omega arith) ∙ ap number_of q ∙ sym (e.each b m))
+  pub known_none : at ≤ low → Tells (names s n link) k (Ok None) → (r o : ℕ) (t : Fields) → Leads s n floor link r o t → false ≡ repeats t
+  known_none h d r o t l = told (names s n link) k t (Ok None) (spells s n floor link k r o t l (passed_low s n floor link low at k p h r o t l)) d

@@ -2,12 +2,15 @@
 use mathlib.Core.Path.{◌≡◌, refl, ap, sym, subst, ◌∙◌}
 use mathlib.Core.Bool.{Bool, true, false, not, ◌&&◌}
 use mathlib.Core.List.{List, [], ◌∷◌}
-use Prim.Native.Nat.{ℕ, ◌+◌, ◌*◌, ◌<◌, ◌≤◌}
+use Prim.Native.Nat.{ℕ, ◌+◌, ◌-◌, ◌*◌, ◌<◌, ◌≤◌}
 use native.Mathlib.Omega.{arith}
 use native.Mathlib.Decide.{dec_lt}
 use lib.ListN.{length, get_or}
 use lib.Dec.{eqb}
 use borrow.Author.Tests.{eq-eqb, ne_eqb}
+use Rattle.std.specs.Bool.{MatchBool}
+use Rattle.std.specs.List.{range_with_len, AllWithin, HoldsAt}
+use Rattle.std.proofs.lemmas.List.FromFn.{length-range_with_len, get_or-range_with_len}
 use Rattle.sheet.specs.Tests.{all_of}
 use Rattle.sheet.specs.Types.{Shape, Fields, end, field, count}
 use Rattle.sheet.specs.Head.{head_at}
@@ -71,10 +74,18 @@ module _ (s : List ℕ) (n : ℕ) where
       go (yes lt) (yes in') inner outer = all_not tests 1 (inner (omega arith) in')
       go (yes lt) (no past) inner outer = all_not tests 2 (outer (omega arith))
 
-  -- what is known of the records from 1 to r - 1, and of record r
-  pub found_more : (r : ℕ) → ((j : ℕ) → 1 ≤ j → j < r → Finds s n j false) → Finds s n r false → (j : ℕ) → 1 ≤ j → j < r + 1 → Finds s n j false
-  found_more r f g j a b = go (dec_lt j r)
+  -- what is found of each record past record 0, asked for until one is found
+  pub row_tells : (b : Bool) → MatchBool b ((k : ℕ) × (k < length (range_with_len 1 (n - 1))) × HoldsAt (λ j. Finds s n j true) (range_with_len 1 (n - 1)) k)
+      (AllWithin (λ j. Finds s n j false) (range_with_len 1 (n - 1)) 0 (length (range_with_len 1 (n - 1))))
+      → (o : ℕ) (t : Fields) → Holds s n 1 o t → 1 + count t ≡ n → b ≡ not (names_differ t)
+  row_tells true f o t h e =
+      let l : f.0 < n - 1 = omega (arith, length-range_with_len 1 (n - 1), f.1) in
+      let g = subst (λ (j : ℕ). Finds s n j true) (get_or-range_with_len 1 (n - 1) f.0 0 l) (f.2 0) in
+      sym (ap not (one_found (1 + f.0) g 1 o t (omega arith) h (omega arith) (omega arith) (omega arith)))
+  row_tells false f o t h e = sym (ap not (none_found 1 o t (omega arith) h (omega arith) (λ j a b. none j a (omega arith))))
     where
-      go : Dec (j < r) → Finds s n j false
-      go (yes lt) = f j a lt
-      go (no ge) = let e : r ≡ j = omega arith in subst (λ (i : ℕ). Finds s n i false) e g
+      none : (j : ℕ) → 1 ≤ j → j < n → Finds s n j false
+      none j a l =
+          let i : j - 1 < n - 1 = omega arith in
+          let q : get_or (range_with_len 1 (n - 1)) (j - 1) 0 ≡ j = get_or-range_with_len 1 (n - 1) (j - 1) 0 i ∙ omega arith in
+          subst (λ (m : ℕ). Finds s n m false) q (f (j - 1) 0 (omega arith) (omega (arith, length-range_with_len 1 (n - 1))))

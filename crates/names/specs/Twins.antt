@@ -1,12 +1,15 @@
 -- What the search for two equal names in one Struct goes by.
-use Rattle.std.specs.Prelude.{◌≡◌, ℕ, zero, suc, ◌+◌, ◌<◌, ◌≤◌, Bool, true, false, ◌&&◌, ◌||◌, List, [], ◌∷◌, eqb, ltb, length, get_or}
+use Rattle.std.specs.Prelude.{◌≡◌, ℕ, zero, suc, ◌+◌, ◌<◌, ◌≤◌, Bool, true, false, ◌&&◌, List, eqb, length, get_or, Option, None, Some, Result, Ok, Err, OnErr}
 use Rattle.sheet.specs.Types.{Fields, end, field}
 use Rattle.sheet.specs.Head.{head_at}
 use Rattle.sheet.specs.Read.{label_at}
 use Rattle.sheet.specs.Names.{repeats, mixed}
 use Rattle.sheet.specs.Holds.{Leads}
-use Rattle.names.specs.declared.Pair.{Pair}
-use Rattle.names.specs.declared.Pair.TheVariants.{At, Nothing, Unsure}
+use Rattle.names.specs.declared.Unsure.{Unsure}
+
+-- two equal ones among several, by their places; or none, where all differ; or neither is known
+abbrev pub Pair : Type 0
+Pair = Result (Option (ℕ × ℕ)) Unsure
 
 -- the name of record r
 abbrev pub name_of : List ℕ → ℕ → ℕ → List ℕ
@@ -21,17 +24,20 @@ unfoldable pub placed : List ℕ → ℕ → ℕ → ℕ
 placed s link zero = link
 placed s link (suc i) = (head_at s (placed s link i)).next
 
--- r is the first of the places below k at which x stands, or k
-pub record First {A : Type 0} (f : ℕ → A) (x : A) (k r : ℕ) : Type 0 where
-  pub most : r ≤ k
-  pub before : (i : ℕ) → i < r → f i ≡ x → ⊥
-  pub here : r < k → f r ≡ x
+-- the first of the places below k at which x stands, if there is one
+abbrev pub First : {A : Type 0} → (ℕ → A) → A → ℕ → Option ℕ → Type 0
+First f x k (Some r) = (r < k) × (((i : ℕ) → i < r → f i ≡ x → ⊥) × (f r ≡ x))
+First f x k None = (i : ℕ) → i < k → f i ≡ x → ⊥
 
 -- what is said of the first k of several holds
 abbrev pub Tells : {A : Type 0} → (ℕ → A) → ℕ → Pair → Type 0
-Tells f k (At a b) = (a < b) × ((b < k) × (f a ≡ f b))
-Tells f k Nothing = (a b : ℕ) → a < b → b < k → f a ≡ f b → ⊥
-Tells f k Unsure = Unit
+Tells f k (Ok (Some p)) = (p.0 < p.1) × ((p.1 < k) × (f p.0 ≡ f p.1))
+Tells f k (Ok None) = (a b : ℕ) → a < b → b < k → f a ≡ f b → ⊥
+Tells f k (Err _) = Unit
+
+-- b says whether two of the first k of several are equal
+abbrev pub HasEqual : {A : Type 0} → (ℕ → A) → ℕ → Bool → Type 0
+HasEqual f k b = (b ≡ false → Tells f k (Ok None)) × (b ≡ true → Tells f k (Ok None) → ⊥)
 
 -- the names of a chain from place i on are those of f, k in all
 abbrev pub Spells : (ℕ → List ℕ) → ℕ → ℕ → Fields → Type 0
@@ -45,14 +51,18 @@ pub record Listed (s : List ℕ) (n floor link : ℕ) (recs : List ℕ) (k : ℕ
 
 -- whether a chain repeats a name, as far as it is known
 abbrev pub Known : Pair → Bool → Type 0
-Known (At a b) w = true ≡ w
-Known Nothing w = false ≡ w
-Known Unsure w = Unit
+Known (Ok (Some _)) w = true ≡ w
+Known (Ok None) w = false ≡ w
+Known (Err _) w = Unit
 
 -- it is known of the chain that a link leads to, unless it has more than most names
 pub record Compared (s : List ℕ) (n floor link most : ℕ) (p : Pair) : Type 0 where
   pub known : (r o : ℕ) (t : Fields) → Leads s n floor link r o t → Known p (repeats t)
-  pub short : p ≡ Unsure → most < n
+  pub short : OnErr p (most < n)
+
+-- b says whether the chain that a link leads to repeats a name
+abbrev pub Repeats : List ℕ → ℕ → ℕ → ℕ → Bool → Type 0
+Repeats s n floor link b = (r o : ℕ) (t : Fields) → Leads s n floor link r o t → b ≡ repeats t
 
 -- the number of a name
 abbrev pub number_of : List ℕ → ℕ
@@ -61,23 +71,6 @@ number_of name = mixed 0 name
 -- the numbers of the names of the first k of several records
 pub record Numbered (s : List ℕ) (n : ℕ) (recs : List ℕ) (k : ℕ) (numbers : List ℕ) : Type 0 where
   pub each : (i : ℕ) → i < k → get_or numbers i 0 ≡ number_of (name_at s n recs i)
-
--- whether a byte string comes before another
-unfoldable pub less_bytes : List ℕ → List ℕ → Bool
-less_bytes [] [] = false
-less_bytes [] (y ∷ ys) = true
-less_bytes (x ∷ xs) [] = false
-less_bytes (x ∷ xs) (y ∷ ys) = ltb x y || (eqb x y && less_bytes xs ys)
-
--- rank says of each place below k where it stands in an order
-abbrev pub Inverts : List ℕ → List ℕ → ℕ → Type 0
-Inverts ord rank k = (c : ℕ) → c < k → (get_or rank c 0 < k) × (get_or ord (get_or rank c 0) 0 ≡ c)
-
--- each of the first k strings in an order comes before the next; or two are equal; or neither is known
-abbrev pub Climbs : (ℕ → List ℕ) → List ℕ → ℕ → Pair → Type 0
-Climbs f ord k (At a b) = Tells f k (At a b)
-Climbs f ord k Nothing = (i : ℕ) → i + 1 < k → less_bytes (f (get_or ord i 0)) (f (get_or ord (i + 1) 0)) ≡ true
-Climbs f ord k Unsure = Unit
 
 -- b says whether record r is a Struct with two parts of one name
 abbrev pub Finds : List ℕ → ℕ → ℕ → Bool → Type 0

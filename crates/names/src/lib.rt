@@ -3,13 +3,12 @@
 
 mod numbers;
 mod order;
-mod places;
+mod record;
 pub mod twins;
 
-// Two equal ones among several, by their places; or that all differ; or neither is known.
+// Whether two are equal was not found out.
 #[derive(Clone, Copy)]
-enum Pair {
-    At(usize, usize),
-    Nothing,
-    Unsure,
-}
+struct Unsure;
+
+// Two equal ones among several, by their places; or none, where all differ.
+type Pair = Result<Option<(usize, usize)>, Unsure>;

@@ -1,9 +1,10 @@
 -- The rows of a chain that is fed, by each way of feeding. Assumes nothing.
 use mathlib.Core.Path.{◌≡◌, refl, ap₂, sym, subst, ◌∙◌}
+use Rattle.std.proofs.lemmas.Option.{same_Some}
 use mathlib.Core.Bool.{Bool, false, not, ◌||◌}
 use mathlib.Core.List.{List}
 use mathlib.Core.Logic.{inl, inr}
-use mathlib.Core.Option.{some, some-injective}
+use Rattle.std.specs.Prelude.{Some}
 use Prim.Native.Nat.{ℕ, ◌<◌}
 use native.Mathlib.Omega.{arith}
 use Rattle.sheet.specs.Types.{Shape, Fields, end, field, arity}
@@ -88,7 +89,7 @@ module _ (space : Space) (swap : Bool) (s w : List ℕ) (l r : ℕ) (x : Head) (
   module _ (p : ℕ) (y : Head) (ey : y ≡ head_at T p) where
     module _ (found : ℕ) (k : Pairs space S T l r found) where
       module _ {name : List ℕ} {nullable : Bool} {shape : Shape} {parts rest rf tf : Fields} (a : Chain space S l (field name nullable shape parts rest))
-          (b : Chain space T r rf) (f : by_name (field name nullable shape parts rest) rf ≡ some tf) (d : repeats rf ≡ false) where
+          (b : Chain space T r rf) (f : by_name (field name nullable shape parts rest) rf ≡ Some tf) (d : repeats rf ≡ false) where
         picks : Picks space T name rf found
         picks = k name nullable shape parts rest rf a b
 
@@ -101,7 +102,7 @@ module _ (space : Space) (swap : Bool) (s w : List ℕ) (l r : ℕ) (x : Head) (
         types_are : (q : 0 < found) → tf ≡ field name (picks.present q).nullable (picks.present q).shape (picks.present q).parts step.more
         types_are q =
             let m = picks.present q in
-            some-injective _ _ (sym step.takes ∙ end_takes name m.nullable m.shape m.parts m.rest rf m.ends d step.more)
+            same_Some _ _ (sym step.takes ∙ end_takes name m.nullable m.shape m.parts m.rest rf m.ends d step.more)
 
       pub row_named : (h : Head) → h ≡ head_at T found → {row : Row} → row ≡ row_of found x h y.next → RowIs space swap s w Feed.Name l r p row
       unfolding arity

@@ -1,9 +1,10 @@
 -- Fields that are fed by their names: on trees, and in the chains of two sources. Assumes nothing.
 use mathlib.Core.Path.{◌≡◌, refl, ap, ap₂, sym, subst, ◌∙◌}
+use Rattle.std.proofs.lemmas.Option.{none-some}
 use mathlib.Core.Bool.{Bool, true, false, ◌||◌}
 use mathlib.Core.Logic.{inl, inr}
 use mathlib.Core.List.{List, [], ◌∷◌}
-use mathlib.Core.Option.{Option, none, some, none-ne-some}
+use Rattle.std.specs.Prelude.{Option, None, Some}
 use Prim.Native.Nat.{ℕ, zero, suc, ◌+◌, ◌*◌, ◌<◌, ◌≤◌}
 use native.Mathlib.Omega.{arith}
 use lib.ListN.{length, drop, set, replicate, length-take}
@@ -39,11 +40,11 @@ label_short s n {h} b e =
     let k = ap length e ∙ length-take h.nlen (drop (16 * n + h.name) s) in
     omega (arith, b.nlen, k)
 
-pub some_not_none {ℓ} : {A : Type 0} {B : Type ℓ} {o : Option A} {a : A} → o ≡ none → o ≡ some a → B
-some_not_none {a = a} e f = absurd (none-ne-some a (sym e ∙ f))
+pub some_not_none {ℓ} : {A : Type 0} {B : Type ℓ} {o : Option A} {a : A} → o ≡ None → o ≡ Some a → B
+some_not_none {a = a} e f = absurd (none-some a (sym e ∙ f))
 
 -- a name that no field has
-pub name_missing : (name : List ℕ) (t more : Fields) → has_name name t ≡ false → with_name name t more ≡ none
+pub name_missing : (name : List ℕ) (t more : Fields) → has_name name t ≡ false → with_name name t more ≡ None
 unfolding has_name with_name
 name_missing name end more h = refl
 name_missing name (field label nullable shape parts rest) more h =
@@ -52,7 +53,7 @@ name_missing name (field label nullable shape parts rest) more h =
 -- a name that a field has
 record Takes (name : List ℕ) (t more : Fields) : Type 0 where
   fields : Fields
-  is : with_name name t more ≡ some fields
+  is : with_name name t more ≡ Some fields
 
 name_present : (name : List ℕ) (t more : Fields) → has_name name t ≡ true → Takes name t more
 unfolding has_name with_name
@@ -68,7 +69,7 @@ name_present name (field label nullable shape parts rest) more h = go (same_byte
 -- the fields of the right that have the left's names
 pub record Found (lf rf : Fields) : Type 0 where
   pub fields : Fields
-  pub is : by_name lf rf ≡ some fields
+  pub is : by_name lf rf ≡ Some fields
 
 pub names_found : (lf rf : Fields) → fields_have_same_names lf rf ≡ true → Found lf rf
 unfolding fields_have_same_names by_name
@@ -78,37 +79,37 @@ names_found (field name nullable shape parts rest) rf h =
     let m = name_present name rf k.fields (and_fst (has_name name rf) (fields_have_same_names rest rf) h) in
     record { fields = m.fields; is = rw k.is m.is }
 
-pub names_missing : (lf rf : Fields) → fields_have_same_names lf rf ≡ false → by_name lf rf ≡ none
+pub names_missing : (lf rf : Fields) → fields_have_same_names lf rf ≡ false → by_name lf rf ≡ None
 unfolding fields_have_same_names by_name
 names_missing end rf h = never (sym h)
 names_missing (field name nullable shape parts rest) rf h = go (has_name name rf) refl (names_missing rest rf)
   where
-    lacks : (o : Option Fields) → has_name name rf ≡ false → and_then o (λ more. with_name name rf more) ≡ none
-    lacks none e = refl
-    lacks (some more) e = name_missing name rf more e
+    lacks : (o : Option Fields) → has_name name rf ≡ false → and_then o (λ more. with_name name rf more) ≡ None
+    lacks None e = refl
+    lacks (Some more) e = name_missing name rf more e
 
-    go : (b : Bool) → has_name name rf ≡ b → (fields_have_same_names rest rf ≡ false → by_name rest rf ≡ none)
-        → and_then (by_name rest rf) (λ more. with_name name rf more) ≡ none
+    go : (b : Bool) → has_name name rf ≡ b → (fields_have_same_names rest rf ≡ false → by_name rest rf ≡ None)
+        → and_then (by_name rest rf) (λ more. with_name name rf more) ≡ None
     go true e f = rw (f (rw e at h))
     go false e f = lacks (by_name rest rf) e
 
 -- the first of the fields by name, and those behind it
 pub record Stepped (name : List ℕ) (rest rf tf : Fields) : Type 0 where
   pub more : Fields
-  pub behind : by_name rest rf ≡ some more
-  pub takes : with_name name rf more ≡ some tf
+  pub behind : by_name rest rf ≡ Some more
+  pub takes : with_name name rf more ≡ Some tf
 
-pub by_name_step : (name : List ℕ) (nullable : Bool) (shape : Shape) (parts rest rf tf : Fields) → by_name (field name nullable shape parts rest) rf ≡ some tf
+pub by_name_step : (name : List ℕ) (nullable : Bool) (shape : Shape) (parts rest rf tf : Fields) → by_name (field name nullable shape parts rest) rf ≡ Some tf
     → Stepped name rest rf tf
 unfolding by_name
 by_name_step name nullable shape parts rest rf tf = go (by_name rest rf) refl
   where
-    go : (o : Option Fields) → by_name rest rf ≡ o → and_then o (λ more. with_name name rf more) ≡ some tf → Stepped name rest rf tf
-    go none e h = some_not_none refl h
-    go (some more) e h = record { more = more; behind = e; takes = h }
+    go : (o : Option Fields) → by_name rest rf ≡ o → and_then o (λ more. with_name name rf more) ≡ Some tf → Stepped name rest rf tf
+    go None e h = some_not_none refl h
+    go (Some more) e h = record { more = more; behind = e; takes = h }
 
 -- fields by name weigh no more than the chain that they come from
-pub by_name_fits : (lf rf tf : Fields) → repeats lf ≡ false → names_differ rf ≡ true → by_name lf rf ≡ some tf
+pub by_name_fits : (lf rf tf : Fields) → repeats lf ≡ false → names_differ rf ≡ true → by_name lf rf ≡ Some tf
     → (count tf ≤ count rf) × (length (labels tf) ≤ length (labels rf))
 by_name_fits lf rf tf d h e =
     let x = if_some _ (by_name lf rf) tf (by_name_lem nothing one lf rf d (differ_apart rf h)) e in
@@ -154,10 +155,10 @@ module _ (name : List ℕ) (nullable : Bool) (shape : Shape) (parts rest : Field
   end_has (field n b s p q) (inl e) = subst (λ (x : Fields). has_name name x ≡ true) e (rw (same_self name))
   end_has (field n b s p q) (inr k) = or_right (same_bytes name n) (end_has q k)
 
-  pub end_takes : (t : Fields) → EndOf (field name nullable shape parts rest) t → repeats t ≡ false → (more : Fields) → with_name name t more ≡ some (field name nullable shape parts more)
+  pub end_takes : (t : Fields) → EndOf (field name nullable shape parts rest) t → repeats t ≡ false → (more : Fields) → with_name name t more ≡ Some (field name nullable shape parts more)
   unfolding with_name repeats
   end_takes end e d more = no_field e
-  end_takes (field n b s p q) (inl e) d more = subst (λ (x : Fields). with_name name x more ≡ some (field name nullable shape parts more)) e (rw (same_self name))
+  end_takes (field n b s p q) (inl e) d more = subst (λ (x : Fields). with_name name x more ≡ Some (field name nullable shape parts more)) e (rw (same_self name))
   end_takes (field n b s p q) (inr k) d more = rw (other (same_bytes name n) refl) (end_takes q k (or_snd (has_name n q) (repeats q) d) more)
     where
       other : (t : Bool) → same_bytes name n ≡ t → same_bytes name n ≡ false
@@ -449,7 +450,7 @@ order_within (field name nullable shape parts rest) (field name' nullable' shape
 pub order_names : (lf rf : Fields) → same_order lf rf ≡ true → fields_have_same_names lf rf ≡ true
 order_names lf rf e = order_within lf rf rf (end_self rf) e
 
-by_name_within : (lf pf rf : Fields) → EndOf pf rf → same_order lf pf ≡ true → arity lf ≡ arity pf → repeats rf ≡ false → by_name lf rf ≡ some pf
+by_name_within : (lf pf rf : Fields) → EndOf pf rf → same_order lf pf ≡ true → arity lf ≡ arity pf → repeats rf ≡ false → by_name lf rf ≡ Some pf
 unfolding same_order by_name arity
 by_name_within end end rf k e a d = refl
 by_name_within end (field name nullable shape parts rest) rf k e a d = absurd (omega arith)
@@ -459,5 +460,5 @@ by_name_within (field name nullable shape parts rest) (field name' nullable' sha
     rw (by_name_within rest rest' rf (end_next name' nullable' shape' parts' rest' rf k) (and_snd (same_bytes name name') (same_order rest rest') e) (omega arith) d)
     (ap (λ (u : List ℕ). with_name u rf rest') q ∙ end_takes name' nullable' shape' parts' rest' rf k d rest')
 
-pub order_by_name : (lf rf : Fields) → same_order lf rf ≡ true → arity lf ≡ arity rf → repeats rf ≡ false → by_name lf rf ≡ some rf
+pub order_by_name : (lf rf : Fields) → same_order lf rf ≡ true → arity lf ≡ arity rf → repeats rf ≡ false → by_name lf rf ≡ Some rf
 order_by_name lf rf e a d = by_name_within lf rf rf (end_self rf) e a d

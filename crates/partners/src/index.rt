@@ -8,6 +8,13 @@ use crate::search::{find, is_named};
 use sheet::label::{label_at, mix};
 use sheet::record::head_at;
 
+// An index of a chain by its names: the last record of each row, and for each record the one before it in its row. Each record of a chain is below 1,024.
+#[derive(Clone, Copy)]
+pub(crate) struct Index {
+    heads: [u16; 1024],
+    olds: [u16; 1024],
+}
+
 // The row of an index that a name belongs to.
 fn row_at(name: &[u8]) -> usize
     ensures { (result ≡ row_for name.now) × (result < 1024) }
@@ -15,75 +22,71 @@ fn row_at(name: &[u8]) -> usize
     mix(name) / 4194304
 }
 
-fn wide(x: u16) -> usize
-    ensures { result ≡ x }
-{
-    x as usize
-}
-
-// Puts the fields of the chain at a link into an index: the last record of each row, and for each record the one before it in its row.
-pub(crate) fn index(
-    t: &[u8],
-    n: usize,
-    link: usize,
-    heads: &mut [u16; 1024],
-    olds: &mut [u16; 1024],
-)
-    requires { (n ≤ 1024) × Indexed n t.now link heads.old olds.old }
-    ensures { Indexed n t.now link heads.new olds.new }
-{
-    let mut floor = 0;
-    let mut j = link;
-    while floor < j {
-        if n <= j {
-            return;
-        }
-        let h = head_at(t, j);
-        let k = row_at(label_at(t, n, h.name, h.nlen));
-        let old = heads[k];
-        olds[j] = old;
-        heads[k] = j as u16;
-        floor = j;
-        j = h.next;
+impl Index {
+    // The index of the chain at a link.
+    pub(crate) fn of(t: &[u8], n: usize, link: usize) -> Index
+        requires { n ≤ 1024 }
+        ensures { Indexed n t.now link result.heads result.olds }
+    {
+        let mut index = Index {
+            heads: [0u16; 1024],
+            olds: [0u16; 1024],
+        };
+        index.add(t, n, link);
+        index
     }
-}
 
-// A record that has a name, of a row of an index that begins at `from`; 0 where none is found.
-fn find_in_row(t: &[u8], n: usize, want: &[u8], from: usize, olds: &[u16; 1024]) -> usize
-    requires { (n ≤ 1024) × (length want.now ≤ 255) }
-    ensures { (result < 1024) × ((space : Space) (rf : Fields) → n ≡ space.n → Guess space t.now from rf → Guides space t.now rf olds.now → 0 < result → Picks space t.now want.now rf result) }
-{
-    let mut low = n;
-    let mut j = from;
-    while 0 < j {
-        if low <= j {
-            return 0;
+    // Puts the fields of the chain at a link into the index.
+    fn add(&mut self, t: &[u8], n: usize, link: usize)
+        requires { (n ≤ 1024) × Indexed n t.now link self.old.heads self.old.olds }
+        ensures { Indexed n t.now link self.new.heads self.new.olds }
+    {
+        let mut floor = 0;
+        let mut j = link;
+        while floor < j {
+            if n <= j {
+                return;
+            }
+            let h = head_at(t, j);
+            let k = row_at(label_at(t, n, h.name, h.nlen));
+            let old = self.heads[k];
+            self.olds[j] = old;
+            self.heads[k] = j as u16;
+            floor = j;
+            j = h.next;
         }
-        let h = head_at(t, j);
-        if is_named(t, n, h, want) {
+    }
+
+    // A record that has a name, of a row that begins at `from`; 0 where none is found.
+    fn find_in_row(&self, t: &[u8], n: usize, want: &[u8], from: usize) -> usize
+        requires { (n ≤ 1024) × (length want.now ≤ 255) }
+        ensures { (result < 1024) × ((space : Space) (rf : Fields) → n ≡ space.n → Guess space t.now from rf → Guides space t.now rf self.now.olds → 0 < result → Picks space t.now want.now rf result) }
+    {
+        let mut low = n;
+        let mut j = from;
+        while 0 < j {
+            if low <= j {
+                return 0;
+            }
+            let h = head_at(t, j);
+            if is_named(t, n, h, want) {
+                return j;
+            }
+            low = j;
+            j = usize::from(self.olds[j]);
+        }
+        0
+    }
+
+    // A field of the chain at r that has a name; 0 where there is none. The index says which are tried first.
+    pub(crate) fn look_up(&self, t: &[u8], n: usize, want: &[u8], r: usize) -> usize
+        requires { ((n ≤ 1024) × (length want.now ≤ 255)) × Indexed n t.now r self.now.heads self.now.olds }
+        ensures { (result < 1024) × Finds n t.now want.now r result }
+    {
+        let j = self.find_in_row(t, n, want, usize::from(self.heads[row_at(want)]));
+        if 0 < j {
             return j;
         }
-        low = j;
-        j = wide(olds[j]);
+        find(t, n, want, r)
     }
-    0
-}
-
-// A field of the chain at r that has a name; 0 where there is none. An index says which are tried first.
-pub(crate) fn look_up(
-    t: &[u8],
-    n: usize,
-    want: &[u8],
-    r: usize,
-    heads: &[u16; 1024],
-    olds: &[u16; 1024],
-) -> usize
-    requires { ((n ≤ 1024) × (length want.now ≤ 255)) × Indexed n t.now r heads.now olds.now }
-    ensures { (result < 1024) × Finds n t.now want.now r result }
-{
-    let j = find_in_row(t, n, want, wide(heads[row_at(want)]), olds);
-    if 0 < j {
-        return j;
-    }
-    find(t, n, want, r)
 }

@@ -9,10 +9,11 @@ ghost use Rattle.buffers.specs.Partners.{Partners, same_order};
 ghost use Rattle.buffers.specs.declared.Space.{Space};
 ghost use Rattle.partners.specs.Naming.{Indexed, Matched};
 
-use crate::index::{index, look_up};
+use crate::index::Index;
 use crate::search::{find, is_named};
-use crate::table::note;
+use crate::table::{key_of, note};
 use buffers::Space;
+use buffers::write::sides;
 use sheet::label::label_at;
 use sheet::record::head_at;
 
@@ -56,11 +57,8 @@ pub fn in_order(
     requires { space.n ≤ 1024 }
     ensures { (a o up : ℕ) (lf rf : Fields) → Held space (side swap sheet.now work.now) floor l a o up lf → Chain space (side (not swap) sheet.now work.now) r rf → result ≡ same_order lf rf }
 {
-    if swap {
-        are_in_order(work, sheet, space.n, floor, l, r)
-    } else {
-        are_in_order(sheet, work, space.n, floor, l, r)
-    }
+    let (s, t) = sides(sheet, work, swap);
+    are_in_order(s, t, space.n, floor, l, r)
 }
 
 // Whether each name of the chain at a link of s is one of the chain at a link of t, of which there is an index. Those that are found are noted in a table, from a key on.
@@ -71,12 +69,11 @@ fn are_listed(
     floor: usize,
     l: usize,
     r: usize,
-    heads: &[u16; 1024],
-    olds: &[u16; 1024],
+    index: &Index,
     key: usize,
     table: &mut [u32],
 ) -> bool
-    requires { ((n ≤ 1024) × (key ≤ 1024)) × Indexed n t.now r heads.now olds.now }
+    requires { ((n ≤ 1024) × (key ≤ 1024)) × Indexed n t.now r index.now.heads index.now.olds }
     ensures { Matched n s.now t.now floor l r key table.old table.new result }
 {
     let mut low = floor;
@@ -86,7 +83,7 @@ fn are_listed(
             return false;
         }
         let g = head_at(s, i);
-        let j = look_up(t, n, label_at(s, n, g.name, g.nlen), r, heads, olds);
+        let j = index.look_up(t, n, label_at(s, n, g.name, g.nlen), r);
         if j == 0 {
             return false;
         }
@@ -111,10 +108,7 @@ fn are_indexed(
     requires { (n ≤ 1024) × (key ≤ 1024) }
     ensures { Matched n s.now t.now floor l r key table.old table.new result }
 {
-    let mut heads = [0u16; 1024];
-    let mut olds = [0u16; 1024];
-    index(t, n, r, &mut heads, &mut olds);
-    are_listed(s, t, n, floor, l, r, &heads, &olds, key, table)
+    are_listed(s, t, n, floor, l, r, &Index::of(t, n, r), key, table)
 }
 
 // The same by a search for each name. An index is made where there are many.
@@ -169,11 +163,8 @@ pub fn have_same_names(
     ensures by_index { (a o up : ℕ) (lf rf : Fields) → Held space (side swap sheet.now work.now) floor l a o up lf → Chain space (side (not swap) sheet.now work.now) r rf → result ≡ fields_have_same_names lf rf }
     ensures table_len_unchanged { (length table.new ≡ length table.old) × (Partners space sheet.now work.now table.old → Partners space sheet.now work.now table.new) }
 {
-    if swap {
-        are_searched(work, sheet, space.n, floor, l, r, 1024, table)
-    } else {
-        are_searched(sheet, work, space.n, floor, l, r, 0, table)
-    }
+    let (s, t) = sides(sheet, work, swap);
+    are_searched(s, t, space.n, floor, l, r, key_of(swap, 0), table)
 }
 
 // Whether the chains at a link of s and at one of t have as many fields.
@@ -209,9 +200,6 @@ pub fn same_arity(
 ) -> bool
     ensures { (a o up : ℕ) (lf rf : Fields) → Held space (side swap sheet.now work.now) floor l a o up lf → Chain space (side (not swap) sheet.now work.now) r rf → result ≡ eqb (arity lf) (arity rf) }
 {
-    if swap {
-        are_as_many(work, sheet, space.n, floor, l, r)
-    } else {
-        are_as_many(sheet, work, space.n, floor, l, r)
-    }
+    let (s, t) = sides(sheet, work, swap);
+    are_as_many(s, t, space.n, floor, l, r)
 }

@@ -11,46 +11,19 @@ ghost use Rattle.partners.specs.Naming.{Finds, Pairs, row_of};
 use crate::search::find;
 use crate::table::entry;
 use buffers::copy::is_nullable;
-use buffers::write::look;
+use buffers::write::{look, sides};
 use buffers::{Feed, Row, Space};
-use kinds::tests::either;
 use sheet::Head;
 use sheet::label::label_at;
 
-// The record of the other side that has the name of a record of a side, whose head is x, in the chain at r; 0 where there is none.
-fn searched(sheet: &[u8], work: &[u8], space: Space, swap: bool, x: Head, r: usize) -> usize
-    requires { (space.n ≤ 1024) × Bounded x }
-    ensures { Finds space.n (side (not swap) sheet.now work.now) (label_at (side swap sheet.now work.now) space.n x.name x.nlen) r result }
-{
-    let n = space.n;
-    if swap {
-        find(sheet, n, label_at(work, n, x.name, x.nlen), r)
-    } else {
-        find(work, n, label_at(sheet, n, x.name, x.nlen), r)
-    }
-}
-
-// The same of record l. Where a table says which it is, no name is compared.
-fn partner(
-    sheet: &[u8],
-    work: &[u8],
+// The sources of two chains, the left in the work space where swap is set, and a table of partners.
+#[derive(Clone, Copy)]
+struct Rows<'a> {
+    sheet: &'a [u8],
+    work: &'a [u8],
     space: Space,
     swap: bool,
-    x: Head,
-    l: usize,
-    r: usize,
-    table: &[u32],
-) -> usize
-    requires { (space.n ≤ 1024) × Bounded x }
-    ensures { x ≡ head_at (side swap sheet.now work.now) l → Partners space sheet.now work.now table.now → Pairs space (side swap sheet.now work.now) (side (not swap) sheet.now work.now) l r result }
-{
-    let e = entry(table, swap, l);
-    if 0 < e {
-        if e / 65536 == r {
-            return e % 65536;
-        }
-    }
-    searched(sheet, work, space, swap, x, r)
+    table: &'a [u32],
 }
 
 // The row of a field whose type and nullability come from one record of the right, or from two.
@@ -59,58 +32,55 @@ fn row_of(partner: usize, a: Head, b: Head, next: usize) -> Row
 {
     Row {
         partner,
-        nullable: either(is_nullable(a), is_nullable(b)),
+        nullable: is_nullable(a) || is_nullable(b),
         next,
     }
 }
 
-// The row of a field that is fed by name.
-fn named_row(
-    sheet: &[u8],
-    work: &[u8],
-    space: Space,
-    swap: bool,
-    x: Head,
-    y: Head,
-    l: usize,
-    r: usize,
-    p: usize,
-    table: &[u32],
-) -> Row
-    requires { (space.n ≤ 1024) × Bounded x }
-    ensures { x ≡ head_at (side swap sheet.now work.now) l → y ≡ head_at (side (not swap) sheet.now work.now) p → Partners space sheet.now work.now table.now → RowIs space swap sheet.now work.now Feed.Name l r p result }
-{
-    let j = partner(sheet, work, space, swap, x, l, r, table);
-    let h = look(sheet, work, !swap, j);
-    row_of(j, x, h, y.next)
-}
-
-// The row of a field that takes its type by name and its nullability by place.
-fn named_place(
-    sheet: &[u8],
-    work: &[u8],
-    space: Space,
-    swap: bool,
-    x: Head,
-    y: Head,
-    l: usize,
-    r: usize,
-    p: usize,
-    table: &[u32],
-) -> Row
-    requires { (space.n ≤ 1024) × Bounded x }
-    ensures { x ≡ head_at (side swap sheet.now work.now) l → y ≡ head_at (side (not swap) sheet.now work.now) p → Partners space sheet.now work.now table.now → RowIs space swap sheet.now work.now Feed.NameThenPlace l r p result }
-{
-    let next = y.next;
-    if p == 0 {
-        return row_of(0, x, y, next);
+impl Rows<'_> {
+    // The record of the right that has the name of the record of the left whose head is x, in the chain at r; 0 where there is none.
+    fn searched(&self, x: Head, r: usize) -> usize
+        requires { (self.now.space.n ≤ 1024) × Bounded x }
+        ensures { Finds self.now.space.n (side (not self.now.swap) self.now.sheet.now self.now.work.now) (label_at (side self.now.swap self.now.sheet.now self.now.work.now) self.now.space.n x.name x.nlen) r result }
+    {
+        let n = self.space.n;
+        let (s, t) = sides(self.sheet, self.work, self.swap);
+        find(t, n, label_at(s, n, x.name, x.nlen), r)
     }
-    row_of(
-        partner(sheet, work, space, swap, x, l, r, table),
-        x,
-        y,
-        next,
-    )
+
+    // The same of record l. Where the table says which it is, no name is compared.
+    fn partner(&self, x: Head, l: usize, r: usize) -> usize
+        requires { (self.now.space.n ≤ 1024) × Bounded x }
+        ensures { x ≡ head_at (side self.now.swap self.now.sheet.now self.now.work.now) l → Partners self.now.space self.now.sheet.now self.now.work.now self.now.table.now → Pairs self.now.space (side self.now.swap self.now.sheet.now self.now.work.now) (side (not self.now.swap) self.now.sheet.now self.now.work.now) l r result }
+    {
+        let e = entry(self.table, self.swap, l);
+        if 0 < e && e / 65536 == r {
+            return e % 65536;
+        }
+        self.searched(x, r)
+    }
+
+    // The row of a field that is fed by name.
+    fn named_row(&self, x: Head, y: Head, l: usize, r: usize, p: usize) -> Row
+        requires { (self.now.space.n ≤ 1024) × Bounded x }
+        ensures { x ≡ head_at (side self.now.swap self.now.sheet.now self.now.work.now) l → y ≡ head_at (side (not self.now.swap) self.now.sheet.now self.now.work.now) p → Partners self.now.space self.now.sheet.now self.now.work.now self.now.table.now → RowIs self.now.space self.now.swap self.now.sheet.now self.now.work.now Feed.Name l r p result }
+    {
+        let j = self.partner(x, l, r);
+        let h = look(self.sheet, self.work, !self.swap, j);
+        row_of(j, x, h, y.next)
+    }
+
+    // The row of a field that takes its type by name and its nullability by place.
+    fn named_place(&self, x: Head, y: Head, l: usize, r: usize, p: usize) -> Row
+        requires { (self.now.space.n ≤ 1024) × Bounded x }
+        ensures { x ≡ head_at (side self.now.swap self.now.sheet.now self.now.work.now) l → y ≡ head_at (side (not self.now.swap) self.now.sheet.now self.now.work.now) p → Partners self.now.space self.now.sheet.now self.now.work.now self.now.table.now → RowIs self.now.space self.now.swap self.now.sheet.now self.now.work.now Feed.NameThenPlace l r p result }
+    {
+        let next = y.next;
+        if p == 0 {
+            return row_of(0, x, y, next);
+        }
+        row_of(self.partner(x, l, r), x, y, next)
+    }
 }
 
 // What feeds the field at a link of the left.
@@ -130,10 +100,17 @@ pub fn row(
 {
     let x = look(sheet, work, swap, l);
     let y = look(sheet, work, !swap, p);
+    let rows = Rows {
+        sheet,
+        work,
+        space,
+        swap,
+        table,
+    };
     match feed {
         Feed::Place => row_of(p, x, y, y.next),
         Feed::Own => row_of(p, x, x, y.next),
-        Feed::Name => named_row(sheet, work, space, swap, x, y, l, r, p, table),
-        Feed::NameThenPlace => named_place(sheet, work, space, swap, x, y, l, r, p, table),
+        Feed::Name => rows.named_row(x, y, l, r, p),
+        Feed::NameThenPlace => rows.named_place(x, y, l, r, p),
     }
 }

@@ -2,7 +2,7 @@
 use mathlib.Core.Path.{◌≡◌, refl}
 use mathlib.Core.Bool.{Bool, true, false, cond}
 use mathlib.Core.List.{List, [], ◌∷◌}
-use mathlib.Core.Option.{Option, none, some}
+use Rattle.std.specs.Prelude.{Option, None, Some}
 use Prim.Native.Nat.{◌≤◌}
 use native.Mathlib.Omega.{arith}
 use lib.ListN.{length}
@@ -47,8 +47,8 @@ ranged c = go (eqb (refusal c) 0) refl (answer c)
   where
     go : (b : Bool) → eqb (refusal c) 0 ≡ b → (a : Option DataType)
         → Ranged (cond {A = Outcome} b (settled c a) (record { reply = refused (refusal c); output = c.output; work = c.work })).reply
-    go true e none = tt
-    go true e (some t) = sheet_long t
+    go true e None = tt
+    go true e (Some t) = sheet_long t
     go false e a = (omega (arith, eqb-false (refusal c) 0 e), refusal_low c)
 
 decodes_ranged : (r : Reply) → Ranged r → reply_of_number (number_of r) ≡ r

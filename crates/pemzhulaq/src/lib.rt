@@ -1,5 +1,5 @@
 // The three calls with one number as the answer, as programs in other languages have them.
-#![tactic(auto)]
+#![tactic(auto, using(crate::proofs::Showing::shown))]
 
 ghost use Rattle.std.specs.Prelude.{◌≡◌};
 ghost use Rattle.coercion.specs.Data as Data;
@@ -9,14 +9,15 @@ ghost use Rattle.pemzhulaq.specs.Number.{number_of, exported};
 
 use answers::Answer;
 
-// The number of an answer: 0 for none, 1 to 31 for a refusal, from 32 on the byte length of the one-type sheet.
+// The number of an answer: 0 for none, 1 to 31 for a refusal, from 32 on the byte length of the one-type sheet. It is no `From`, since neither type is this
+// crate's.
 fn number_of(answer: Answer) -> usize
     ensures { result ≡ number_of (reply_of answer) }
 {
     match answer {
-        Answer::Refused(number) => number as usize,
-        Answer::Nothing => 0,
-        Answer::Type(length) => length,
+        Ok(Some(length)) => length,
+        Ok(None) => 0,
+        Err(r) => usize::from(u8::from(r)),
     }
 }
 

@@ -2,271 +2,115 @@
 use mathlib.Core.Path.{◌≡◌, refl, ap, sym, ◌∙◌}
 use mathlib.Core.Bool.{Bool, true, false, cond, not, ◌&&◌, ◌||◌}
 use mathlib.Core.List.{[], ◌∷◌}
-use mathlib.Core.Option.{Option, none, some}
-use Prim.Native.Nat.{ℕ, ◌+◌, ◌≤◌, max}
+use Rattle.std.specs.Prelude.{Option, None, Some}
+use Rattle.std.specs.Option.{option_or}
+use Prim.Native.Nat.{ℕ, ◌+◌}
 use native.Mathlib.Omega.{arith}
 use lib.Bits.{bit_or}
 use lib.Count.{ones, ones_in}
-use lib.Dec.{eqb, leb, ltb}
-use borrow.Author.Tests.{eqb-true, eqb-false, ne_eqb, leb-true, lt-leb}
+use lib.Dec.{eqb, ltb}
+use borrow.Author.Tests.{eqb-true, eq-eqb, ne_eqb, lt-leb}
 use Rattle.sheet.specs.Kind as Kind
 use Rattle.sheet.specs.Kind.{is_kind, is_decimal}
 use Rattle.sheet.specs.Tests.{between}
 use Rattle.sheet.specs.Types.{end}
-use Rattle.sheet.proofs.Tests.{all_at, and_fst, and_true}
-use Rattle.coercion.specs.Data.{DataType, list, union, compare, Rules, or_else, and_then, first_of, figures_of, as_type}
-use Rattle.coercion.specs.Kinds.{is_numeric, is_string, is_date, is_time, is_span, is_integer, one_is, with_kind}
-use Rattle.coercion.specs.Numbers.{get_wider_decimal_type, get_wider_decimal_type_cross_variant, wider_precision, coerce_numeric_type_to_decimal, get_common_decimal_type, decimal_coercion, numerical_coercion, same_figures, binary_numeric_coercion}
-use Rattle.coercion.specs.Times.{is_time_with_valid_unit, temporal_coercion, temporal_coercion_nonstrict_timezone}
-use Rattle.coercion.specs.Strings.{string_coercion, binary_coercion}
+use Rattle.sheet.proofs.Tests.{and_true}
+use Rattle.coercion.specs.Data.{DataType, list, union, compare, Rules, or_else, and_then, first_of}
+use Rattle.coercion.specs.Times.{temporal_coercion_nonstrict_timezone}
+use Rattle.coercion.specs.Strings.{binary_coercion}
 use Rattle.coercion.specs.Same.{equal, same_fields, same_type}
-use Rattle.coercion.specs.Rules.{is_null, null_coercion, string_numeric_coercion, string_numeric_union_coercion, time_of_string, match_rule, string_temporal_coercion}
-use Rattle.coercion.specs.Data.{may_become}
+use Rattle.coercion.specs.Rules.{null_coercion, string_numeric_coercion, string_numeric_union_coercion, string_temporal_coercion}
 use Rattle.coercion.specs.Wrappers.{wrapper_coercion}
 use Rattle.coercion.specs.Nested.{struct_coercion, list_coercion, map_coercion}
 use Rattle.coercion.specs.Answers.{of_kind_type, string_number, ask, coercion, Category, array, boolean, numeric, dateTime, composite, unknown, notSupported, own_category, category_of, is_category, has_category, as_number, categories_in, categories_fit, fold_from, fold_types, type_union_resolution}
 use Rattle.coercion.specs.Meaning.{category_bit, is_supported}
-use Rattle.coercion.specs.declared.Figures.{Figures}
-use Rattle.coercion.proofs.Maybe.{If, done, ◌also◌, if_first, if_cond, if_else, if_then, if_weak, cond_is}
-use Rattle.coercion.proofs.NumbersRight.{Fits, numerical_fits}
+use Rattle.coercion.proofs.Maybe.{cond_is}
 use Rattle.coercion.proofs.Fuel.{coercion_asks}
-use Rattle.plain_pairs.specs.Plain as Plainly
 use Rattle.plain_pairs.specs.Typed.{is_plain, type_in, plain_of, every_kind, equal_rule, number_rule, string_rule, common_rules, rules_of, answer_to}
 use Rattle.plain_pairs.specs.declared.plain.Plain.{Plain}
-use Rattle.plain_pairs.proofs.Bytes.{low, Real, pick}
-
--- an answer has a kind
-
-abbrev HasKind : Figures → Type 0
-HasKind f = eqb f.kind 0 ≡ false
-
-fits_kind : (f : Figures) → Fits f → eqb f.kind 0 ≡ false
-unfolding is_kind between
-fits_kind f h =
-    let k : is_kind f.kind ≡ true = all_at _ 0 h in
-    let a : 1 ≤ f.kind = leb-true 1 f.kind (and_fst (leb 1 f.kind) (leb f.kind 38) k) in
-    ne_eqb f.kind 0 (omega arith)
-
-between_kind : (a b k : ℕ) → 1 ≤ a → between a b k ≡ true → eqb k 0 ≡ false
-unfolding between
-between_kind a b k le h = ne_eqb k 0 (λ e. let g = leb-true a k (and_fst (leb a k) (leb k b) h) in omega arith)
-
-decimal_kind : (k : ℕ) → is_decimal k ≡ true → eqb k 0 ≡ false
-unfolding is_decimal
-decimal_kind k h = between_kind 14 17 k (omega arith) h
-
-wider_kind : (k j : ℕ) → eqb k 0 ≡ false → eqb (max k j) 0 ≡ false
-wider_kind k j h = ne_eqb (max k j) 0 (λ e. let g : k ≡ 0 = omega arith in eqb-false k 0 h g)
-
-common_kind : (d o : Figures) → eqb d.kind 0 ≡ false → If HasKind (get_common_decimal_type d o)
-unfolding get_common_decimal_type get_wider_decimal_type coerce_numeric_type_to_decimal
-common_kind d o h = if_then (λ f. Unit {0}) HasKind (coerce_numeric_type_to_decimal d.kind o.kind) _ (any (coerce_numeric_type_to_decimal d.kind o.kind)) (λ f u. h)
-  where
-    any : (x : Option Figures) → If (λ f. Unit {0}) x
-    any none = tt
-    any (some f) = tt
-
-decimals_kind : (l r : Figures) → If HasKind (decimal_coercion l r)
-unfolding decimal_coercion get_wider_decimal_type get_wider_decimal_type_cross_variant
-decimals_kind l r =
-    if_cond HasKind (is_decimal l.kind && is_decimal r.kind) _ _
-    (λ e. let h = decimal_kind l.kind (and_fst (is_decimal l.kind) (is_decimal r.kind) e) in
-    cond_is (If HasKind) (eqb l.kind r.kind) _ _ h
-    (cond_is (If HasKind) (leb (wider_precision l r) (Kind.cap (max l.kind r.kind))) _ _ (wider_kind l.kind r.kind h) tt))
-    (λ e. if_cond HasKind (is_decimal l.kind) _ _ (λ f. common_kind l r (decimal_kind l.kind f))
-    (λ f. if_cond HasKind (is_decimal r.kind) _ none (λ g. common_kind r l (decimal_kind r.kind g)) (λ g. tt)))
-
-numbers_kind : (l r : Figures) → If HasKind (binary_numeric_coercion l r)
-unfolding binary_numeric_coercion
-numbers_kind l r =
-    if_cond HasKind (is_numeric l.kind && is_numeric r.kind) _ none
-    (λ e. cond_is (If HasKind) (same_figures l r) _ _ (between_kind 3 17 l.kind (omega arith) (and_fst (is_numeric l.kind) (is_numeric r.kind) e))
-    (if_else HasKind (decimal_coercion l r) (numerical_coercion l.kind r.kind) (decimals_kind l r)
-    (if_weak Fits HasKind (numerical_coercion l.kind r.kind) (numerical_fits l.kind r.kind) (λ f h. fits_kind f h))))
-    (λ e. tt)
-
-as_real : (o : Option Figures) → If HasKind o → If Real (as_type o)
-as_real none h = tt
-as_real (some f) h = h
-
-temporals_kind : (k j : ℕ) → If HasKind (temporal_coercion k j)
-unfolding temporal_coercion
-temporals_kind k j =
-    let P = If HasKind in
-    cond_is P (is_span k && is_span j) _ _ refl
-    (cond_is P (with_kind Kind.date32 is_integer k j) _ _ refl
-    (cond_is P (with_kind Kind.date64 is_integer k j) _ _ refl
-    (cond_is P (with_kind Kind.date64 (λ i. eqb i Kind.date32) k j) _ _ refl
-    (cond_is P (with_kind Kind.date32 is_time k j || with_kind Kind.date64 is_time k j) _ _ refl
-    (cond_is P (with_kind Kind.timestamp is_date k j) _ _ refl tt)))))
-
-strings_real : (k j : ℕ) → If Real (of_kind_type (string_coercion k j))
-unfolding string_coercion
-strings_real k j =
-    let P : Option ℕ → Type 0 = λ o. If Real (of_kind_type o) in
-    cond_is P (is_string k && is_string j) _ _
-    (cond_is P (one_is Kind.utf8_view k j) _ _ refl (cond_is P (one_is Kind.large_utf8 k j) _ _ refl refl)) tt
-
--- the rules on two types that have kinds
-module _ (l r : DataType) (hl : Real l) (hr : Real r) where
-  pub equal_real : If Real (equal_rule l r)
-  equal_real = cond_is (If Real) (equal l r) _ _ hl tt
-
-  pub number_real : If Real (number_rule l r)
-  number_real = as_real (binary_numeric_coercion (figures_of l) (figures_of r)) (numbers_kind (figures_of l) (figures_of r))
-
-  pub temporal_real : If Real (temporal_coercion_nonstrict_timezone l r)
-  unfolding temporal_coercion_nonstrict_timezone
-  temporal_real =
-      cond_is (If Real) (eqb l.shape.kind Kind.timestamp && eqb r.shape.kind Kind.timestamp) _ _ refl
-      (as_real (temporal_coercion l.shape.kind r.shape.kind) (temporals_kind l.shape.kind r.shape.kind))
-
-  pub string_real : If Real (string_rule l r)
-  string_real = strings_real l.shape.kind r.shape.kind
-
-  pub null_real : If Real (null_coercion every_kind l r)
-  unfolding null_coercion
-  null_real =
-      let P = If Real in
-      cond_is P (is_null l) _ _ (cond_is P (may_become every_kind r.shape.kind) _ _ hr tt)
-      (cond_is P (is_null r) _ _ (cond_is P (may_become every_kind l.shape.kind) _ _ hl tt) tt)
-
-  pub common_real : If Real (first_of (common_rules l r))
-  common_real = if_first Real (common_rules l r) (equal_real also number_real also temporal_real also string_real also null_real also done)
-
-  pub numeric_real : If Real (string_numeric_coercion l r)
-  unfolding string_numeric_coercion
-  numeric_real =
-      let P = If Real in
-      cond_is P (is_numeric l.shape.kind && is_string r.shape.kind) _ _ hl (cond_is P (is_string l.shape.kind && is_numeric r.shape.kind) _ _ hr tt)
-
-  pub union_real : If Real (string_numeric_union_coercion l r)
-  unfolding string_numeric_union_coercion
-  union_real =
-      let P = If Real in
-      cond_is P (is_string l.shape.kind && is_numeric r.shape.kind) _ _ hl (cond_is P (is_numeric l.shape.kind && is_string r.shape.kind) _ _ hr tt)
-
-time_real : (t : DataType) → Real t → If Real (time_of_string t)
-time_real t h =
-    let P = If Real in
-    cond_is P (is_date t.shape.kind) _ _ h
-    (cond_is P (is_time t.shape.kind) _ _ (cond_is P (is_time_with_valid_unit t.shape.kind t.shape.figure) _ _ h tt)
-    (cond_is P (eqb t.shape.kind Kind.timestamp) _ _ refl tt))
-
-moment_real : (l r : DataType) → Real l → Real r → If Real (string_temporal_coercion l r)
-unfolding string_temporal_coercion
-moment_real l r hl hr =
-    if_else Real (match_rule l r) (match_rule r l)
-    (cond_is (If Real) (is_string l.shape.kind) _ _ (time_real r hr) tt) (cond_is (If Real) (is_string r.shape.kind) _ _ (time_real l hl) tt)
-
-plain_real : (p : Plain) → is_plain p.kind ≡ true → Real (type_in p)
-unfolding type_in
-plain_real p h = ne_eqb p.kind 0 (λ e. let g = low p.kind h in omega arith)
+use Rattle.plain_pairs.specs.Plain.{same_plain}
+use Rattle.plain_pairs.proofs.Bytes.{low, back, same_type_lem, pick}
 
 -- answers that are tried in turn, whichever way they are grouped
 
 five : {A : Type 0} (a b c d e : Option A) → or_else (or_else (or_else (or_else a b) c) d) e ≡ first_of (a ∷ b ∷ c ∷ d ∷ e ∷ [])
 unfolding first_of
-five (some a) b c d e = refl
-five none (some b) c d e = refl
-five none none (some c) d e = refl
-five none none none (some d) e = refl
-five none none none none (some e) = refl
-five none none none none none = refl
+five (Some a) b c d e = refl
+five None (Some b) c d e = refl
+five None None (Some c) d e = refl
+five None None None (Some d) e = refl
+five None None None None (Some e) = refl
+five None None None None None = refl
 
 eight : {A : Type 0} (a b c d e x y z : Option A) → or_else (or_else (or_else (first_of (a ∷ b ∷ c ∷ d ∷ e ∷ [])) x) y) z
-    ≡ first_of (a ∷ b ∷ none ∷ none ∷ c ∷ d ∷ none ∷ e ∷ x ∷ y ∷ z ∷ none ∷ none ∷ [])
+    ≡ first_of (a ∷ b ∷ None ∷ None ∷ c ∷ d ∷ None ∷ e ∷ x ∷ y ∷ z ∷ None ∷ None ∷ [])
 unfolding first_of
-eight (some a) b c d e x y z = refl
-eight none (some b) c d e x y z = refl
-eight none none (some c) d e x y z = refl
-eight none none none (some d) e x y z = refl
-eight none none none none (some e) x y z = refl
-eight none none none none none (some x) y z = refl
-eight none none none none none none (some y) z = refl
-eight none none none none none none none (some z) = refl
-eight none none none none none none none none = refl
+eight (Some a) b c d e x y z = refl
+eight None (Some b) c d e x y z = refl
+eight None None (Some c) d e x y z = refl
+eight None None None (Some d) e x y z = refl
+eight None None None None (Some e) x y z = refl
+eight None None None None None (Some x) y z = refl
+eight None None None None None None (Some y) z = refl
+eight None None None None None None None (Some z) = refl
+eight None None None None None None None None = refl
 
-seven : {A : Type 0} (q : Bool) (t : A) (b c d e x z : Option A) → or_else (or_else (first_of (cond q (some t) none ∷ b ∷ c ∷ d ∷ e ∷ [])) x) z
-    ≡ cond q (some t) (first_of (b ∷ none ∷ none ∷ c ∷ d ∷ e ∷ x ∷ z ∷ []))
+seven : {A : Type 0} (q : Bool) (t : A) (b c d e x z : Option A) → or_else (or_else (first_of (cond q (Some t) None ∷ b ∷ c ∷ d ∷ e ∷ [])) x) z
+    ≡ cond q (Some t) (first_of (b ∷ None ∷ None ∷ c ∷ d ∷ e ∷ x ∷ z ∷ []))
 unfolding first_of
 seven true t b c d e x z = refl
-seven false t (some b) c d e x z = refl
-seven false t none (some c) d e x z = refl
-seven false t none none (some d) e x z = refl
-seven false t none none none (some e) x z = refl
-seven false t none none none none (some x) z = refl
-seven false t none none none none none (some z) = refl
-seven false t none none none none none none = refl
+seven false t (Some b) c d e x z = refl
+seven false t None (Some c) d e x z = refl
+seven false t None None (Some d) e x z = refl
+seven false t None None None (Some e) x z = refl
+seven false t None None None None (Some x) z = refl
+seven false t None None None None None (Some z) = refl
+seven false t None None None None None None = refl
 
 -- the rules on parts answer nothing
 
 abbrev Null : Option DataType → Type 0
-Null o = o ≡ none
+Null o = o ≡ None
 
 module _ (l r : Plain) (hl : is_plain l.kind ≡ true) (hr : is_plain r.kind ≡ true) (coerce : DataType → DataType → Option DataType) where
-  wrapper_none : (k : ℕ) → wrapper_coercion k coerce (type_in l) (type_in r) ≡ none
+  wrapper_none : (k : ℕ) → wrapper_coercion k coerce (type_in l) (type_in r) ≡ None
   unfolding wrapper_coercion type_in
   wrapper_none k =
       cond_is Null (eqb l.kind k && eqb r.kind k) _ _ refl (cond_is Null (eqb l.kind k) _ _ refl (cond_is Null (eqb r.kind k) _ _ refl refl))
 
-  list_none : list_coercion coerce (type_in l) (type_in r) ≡ none
+  list_none : list_coercion coerce (type_in l) (type_in r) ≡ None
   unfolding list_coercion type_in between
   list_none = rw (lt-leb 32 l.kind (let g = low l.kind hl in omega arith))
 
-  struct_none : struct_coercion coerce (type_in l) (type_in r) ≡ none
+  struct_none : struct_coercion coerce (type_in l) (type_in r) ≡ None
   unfolding struct_coercion type_in
   struct_none = rw (ne_eqb l.kind 35 (λ e. let g = low l.kind hl in omega arith))
 
-  map_none : map_coercion coerce (type_in l) (type_in r) ≡ none
+  map_none : map_coercion coerce (type_in l) (type_in r) ≡ None
   unfolding map_coercion type_in
   map_none = cond_is Null (eqb l.kind 36 && eqb r.kind 36) _ _ refl refl
 
 -- the code's groups of rules
 
 module _ (l r : Plain) (hl : is_plain l.kind ≡ true) (hr : is_plain r.kind ≡ true) where
-  pub commons : Plainly.first_of
-      (Plainly.first_of
-      (Plainly.first_of (Plainly.first_of (plain_of (equal_rule (type_in l) (type_in r))) (plain_of (number_rule (type_in l) (type_in r)))) (plain_of (temporal_coercion_nonstrict_timezone (type_in l) (type_in r))))
+  pub commons : option_or
+      (option_or
+      (option_or (option_or (plain_of (equal_rule (type_in l) (type_in r))) (plain_of (number_rule (type_in l) (type_in r)))) (plain_of (temporal_coercion_nonstrict_timezone (type_in l) (type_in r))))
       (plain_of (string_rule (type_in l) (type_in r))))
       (plain_of (null_coercion every_kind (type_in l) (type_in r)))
       ≡ plain_of (first_of (common_rules (type_in l) (type_in r)))
   commons =
       let tl = type_in l in
       let tr = type_in r in
-      let pl = plain_real l hl in
-      let pr = plain_real r hr in
-      let a = equal_rule tl tr in
-      let b = number_rule tl tr in
-      let c = temporal_coercion_nonstrict_timezone tl tr in
-      let d = string_rule tl tr in
-      let e = null_coercion every_kind tl tr in
-      let ra = equal_real tl tr pl pr in
-      let rb = if_else Real a b ra (number_real tl tr pl pr) in
-      let rc = if_else Real (or_else a b) c rb (temporal_real tl tr pl pr) in
-      let rd = if_else Real (or_else (or_else a b) c) d rc (string_real tl tr pl pr) in
-      ap (λ p. Plainly.first_of (Plainly.first_of (Plainly.first_of p (plain_of c)) (plain_of d)) (plain_of e)) (pick a b ra)
-      ∙ ap (λ p. Plainly.first_of (Plainly.first_of p (plain_of d)) (plain_of e)) (pick (or_else a b) c rb)
-      ∙ ap (λ p. Plainly.first_of p (plain_of e)) (pick (or_else (or_else a b) c) d rc)
-      ∙ pick (or_else (or_else (or_else a b) c) d) e rd
-      ∙ ap plain_of (five a b c d e)
+      simp pick
+      (ap plain_of
+      (five (equal_rule tl tr) (number_rule tl tr) (temporal_coercion_nonstrict_timezone tl tr) (string_rule tl tr) (null_coercion every_kind tl tr)))
 
-  three : (x : Option DataType) → If Real x → Plainly.first_of
-      (Plainly.first_of (Plainly.first_of (plain_of (first_of (common_rules (type_in l) (type_in r)))) (plain_of x)) (plain_of (string_temporal_coercion (type_in l) (type_in r))))
+  three : (x : Option DataType) → option_or
+      (option_or (option_or (plain_of (first_of (common_rules (type_in l) (type_in r)))) (plain_of x)) (plain_of (string_temporal_coercion (type_in l) (type_in r))))
       (plain_of (of_kind_type (binary_coercion l.kind r.kind)))
       ≡ plain_of (or_else (or_else (or_else (first_of (common_rules (type_in l) (type_in r))) x) (string_temporal_coercion (type_in l) (type_in r))) (of_kind_type (binary_coercion l.kind r.kind)))
-  three x hx =
-      let tl = type_in l in
-      let tr = type_in r in
-      let a = first_of (common_rules tl tr) in
-      let y = string_temporal_coercion tl tr in
-      let z = of_kind_type (binary_coercion l.kind r.kind) in
-      let ra = common_real tl tr (plain_real l hl) (plain_real r hr) in
-      let rx = if_else Real a x ra hx in
-      let ry = if_else Real (or_else a x) y rx (moment_real tl tr (plain_real l hl) (plain_real r hr)) in
-      ap (λ p. Plainly.first_of (Plainly.first_of p (plain_of y)) (plain_of z)) (pick a x ra)
-      ∙ ap (λ p. Plainly.first_of p (plain_of z)) (pick (or_else a x) y rx)
-      ∙ pick (or_else (or_else a x) y) z ry
+  three x = simp pick
 
   -- a union or a comparison, with the rule for a string and a number
   pair_asks : (rules : Rules) (x : Option DataType) → string_number rules.question (type_in l) (type_in r) ≡ x → rules.mask ≡ every_kind
@@ -303,27 +147,27 @@ module _ (l r : Plain) (hl : is_plain l.kind ≡ true) (hr : is_plain r.kind ≡
       ∷ maps i
       ∷ [])))
 
-  pub compares : Plainly.first_of
-      (Plainly.first_of (Plainly.first_of (plain_of (first_of (common_rules (type_in l) (type_in r)))) (plain_of (string_numeric_coercion (type_in l) (type_in r)))) (plain_of (string_temporal_coercion (type_in l) (type_in r))))
+  pub compares : option_or
+      (option_or (option_or (plain_of (first_of (common_rules (type_in l) (type_in r)))) (plain_of (string_numeric_coercion (type_in l) (type_in r)))) (plain_of (string_temporal_coercion (type_in l) (type_in r))))
       (plain_of (of_kind_type (binary_coercion l.kind r.kind)))
       ≡ answer_to compare l r
   compares =
-      three (string_numeric_coercion (type_in l) (type_in r)) (numeric_real (type_in l) (type_in r) (plain_real l hl) (plain_real r hr))
+      three (string_numeric_coercion (type_in l) (type_in r))
       ∙ ap plain_of (pair_asks (rules_of compare) (string_numeric_coercion (type_in l) (type_in r)) refl refl refl)
 
-  pub unions : Plainly.first_of
-      (Plainly.first_of (Plainly.first_of (plain_of (first_of (common_rules (type_in l) (type_in r)))) (plain_of (string_numeric_union_coercion (type_in l) (type_in r)))) (plain_of (string_temporal_coercion (type_in l) (type_in r))))
+  pub unions : option_or
+      (option_or (option_or (plain_of (first_of (common_rules (type_in l) (type_in r)))) (plain_of (string_numeric_union_coercion (type_in l) (type_in r)))) (plain_of (string_temporal_coercion (type_in l) (type_in r))))
       (plain_of (of_kind_type (binary_coercion l.kind r.kind)))
       ≡ answer_to union l r
   unions =
-      three (string_numeric_union_coercion (type_in l) (type_in r)) (union_real (type_in l) (type_in r) (plain_real l hl) (plain_real r hr))
+      three (string_numeric_union_coercion (type_in l) (type_in r))
       ∙ ap plain_of (pair_asks (rules_of union) (string_numeric_union_coercion (type_in l) (type_in r)) refl refl refl)
 
-  resolves : coercion (rules_of list) (type_in l) (type_in r) ≡ cond (equal (type_in l) (type_in r)) (some (type_in l))
+  resolves : coercion (rules_of list) (type_in l) (type_in r) ≡ cond (equal (type_in l) (type_in r)) (Some (type_in l))
       (first_of
       (number_rule (type_in l) (type_in r)
-      ∷ none
-      ∷ none
+      ∷ None
+      ∷ None
       ∷ temporal_coercion_nonstrict_timezone (type_in l) (type_in r)
       ∷ string_rule (type_in l) (type_in r)
       ∷ null_coercion every_kind (type_in l) (type_in r)
@@ -345,7 +189,7 @@ module _ (l r : Plain) (hl : is_plain l.kind ≡ true) (hr : is_plain r.kind ≡
         ne_eqb r.kind 38 (λ e. omega arith),
         ne_eqb l.kind 35 (λ e. omega arith),
       )
-      (λ i. cond (equal (type_in l) (type_in r)) (some (type_in l))
+      (λ i. cond (equal (type_in l) (type_in r)) (Some (type_in l))
       (first_of
       (number_rule (type_in l) (type_in r)
       ∷ lists i
@@ -357,8 +201,8 @@ module _ (l r : Plain) (hl : is_plain l.kind ≡ true) (hr : is_plain r.kind ≡
       ∷ of_kind_type (binary_coercion l.kind r.kind)
       ∷ [])))
 
-  pub steps : Plainly.first_of
-      (Plainly.first_of (plain_of (first_of (common_rules (type_in l) (type_in r)))) (plain_of (string_numeric_coercion (type_in l) (type_in r))))
+  pub steps : option_or
+      (option_or (plain_of (first_of (common_rules (type_in l) (type_in r)))) (plain_of (string_numeric_coercion (type_in l) (type_in r))))
       (plain_of (of_kind_type (binary_coercion l.kind r.kind)))
       ≡ plain_of (coercion (rules_of list) (type_in l) (type_in r))
   steps =
@@ -367,10 +211,8 @@ module _ (l r : Plain) (hl : is_plain l.kind ≡ true) (hr : is_plain r.kind ≡
       let a = first_of (common_rules tl tr) in
       let x = string_numeric_coercion tl tr in
       let z = of_kind_type (binary_coercion l.kind r.kind) in
-      let ra = common_real tl tr (plain_real l hl) (plain_real r hr) in
-      let rx = if_else Real a x ra (numeric_real tl tr (plain_real l hl) (plain_real r hr)) in
-      ap (λ p. Plainly.first_of p (plain_of z)) (pick a x ra)
-      ∙ pick (or_else a x) z rx
+      ap (λ p. option_or p (plain_of z)) (pick a x)
+      ∙ pick (or_else a x) z
       ∙ ap plain_of
       (seven (equal tl tr) tl (number_rule tl tr) (temporal_coercion_nonstrict_timezone tl tr) (string_rule tl tr) (null_coercion every_kind tl tr) x z ∙ sym resolves)
 
@@ -473,44 +315,72 @@ fitting l r hl hr =
 
 -- lists of two
 
-then_some : {A : Type 0} (o : Option A) → and_then o (λ a. some a) ≡ o
-then_some none = refl
-then_some (some a) = refl
+then_some : {A : Type 0} (o : Option A) → and_then o (λ a. Some a) ≡ o
+then_some None = refl
+then_some (Some a) = refl
 
 module _ (rules : Rules) (l r : Plain) where
-  pub fold_nulls : eqb l.kind 1 ≡ true → eqb r.kind 1 ≡ true → fold_types rules (type_in l ∷ type_in r ∷ []) ≡ none
+  fold_nulls : eqb l.kind 1 ≡ true → eqb r.kind 1 ≡ true → fold_types rules (type_in l ∷ type_in r ∷ []) ≡ None
   unfolding fold_types type_in
   fold_nulls e f = rw (e, f)
 
-  pub fold_left : eqb l.kind 1 ≡ true → eqb r.kind 1 ≡ false → fold_types rules (type_in l ∷ type_in r ∷ []) ≡ some (type_in r)
+  fold_left : eqb l.kind 1 ≡ true → eqb r.kind 1 ≡ false → fold_types rules (type_in l ∷ type_in r ∷ []) ≡ Some (type_in r)
   unfolding fold_types fold_from type_in
   fold_left e f = rw (e, f)
 
-  pub fold_right : eqb l.kind 1 ≡ false → eqb r.kind 1 ≡ true → fold_types rules (type_in l ∷ type_in r ∷ []) ≡ some (type_in l)
+  fold_right : eqb l.kind 1 ≡ false → eqb r.kind 1 ≡ true → fold_types rules (type_in l ∷ type_in r ∷ []) ≡ Some (type_in l)
   unfolding fold_types fold_from type_in
   fold_right e f = rw (e, f)
 
-  pub fold_both : eqb l.kind 1 ≡ false → eqb r.kind 1 ≡ false → fold_types rules (type_in l ∷ type_in r ∷ []) ≡ coercion rules (type_in r) (type_in l)
+  fold_both : eqb l.kind 1 ≡ false → eqb r.kind 1 ≡ false → fold_types rules (type_in l ∷ type_in r ∷ []) ≡ coercion rules (type_in r) (type_in l)
   unfolding fold_types fold_from type_in
   fold_both e f = rw (e, f) (then_some (coercion rules (type_in r) (type_in l)))
 
   resolved : type_union_resolution rules (type_in l ∷ type_in r ∷ [])
-      ≡ cond (equal (type_in r) (type_in l)) (some (type_in l)) (cond (categories_fit (type_in l ∷ type_in r ∷ [])) (fold_types rules (type_in l ∷ type_in r ∷ [])) none)
+      ≡ cond (equal (type_in r) (type_in l)) (Some (type_in l)) (cond (categories_fit (type_in l ∷ type_in r ∷ [])) (fold_types rules (type_in l ∷ type_in r ∷ [])) None)
   unfolding type_union_resolution
   resolved =
       rw (and_true (equal (type_in r) (type_in l)))
-      (ap (λ o. cond (equal (type_in r) (type_in l)) (some (type_in l)) o) (go (has_category notSupported (type_in l ∷ type_in r ∷ [])) (between 0 1 (categories_in (type_in l ∷ type_in r ∷ [])))))
+      (ap (λ o. cond (equal (type_in r) (type_in l)) (Some (type_in l)) o) (go (has_category notSupported (type_in l ∷ type_in r ∷ [])) (between 0 1 (categories_in (type_in l ∷ type_in r ∷ [])))))
     where
-      go : (a b : Bool) → cond a none (cond b (fold_types rules (type_in l ∷ type_in r ∷ [])) none) ≡ cond (cond a false b) (fold_types rules (type_in l ∷ type_in r ∷ [])) none
+      go : (a b : Bool) → cond a None (cond b (fold_types rules (type_in l ∷ type_in r ∷ [])) None) ≡ cond (cond a false b) (fold_types rules (type_in l ∷ type_in r ∷ [])) None
       go true b = refl
       go false b = refl
 
-  pub list_equal : equal (type_in r) (type_in l) ≡ true → type_union_resolution rules (type_in l ∷ type_in r ∷ []) ≡ some (type_in l)
+  list_equal : equal (type_in r) (type_in l) ≡ true → type_union_resolution rules (type_in l ∷ type_in r ∷ []) ≡ Some (type_in l)
   list_equal e = resolved ∙ rw e
 
-  pub list_mixed : equal (type_in r) (type_in l) ≡ false → categories_fit (type_in l ∷ type_in r ∷ []) ≡ false → type_union_resolution rules (type_in l ∷ type_in r ∷ []) ≡ none
+  list_mixed : equal (type_in r) (type_in l) ≡ false → categories_fit (type_in l ∷ type_in r ∷ []) ≡ false → type_union_resolution rules (type_in l ∷ type_in r ∷ []) ≡ None
   list_mixed e f = resolved ∙ rw (e, f)
 
-  pub list_folds : equal (type_in r) (type_in l) ≡ false → categories_fit (type_in l ∷ type_in r ∷ []) ≡ true
+  list_folds : equal (type_in r) (type_in l) ≡ false → categories_fit (type_in l ∷ type_in r ∷ []) ≡ true
       → type_union_resolution rules (type_in l ∷ type_in r ∷ []) ≡ fold_types rules (type_in l ∷ type_in r ∷ [])
   list_folds e f = resolved ∙ rw (e, f)
+
+-- the same of the code's tests and answers
+module _ (l r : Plain) where
+  abbrev folded : Option Plain
+  folded = plain_of (fold_types (rules_of list) (type_in l ∷ type_in r ∷ []))
+
+  pub nulls_folded : l.kind ≡ 1 → r.kind ≡ 1 → folded ≡ None
+  unfolding plain_of
+  nulls_folded e f = ap plain_of (fold_nulls (rules_of list) l r (eq-eqb l.kind 1 e) (eq-eqb r.kind 1 f))
+
+  pub left_folded : l.kind ≡ 1 → ¬ (r.kind ≡ 1) → folded ≡ Some r
+  left_folded e f = ap plain_of (fold_left (rules_of list) l r (eq-eqb l.kind 1 e) (ne_eqb r.kind 1 f)) ∙ back r
+
+  pub right_folded : ¬ (l.kind ≡ 1) → r.kind ≡ 1 → folded ≡ Some l
+  right_folded e f = ap plain_of (fold_right (rules_of list) l r (ne_eqb l.kind 1 e) (eq-eqb r.kind 1 f)) ∙ back l
+
+  pub both_folded : ¬ (l.kind ≡ 1) → ¬ (r.kind ≡ 1) → folded ≡ plain_of (coercion (rules_of list) (type_in r) (type_in l))
+  both_folded e f = ap plain_of (fold_both (rules_of list) l r (ne_eqb l.kind 1 e) (ne_eqb r.kind 1 f))
+
+  pub same_listed : same_plain r l ≡ true → answer_to list l r ≡ Some l
+  same_listed e = ap plain_of (list_equal (rules_of list) l r (same_type_lem r l ∙ e)) ∙ back l
+
+  pub mixed_listed : same_plain r l ≡ false → categories_fit (type_in l ∷ type_in r ∷ []) ≡ false → answer_to list l r ≡ None
+  unfolding plain_of
+  mixed_listed e f = ap plain_of (list_mixed (rules_of list) l r (same_type_lem r l ∙ e) f)
+
+  pub folds_listed : same_plain r l ≡ false → categories_fit (type_in l ∷ type_in r ∷ []) ≡ true → answer_to list l r ≡ folded
+  folds_listed e f = ap plain_of (list_folds (rules_of list) l r (same_type_lem r l ∙ e) f)

@@ -2,11 +2,14 @@
 use mathlib.Core.Path.{◌≡◌, refl, ap, sym, ◌∙◌}
 use mathlib.Core.Bool.{Bool, true, false, cond, ◌&&◌}
 use mathlib.Core.List.{[], ◌∷◌}
-use mathlib.Core.Option.{Option, none, some}
+use Rattle.std.specs.Prelude.{Option, None, Some}
+use Rattle.std.specs.Option.{option_or}
+use Rattle.std.specs.Bool.{then_some}
 use Prim.Native.Nat.{ℕ, ◌≤◌, max}
 use native.Mathlib.Omega.{arith}
 use lib.Dec.{eqb, leb}
 use borrow.Author.Tests.{eqb-true, eqb-false, eq-eqb, ne_eqb, leb-true}
+use Rattle.std.proofs.lemmas.Bool.{and_left, and_right}
 use Rattle.sheet.specs.Tests.{between, all_of}
 use Rattle.sheet.specs.Types.{absent, present}
 use Rattle.sheet.specs.Names.{same_bytes}
@@ -21,9 +24,9 @@ use Rattle.coercion.specs.Meaning.{side_of, moment_of}
 use Rattle.coercion.specs.declared.Figures.{Figures}
 use Rattle.coercion.specs.declared.Side.{Side}
 use Rattle.coercion.specs.declared.Moment.{Moment}
-use Rattle.coercion.proofs.Maybe.{If, cond_is}
-use Rattle.plain_pairs.specs.Plain.{same_plain, first_of, timestamp_in, of_figures, of_kind, of_side, of_moment}
-use Rattle.plain_pairs.specs.Typed.{is_plain, zone_in, type_in, zone_byte, plain_of}
+use Rattle.coercion.proofs.Maybe.{cond_is}
+use Rattle.plain_pairs.specs.Plain.{same_plain, timestamp_in, of_figures, of_kind, of_side, of_moment}
+use Rattle.plain_pairs.specs.Typed.{is_plain, zone_in, type_in, zone_byte, plain_of, equal_rule}
 use Rattle.plain_pairs.specs.declared.plain.Plain.{Plain}
 
 -- a kind without parts is one of 1 to 31
@@ -39,19 +42,19 @@ zone_back z = go (eqb z 0) refl
     go false e = refl
 
 -- the bytes of the type that four bytes stand for
-pub back : (p : Plain) → plain_of (some (type_in p)) ≡ p
+pub back : (p : Plain) → plain_of (Some (type_in p)) ≡ Some p
 unfolding plain_of type_in
-back p = ap (λ (z : ℕ). record { kind = p.kind; figure = p.figure; scale = p.scale; zone = z }) (go (eqb p.kind 31))
+back p = ap {B = Option Plain} (λ (z : ℕ). Some (record { kind = p.kind; figure = p.figure; scale = p.scale; zone = z })) (go (eqb p.kind 31))
   where
     go : (b : Bool) → cond b (cond b p.zone 0) (zone_byte (cond b absent (zone_in p.zone))) ≡ p.zone
     go true = refl
     go false = zone_back p.zone
 
-pub side_back : (s : Side) (l r : Plain) → of_side s l r ≡ plain_of (side_of s (type_in l) (type_in r))
+pub side_back : (s : Option Side) (l r : Plain) → of_side s l r ≡ plain_of (side_of s (type_in l) (type_in r))
 unfolding plain_of
-side_back Side.Left l r = sym (back l)
-side_back Side.Right l r = sym (back r)
-side_back Side.Neither l r = refl
+side_back (Some Side.Left) l r = sym (back l)
+side_back (Some Side.Right) l r = sym (back r)
+side_back None l r = refl
 
 no_zone : (b : Bool) → ◌≡◌ {A = ℕ} 0 (cond b 0 0)
 no_zone true = refl
@@ -59,13 +62,13 @@ no_zone false = refl
 
 pub figures_back : (o : Option Figures) → of_figures o ≡ plain_of (as_type o)
 unfolding plain_of
-figures_back none = refl
-figures_back (some f) = ap (λ (z : ℕ). record { kind = f.kind; figure = f.figure; scale = f.scale; zone = z }) (no_zone (eqb f.kind 31))
+figures_back None = refl
+figures_back (Some f) = ap {B = Option Plain} (λ (z : ℕ). Some (record { kind = f.kind; figure = f.figure; scale = f.scale; zone = z })) (no_zone (eqb f.kind 31))
 
 pub kind_back : (o : Option ℕ) → of_kind o ≡ plain_of (of_kind_type o)
 unfolding plain_of
-kind_back none = refl
-kind_back (some k) = ap (λ (z : ℕ). record { kind = k; figure = 0; scale = 0; zone = z }) (no_zone (eqb k 31))
+kind_back None = refl
+kind_back (Some k) = ap {B = Option Plain} (λ (z : ℕ). Some (record { kind = k; figure = 0; scale = 0; zone = z })) (no_zone (eqb k 31))
 
 -- sameness of zones is that of their bytes
 zones_same : (z w : ℕ) → same_zone (zone_in z) (zone_in w) ≡ eqb z w
@@ -103,14 +106,19 @@ same_type_lem l r = go (eqb l.kind r.kind) refl
         ∙ ap (λ (t : Bool). eqb l.figure r.figure && (eqb l.scale r.scale && t))
         (ap (λ (k : ℕ). T (eqb k 31) (eqb r.kind 31)) (eqb-true l.kind r.kind e) ∙ last_same (eqb r.kind 31) l.zone r.zone)
 
--- a type that has a kind
-abbrev pub Real : DataType → Type 0
-Real t = eqb t.shape.kind 0 ≡ false
-
-pub pick : (a b : Option DataType) → If Real a → first_of (plain_of a) (plain_of b) ≡ plain_of (or_else a b)
+pub equal_back : (l r : Plain) → then_some (same_plain l r) l ≡ plain_of (equal_rule (type_in l) (type_in r))
 unfolding plain_of
-pick none b h = refl
-pick (some t) b h = rw h
+equal_back l r = rw (same_type_lem l r) (go (same_plain l r))
+  where
+    go : (b : Bool) → then_some b l ≡ plain_of (cond b (Some (type_in l)) None)
+    go true = sym (back l)
+    go false = refl
+
+-- the first of two answers
+pub pick : (a b : Option DataType) → option_or (plain_of a) (plain_of b) ≡ plain_of (or_else a b)
+unfolding plain_of
+pick None b = refl
+pick (Some t) b = refl
 
 zone_pick : (z w : ℕ) → cond (eqb z 0) w z ≡ zone_byte (zone_coercion (zone_in z) (zone_in w))
 zone_pick z w = go (eqb z 0)
@@ -119,53 +127,54 @@ zone_pick z w = go (eqb z 0)
     go true = sym (zone_back w)
     go false = refl
 
-other : (k : ℕ) → eqb k 22 ≡ true → eqb k 31 ≡ false
-other k e = ne_eqb k 31 (λ f. let g = eqb-true k 22 e in omega arith)
-
 -- two Timestamps
-pub stamps : (l r : Plain) → eqb l.kind 22 && eqb r.kind 22 ≡ true
-    → timestamp_in (max l.figure r.figure) (cond (eqb l.zone 0) r.zone l.zone) ≡ plain_of (temporal_coercion_nonstrict_timezone (type_in l) (type_in r))
-unfolding plain_of type_in temporal_coercion_nonstrict_timezone
-stamps l r h =
-    let a = and_fst (eqb l.kind 22) (eqb r.kind 22) h in
-    let b = and_snd (eqb l.kind 22) (eqb r.kind 22) h in
-    rw (h, other l.kind a, other r.kind b)
-    (ap (λ (z : ℕ). timestamp_in (max l.figure r.figure) z) (zone_pick l.zone r.zone))
+module _ (l r : Plain) where
+  pub stamps : l.kind ≡ 22 → r.kind ≡ 22
+      → Some (timestamp_in (max l.figure r.figure) (cond (eqb l.zone 0) r.zone l.zone)) ≡ plain_of (temporal_coercion_nonstrict_timezone (type_in l) (type_in r))
+  unfolding plain_of type_in temporal_coercion_nonstrict_timezone
+  stamps e f = rw (e, f) (ap {B = Option Plain} (λ (z : ℕ). Some (timestamp_in (max l.figure r.figure) z)) (zone_pick l.zone r.zone))
 
-pub no_stamps : (l r : Plain) → eqb l.kind 22 && eqb r.kind 22 ≡ false
-    → of_figures (temporal_coercion l.kind r.kind) ≡ plain_of (temporal_coercion_nonstrict_timezone (type_in l) (type_in r))
-unfolding type_in temporal_coercion_nonstrict_timezone
-no_stamps l r h = rw h (figures_back (temporal_coercion l.kind r.kind))
+  -- and any other two
+  no_stamps : eqb l.kind 22 && eqb r.kind 22 ≡ false
+      → of_figures (temporal_coercion l.kind r.kind) ≡ plain_of (temporal_coercion_nonstrict_timezone (type_in l) (type_in r))
+  unfolding type_in temporal_coercion_nonstrict_timezone
+  no_stamps h = rw h (figures_back (temporal_coercion l.kind r.kind))
+
+  pub left_no_stamp : ¬ (l.kind ≡ 22) → of_figures (temporal_coercion l.kind r.kind) ≡ plain_of (temporal_coercion_nonstrict_timezone (type_in l) (type_in r))
+  left_no_stamp n = no_stamps (and_left (eqb l.kind 22) (eqb r.kind 22) (ne_eqb l.kind 22 n))
+
+  pub right_no_stamp : ¬ (r.kind ≡ 22) → of_figures (temporal_coercion l.kind r.kind) ≡ plain_of (temporal_coercion_nonstrict_timezone (type_in l) (type_in r))
+  right_no_stamp n = no_stamps (and_right (eqb l.kind 22) (eqb r.kind 22) (ne_eqb r.kind 22 n))
 
 -- a FixedSizeBinary is no time
-no_left : (l r : Plain) → eqb l.kind 31 ≡ true → string_temporal_coercion (type_in l) (type_in r) ≡ none
+no_left : (l r : Plain) → eqb l.kind 31 ≡ true → string_temporal_coercion (type_in l) (type_in r) ≡ None
 unfolding string_temporal_coercion type_in between
-no_left l r e = rw (eqb-true l.kind 31 e) (cond_is (λ (o : Option DataType). o ≡ none) (is_string r.kind) _ _ refl refl)
+no_left l r e = rw (eqb-true l.kind 31 e) (cond_is (λ (o : Option DataType). o ≡ None) (is_string r.kind) _ _ refl refl)
 
-no_right : (l r : Plain) → eqb r.kind 31 ≡ true → string_temporal_coercion (type_in l) (type_in r) ≡ none
+no_right : (l r : Plain) → eqb r.kind 31 ≡ true → string_temporal_coercion (type_in l) (type_in r) ≡ None
 unfolding string_temporal_coercion type_in between
 no_right l r e = rw (eqb-true r.kind 31 e) (go (is_string l.kind))
   where
-    go : (b : Bool) → or_else {A = DataType} (cond b none none) none ≡ none
+    go : (b : Bool) → or_else {A = DataType} (cond b None None) None ≡ None
     go true = refl
     go false = refl
 
-clash : {A : Type 0} {t : DataType} {o : Option DataType} → some t ≡ o → o ≡ none → A
+clash : {A : Type 0} {t : DataType} {o : Option DataType} → Some t ≡ o → o ≡ None → A
 clash e f = absurd (let z : ◌≡◌ {A = ℕ} 0 1 = cc in omega arith)
 
-pub moment_back : (m : Moment) (l r : Plain) → moment_of m (type_in l) (type_in r) ≡ string_temporal_coercion (type_in l) (type_in r)
+pub moment_back : (m : Option Moment) (l r : Plain) → moment_of m (type_in l) (type_in r) ≡ string_temporal_coercion (type_in l) (type_in r)
     → of_moment m l r ≡ plain_of (string_temporal_coercion (type_in l) (type_in r))
 unfolding plain_of type_in
-moment_back Moment.Left l r h = sym (back l) ∙ ap plain_of h
-moment_back Moment.Right l r h = sym (back r) ∙ ap plain_of h
-moment_back Moment.LeftNanoseconds l r h = go (eqb l.kind 31) refl ∙ ap plain_of h
+moment_back (Some Moment.Left) l r h = sym (back l) ∙ ap plain_of h
+moment_back (Some Moment.Right) l r h = sym (back r) ∙ ap plain_of h
+moment_back (Some Moment.LeftNanoseconds) l r h = go (eqb l.kind 31) refl ∙ ap plain_of h
   where
-    go : (b : Bool) → eqb l.kind 31 ≡ b → timestamp_in 3 l.zone ≡ timestamp_in 3 (zone_byte (cond b absent (zone_in l.zone)))
+    go : (b : Bool) → eqb l.kind 31 ≡ b → ◌≡◌ {A = Option Plain} (Some (timestamp_in 3 l.zone)) (Some (timestamp_in 3 (zone_byte (cond b absent (zone_in l.zone)))))
     go true e = clash h (no_left l r e)
-    go false e = ap (λ (z : ℕ). timestamp_in 3 z) (sym (zone_back l.zone))
-moment_back Moment.RightNanoseconds l r h = go (eqb r.kind 31) refl ∙ ap plain_of h
+    go false e = ap {B = Option Plain} (λ (z : ℕ). Some (timestamp_in 3 z)) (sym (zone_back l.zone))
+moment_back (Some Moment.RightNanoseconds) l r h = go (eqb r.kind 31) refl ∙ ap plain_of h
   where
-    go : (b : Bool) → eqb r.kind 31 ≡ b → timestamp_in 3 r.zone ≡ timestamp_in 3 (zone_byte (cond b absent (zone_in r.zone)))
+    go : (b : Bool) → eqb r.kind 31 ≡ b → ◌≡◌ {A = Option Plain} (Some (timestamp_in 3 r.zone)) (Some (timestamp_in 3 (zone_byte (cond b absent (zone_in r.zone)))))
     go true e = clash h (no_right l r e)
-    go false e = ap (λ (z : ℕ). timestamp_in 3 z) (sym (zone_back r.zone))
-moment_back Moment.Nothing l r h = ap plain_of h
+    go false e = ap {B = Option Plain} (λ (z : ℕ). Some (timestamp_in 3 z)) (sym (zone_back r.zone))
+moment_back None l r h = ap plain_of h

@@ -1,18 +1,19 @@
 -- The type that four bytes stand for, the bytes of a type, and the answers on types that are such bytes.
 use Rattle.std.specs.Prelude.{ℕ, Bool, false, cond, ◌&&◌, List, [], ◌∷◌, eqb}
-use Rattle.std.proofs.Math.Option.{Option, none, some}
+use Rattle.std.specs.Prelude.{Option, None, Some}
 use Rattle.sheet.specs.Kind as Kind
 use Rattle.sheet.specs.Tests.{between}
 use Rattle.sheet.specs.Types.{Zone, absent, present, end}
-use Rattle.coercion.specs.Data.{DataType, Question, list, union, compare, Rules, figures_of, as_type}
+use Rattle.coercion.specs.Data as Data
+use Rattle.coercion.specs.Data.{DataType, list, union, compare, Rules, figures_of, as_type}
 use Rattle.coercion.specs.Same.{equal}
 use Rattle.coercion.specs.Numbers.{binary_numeric_coercion}
 use Rattle.coercion.specs.Times.{temporal_coercion_nonstrict_timezone}
 use Rattle.coercion.specs.Strings.{string_coercion}
 use Rattle.coercion.specs.Rules.{null_coercion}
 use Rattle.coercion.specs.Answers.{of_kind_type, answer_of}
-use Rattle.plain_pairs.specs.Plain.{no_type}
 use Rattle.plain_pairs.specs.declared.plain.Plain.{Plain}
+use Rattle.buffers.specs.declared.Question.{Question}
 
 -- the kinds without parts, 1 to 31
 abbrev pub is_plain : ℕ → Bool
@@ -43,23 +44,24 @@ zone_byte absent = 0
 zone_byte (present []) = 0
 zone_byte (present (z ∷ zs)) = z
 
--- the bytes of an answer, four zeros where there is none
-unfoldable pub plain_of : Option DataType → Plain
-plain_of none = no_type
-plain_of (some t) =
-    record {
+-- the bytes of an answer, if there is one
+unfoldable pub plain_of : Option DataType → Option Plain
+plain_of None = None
+plain_of (Some t) =
+    Some
+    (record {
       kind = t.shape.kind;
       figure = t.shape.figure;
       scale = t.shape.scale;
       zone = cond (eqb t.shape.kind Kind.fixed_size_binary) t.shape.size (zone_byte t.shape.zone);
-    }
+    })
 
 -- Null may become every kind, 1 to 38
 abbrev pub every_kind : ℕ
 every_kind = 549755813886
 
 abbrev pub equal_rule : DataType → DataType → Option DataType
-equal_rule l r = cond (equal l r) (some l) none
+equal_rule l r = cond (equal l r) (Some l) None
 
 abbrev pub number_rule : DataType → DataType → Option DataType
 number_rule l r = as_type (binary_numeric_coercion (figures_of l) (figures_of r))
@@ -71,17 +73,18 @@ string_rule l r = of_kind_type (string_coercion l.shape.kind r.shape.kind)
 abbrev pub common_rules : DataType → DataType → List (Option DataType)
 common_rules l r = equal_rule l r ∷ number_rule l r ∷ temporal_coercion_nonstrict_timezone l r ∷ string_rule l r ∷ null_coercion every_kind l r ∷ []
 
--- a question's number: 1 list, 2 union, any other compare
-abbrev pub question_in : ℕ → Question
-question_in q = cond (eqb q 1) list (cond (eqb q 2) union compare)
+abbrev pub question_in : Question → Data.Question
+question_in Question.List = list
+question_in Question.Union = union
+question_in Question.Compare = compare
 
-abbrev pub rules_of : Question → Rules
+abbrev pub rules_of : Data.Question → Rules
 rules_of q = record { question = q; mask = every_kind }
 
 -- the answer of the coercion rules to a question on two types
-abbrev pub answer_to : Question → Plain → Plain → Plain
+abbrev pub answer_to : Data.Question → Plain → Plain → Option Plain
 answer_to q l r = plain_of (answer_of q (rules_of q) (type_in l ∷ type_in r ∷ []))
 
 -- and none where one has a kind with parts or no kind
-unfoldable pub answer_in : ℕ → Plain → Plain → Plain
-answer_in q l r = cond (is_plain l.kind && is_plain r.kind) (answer_to (question_in q) l r) no_type
+unfoldable pub answer_in : Question → Plain → Plain → Option Plain
+answer_in q l r = cond (is_plain l.kind && is_plain r.kind) (answer_to (question_in q) l r) None

@@ -9,35 +9,71 @@ pub mod pairs;
 pub mod plain;
 pub mod questions;
 
-ghost use Rattle.std.specs.Prelude.{◌≡◌, ◌+◌, ◌*◌, ◌^◌, ◌<◌, ◌≤◌, length};
+ghost use Rattle.std.specs.Prelude.{◌≡◌, ◌+◌, ◌*◌, ◌^◌, ◌<◌, ◌≤◌, length, IfSome};
 
-use crate::plain::{Plain, nothing, same};
+use crate::plain::Plain;
+use crate::questions::{Question, answer};
 use anyhow::Context;
 use reading::read_full;
 use std::fs::File;
-use std::io;
 use std::io::Read;
+use std::{fmt, io};
 
-// The answers that were compared, how many differ, and the first that does; and whether the file is too short or too long.
+// An answer that is not the stored one.
 #[derive(Clone, Copy)]
-struct Tally {
-    answers: u64,
-    wrong: u64,
+struct Difference {
     left: Plain,
     right: Plain,
-    question: u8,
-    wanted: Plain,
-    given: Plain,
+    question: Question,
+    wanted: Option<Plain>,
+    given: Option<Plain>,
+}
+
+impl fmt::Display for Difference {
+    fn fmt<W: fmt::Write>(&self, f: &mut fmt::Formatter<W>) -> fmt::Result {
+        let wanted = self.wanted.unwrap_or_default();
+        let given = self.given.unwrap_or_default();
+        write!(
+            f,
+            "{} of {} and {}: expected {wanted}, given {given}",
+            self.question, self.left, self.right
+        )
+    }
+}
+
+// The answers that were compared, by whether they were as stored, and the first that was not; and whether the file is too short or too long.
+#[derive(Clone, Copy)]
+struct Tally {
+    right: u64,
+    wrong: u64,
+    first: Option<Difference>,
     broken: bool,
 }
 
-fn wide(b: u8) -> usize
-    ensures { result < 256 }
-{
-    b as usize
+impl Tally {
+    fn count(&mut self, left: Plain, right: Plain, question: Question, wanted: Option<Plain>)
+        requires { self.old.right + self.old.wrong < 2 ^ 32 }
+        ensures { self.new.right + self.new.wrong ≡ self.old.right + self.old.wrong + 1 }
+    {
+        let given = answer(question, left, right);
+        if given == wanted {
+            self.right += 1;
+            return;
+        }
+        self.wrong += 1;
+        if self.first.is_none() {
+            self.first = Some(Difference {
+                left,
+                right,
+                question,
+                wanted,
+                given,
+            });
+        }
+    }
 }
 
-// The type or answer that starts at `at`.
+// The type that starts at `at`.
 fn plain_at(bytes: &[u8], at: usize) -> Plain
     requires { at + 4 ≤ length bytes.now }
 {
@@ -49,94 +85,56 @@ fn plain_at(bytes: &[u8], at: usize) -> Plain
     }
 }
 
-fn nothing_run(broken: bool) -> Tally
-    ensures { (result.answers ≡ 0) × (result.wrong ≡ 0) }
+fn answer_at(bytes: &[u8], at: usize) -> Option<Plain>
+    requires { at + 4 ≤ length bytes.now }
 {
-    let none = nothing();
-    Tally {
-        answers: 0,
-        wrong: 0,
-        left: none,
-        right: none,
-        question: 0,
-        wanted: none,
-        given: none,
-        broken,
-    }
+    let p = plain_at(bytes, at);
+    if p == Plain::default() { None } else { Some(p) }
 }
 
-// One answer more. Only the first that differs is kept.
-fn counted(t: Tally, l: Plain, r: Plain, question: u8, wanted: Plain) -> Tally
-    requires { (t.answers < 2 ^ 62) × (t.wrong ≤ t.answers) }
-    ensures { (result.answers ≡ t.answers + 1) × (result.wrong ≤ result.answers) }
-{
-    let given = questions::answer(question, l, r);
-    let mut o = t;
-    o.answers = t.answers + 1;
-    if same(wanted, given) {
-        return o;
-    }
-    o.wrong = t.wrong + 1;
-    if t.wrong == 0 {
-        o.left = l;
-        o.right = r;
-        o.question = question;
-        o.wanted = wanted;
-        o.given = given;
-    }
-    o
-}
-
-// The answers to the three questions stand in `wanted`, one after the other.
-fn compared(wanted: &[u8], l: Plain, r: Plain, t: Tally) -> Tally
-    requires wanted_len { length wanted.now ≡ 12 }
-    requires answers_bound { (t.answers < 2 ^ 32) × (t.wrong ≤ t.answers) }
-    ensures { (result.answers ≡ t.answers + 3) × (result.wrong ≤ result.answers) }
-{
-    let a = counted(t, l, r, questions::LIST, plain_at(wanted, 0));
-    let b = counted(a, l, r, questions::UNION, plain_at(wanted, 4));
-    counted(b, l, r, questions::COMPARE, plain_at(wanted, 8))
-}
-
-fn run_pair<R: Read>(stored: &mut R, l: Plain, r: Plain, t: Tally) -> Tally
-    requires { (t.answers < 2 ^ 32) × (t.wrong ≤ t.answers) }
-    ensures { (result.answers ≤ t.answers + 3) × (result.wrong ≤ result.answers) }
+// The answers to the three questions stand one after the other.
+fn run_pair<R: Read>(stored: &mut R, l: Plain, r: Plain, tally: &mut Tally)
+    requires { tally.old.right + tally.old.wrong < 2 ^ 31 }
+    ensures { tally.new.right + tally.new.wrong ≤ tally.old.right + tally.old.wrong + 3 }
 {
     let mut wanted = [0u8; 12];
     if read_full(stored, &mut wanted) < 12 {
-        let mut o = t;
-        o.broken = true;
-        return o;
+        tally.broken = true;
+        return;
     }
-    compared(&wanted, l, r, t)
+    tally.count(l, r, Question::List, answer_at(&wanted, 0));
+    tally.count(l, r, Question::Union, answer_at(&wanted, 4));
+    tally.count(l, r, Question::Compare, answer_at(&wanted, 8));
 }
 
-// Every right of one left.
-fn run_left<R: Read>(stored: &mut R, types: &[u8], count: usize, l: Plain, t: Tally) -> Tally
-    requires count_in_bounds { (count * 4 ≤ length types.now) × (count ≤ 256) }
-    requires answers_bound { (t.answers < 2 ^ 31) × (t.wrong ≤ t.answers) }
-    ensures { (result.answers ≤ t.answers + 768) × (result.wrong ≤ result.answers) }
+fn run_types<R: Read>(stored: &mut R, types: &[u8], tally: &mut Tally)
+    requires types_bound { length types.now ≤ 1024 }
+    requires tally_bound { tally.old.right + tally.old.wrong < 2 ^ 30 }
+    ensures { tally.new.right + tally.new.wrong < 2 ^ 31 }
 {
-    let mut o = t;
-    let mut i = 0;
-    while i < count {
-        o = run_pair(stored, l, plain_at(types, i * 4), o);
-        i += 1;
+    for l in types.chunks_exact(4) {
+        for r in types.chunks_exact(4) {
+            run_pair(stored, plain_at(l, 0), plain_at(r, 0), tally);
+        }
     }
-    o
 }
 
-fn run_types<R: Read>(stored: &mut R, types: &[u8], count: usize) -> Tally
-    requires { (count * 4 ≤ length types.now) × (count ≤ 256) }
-    ensures { result.wrong ≤ result.answers }
+// The types; none where the file has no type, more than there is room for, or too few bytes.
+fn read_types<'a, R: Read>(stored: &mut R, space: &'a mut [u8]) -> Option<&'a [u8]>
+    requires { length space.old ≡ 1024 }
+    ensures { IfSome result (λ types. length types.now ≤ 1024) }
 {
-    let mut o = nothing_run(count == 0);
-    let mut i = 0;
-    while i < count {
-        o = run_left(stored, types, count, plain_at(types, i * 4), o);
-        i += 1;
+    let mut head = [0u8; 2];
+    read_full(stored, &mut head);
+    let count = usize::from(u16::from_le_bytes(head));
+    if count == 0 || count > 256 {
+        return None;
     }
-    o
+    let types = &mut space[..count * 4];
+    if read_full(stored, types) < types.len() {
+        return None;
+    }
+    Some(types)
 }
 
 fn at_end<R: Read>(stored: &mut R) -> bool {
@@ -144,87 +142,37 @@ fn at_end<R: Read>(stored: &mut R) -> bool {
     read_full(stored, &mut one) == 0
 }
 
-// No type at all where the file is too short for its types.
-fn run_in<R: Read>(stored: &mut R, types: &mut [u8]) -> Tally
-    requires { length types.old ≤ 1024 }
-    ensures { result.wrong ≤ result.answers }
-{
-    let length = types.len();
-    if read_full(stored, types) < length {
-        return nothing_run(true);
-    }
-    run_types(stored, types, length / 4)
-}
-
-fn run_some<R: Read>(stored: &mut R, space: &mut [u8], count: usize) -> Tally
-    requires { length space.old ≡ 1024 }
-    ensures { result.wrong ≤ result.answers }
-{
-    if count > 256 {
-        return nothing_run(true);
-    }
-    let length = count * 4;
-    run_in(stored, &mut space[..length])
-}
-
 // There is room for 256 types.
 fn run<R: Read>(stored: &mut R) -> Tally
-    ensures { result.wrong ≤ result.answers }
+    ensures { result.right + result.wrong < 2 ^ 32 }
 {
+    let mut tally = Tally {
+        right: 0,
+        wrong: 0,
+        first: None,
+        broken: false,
+    };
     let mut space = [0u8; 1024];
-    let mut head = [0u8; 2];
-    read_full(stored, &mut head);
-    let mut o = run_some(stored, &mut space, wide(head[0]) + 256 * wide(head[1]));
+    match read_types(stored, &mut space) {
+        Some(types) => run_types(stored, types, &mut tally),
+        None => tally.broken = true,
+    }
     if !at_end(stored) {
-        o.broken = true;
+        tally.broken = true;
     }
-    o
-}
-
-fn print(rt: &impl Print, text: &str, number: u64) -> io::Result<()> {
-    print!(rt; "{text}{number}")
-}
-
-fn print_plain(rt: &impl Print, name: &str, p: Plain) -> io::Result<()> {
-    print!(rt; "{name}")?;
-    print(rt, " ", p.kind as u64)?;
-    print(rt, " ", p.figure as u64)?;
-    print(rt, " ", p.scale as u64)?;
-    print(rt, " ", p.zone as u64)
-}
-
-fn print_question(rt: &impl Print, question: u8) -> io::Result<()> {
-    if question == questions::LIST {
-        print!(rt; "list")
-    } else if question == questions::UNION {
-        print!(rt; "union")
-    } else {
-        print!(rt; "compare")
-    }
-}
-
-fn print_first(rt: &impl Print, t: Tally) -> io::Result<()> {
-    let left = t.left;
-    let right = t.right;
-    let wanted = t.wanted;
-    let given = t.given;
-    print_question(rt, t.question)?;
-    print_plain(rt, " of", left)?;
-    print_plain(rt, " and", right)?;
-    print_plain(rt, ": expected", wanted)?;
-    print_plain(rt, ", given", given)?;
-    println!(rt)
+    tally
 }
 
 fn summary(rt: &impl Print, t: Tally) -> io::Result<()>
-    requires { t.wrong ≤ t.answers }
+    requires { t.right + t.wrong < 2 ^ 32 }
 {
-    print(rt, "", t.answers)?;
-    print(rt, " answers: ", t.answers - t.wrong)?;
-    print(rt, " as expected, ", t.wrong)?;
-    println!(rt; " not")?;
-    if t.wrong > 0 {
-        print_first(rt, t)?;
+    let answers = t.right + t.wrong;
+    println!(rt;
+        "{answers} answers: {} as expected, {} not",
+        t.right, t.wrong
+    )?;
+    if let Some(first) = t.first {
+        println!(rt; "{first}")?;
     }
     if t.broken {
         println!(rt; "the file has too few bytes or too many")?;

@@ -7,10 +7,7 @@ ghost use Rattle.coercion.specs.Times.{temporal_coercion_nonstrict_timezone};
 ghost use Rattle.plain_pairs.specs.Plain.{of_kind};
 ghost use Rattle.plain_pairs.specs.Typed.{is_plain, type_in, plain_of, every_kind, equal_rule, number_rule, string_rule, common_rules};
 
-use crate::plain::{
-    Plain, figures, first_of, nothing, of_common, of_found, of_moment, of_side, same, timestamp,
-};
-use kinds::tests::both;
+use crate::plain::{Plain, of_common, of_found, of_moment, of_side, timestamp};
 use numeric::numbers::binary_numeric_coercion;
 use rules::sides::{null_coercion, string_temporal_coercion};
 use rules::strings::{binary_coercion, string_coercion};
@@ -19,16 +16,18 @@ use rules::times::{temporal_coercion, timeunit_coercion};
 // Null may become every kind, 1 to 38.
 const FULL: u64 = 549755813886;
 
-fn equal(l: Plain, r: Plain) -> Plain
+#[tactic(auto, using(crate::proofs::Bytes::equal_back))]
+fn equal(l: Plain, r: Plain) -> Option<Plain>
     ensures { result ≡ plain_of (equal_rule (type_in l) (type_in r)) }
 {
-    if same(l, r) { l } else { nothing() }
+    (l == r).then_some(l)
 }
 
-fn numeric(l: Plain, r: Plain) -> Plain
+#[tactic(auto, using(crate::proofs::Bytes::figures_back), unfolding(crate::specs::Typed::type_in))]
+fn numeric(l: Plain, r: Plain) -> Option<Plain>
     ensures { result ≡ plain_of (number_rule (type_in l) (type_in r)) }
 {
-    of_common(binary_numeric_coercion(figures(l), figures(r)))
+    of_common(binary_numeric_coercion(l.into(), r.into()))
 }
 
 fn either_zone(l: u8, r: u8) -> u8
@@ -37,25 +36,27 @@ fn either_zone(l: u8, r: u8) -> u8
     if l == 0 { r } else { l }
 }
 
-fn temporal(l: Plain, r: Plain) -> Plain
+#[tactic(auto, using(crate::proofs::Bytes::stamps, crate::proofs::Bytes::left_no_stamp, crate::proofs::Bytes::right_no_stamp))]
+fn temporal(l: Plain, r: Plain) -> Option<Plain>
     ensures { result ≡ plain_of (temporal_coercion_nonstrict_timezone (type_in l) (type_in r)) }
 {
-    if both(l.kind == 22, r.kind == 22) {
-        return timestamp(
+    if l.kind == 22 && r.kind == 22 {
+        return Some(timestamp(
             timeunit_coercion(l.figure, r.figure),
             either_zone(l.zone, r.zone),
-        );
+        ));
     }
     of_common(temporal_coercion(l.kind, r.kind))
 }
 
-fn string(l: Plain, r: Plain) -> Plain
+#[tactic(auto, using(crate::proofs::Bytes::kind_back), unfolding(crate::specs::Typed::type_in))]
+fn string(l: Plain, r: Plain) -> Option<Plain>
     ensures { result ≡ plain_of (string_rule (type_in l) (type_in r)) }
 {
     of_found(string_coercion(l.kind, r.kind))
 }
 
-fn null(l: Plain, r: Plain) -> Plain
+fn null(l: Plain, r: Plain) -> Option<Plain>
     requires { (is_plain l.kind ≡ true) × (is_plain r.kind ≡ true) }
     ensures { result ≡ plain_of (null_coercion every_kind (type_in l) (type_in r)) }
 {
@@ -63,17 +64,18 @@ fn null(l: Plain, r: Plain) -> Plain
 }
 
 // The rules that every question tries first.
-pub fn common(l: Plain, r: Plain) -> Plain
+pub fn common(l: Plain, r: Plain) -> Option<Plain>
     requires { (is_plain l.kind ≡ true) × (is_plain r.kind ≡ true) }
     ensures { result ≡ plain_of (first_of (common_rules (type_in l) (type_in r))) }
 {
-    let a = first_of(equal(l, r), numeric(l, r));
-    let b = first_of(a, temporal(l, r));
-    let c = first_of(b, string(l, r));
-    first_of(c, null(l, r))
+    equal(l, r)
+        .or(numeric(l, r))
+        .or(temporal(l, r))
+        .or(string(l, r))
+        .or(null(l, r))
 }
 
-pub fn string_temporal(l: Plain, r: Plain) -> Plain
+pub fn string_temporal(l: Plain, r: Plain) -> Option<Plain>
     ensures { result ≡ plain_of (string_temporal_coercion (type_in l) (type_in r)) }
 {
     of_moment(
@@ -83,7 +85,7 @@ pub fn string_temporal(l: Plain, r: Plain) -> Plain
     )
 }
 
-pub fn binary(l: Plain, r: Plain) -> Plain
+pub fn binary(l: Plain, r: Plain) -> Option<Plain>
     ensures { result ≡ of_kind (binary_coercion l.kind r.kind) }
 {
     of_found(binary_coercion(l.kind, r.kind))

@@ -1,12 +1,12 @@
 // A type without parts as the file has it, and what the rules answer as such a type.
 ghost use Rattle.std.specs.Prelude.{◌≡◌};
-ghost use Rattle.coercion.specs.Meaning.{figures_in, kind_of};
-ghost use Rattle.plain_pairs.specs.Plain.{no_type, same_plain, first_of, figures_of, timestamp_in, of_figures, of_kind, of_side, of_moment};
+ghost use Rattle.plain_pairs.specs.Plain.{figures_of, timestamp_in, plain_figures, of_figures, of_kind, of_side, of_moment};
 
-use coercion::{Common, Figures, Found, Moment, Side};
+use coercion::{Figures, Moment, Side};
+use std::fmt;
 
-// The zone is a number for a Timestamp's zone, 0 for none, or the size of a FixedSizeBinary. Kind 0 is no type.
-#[derive(Clone, Copy)]
+// The zone is a number for a Timestamp's zone, 0 for none, or the size of a FixedSizeBinary.
+#[derive(Clone, Copy, Default, PartialEq)]
 pub struct Plain {
     pub kind: u8,
     pub figure: u8,
@@ -14,45 +14,38 @@ pub struct Plain {
     pub zone: u8,
 }
 
-pub fn nothing() -> Plain
-    ensures { result ≡ no_type }
-{
-    Plain {
-        kind: 0,
-        figure: 0,
-        scale: 0,
-        zone: 0,
+impl From<Plain> for Figures {
+    ghost from_gives = { λ p f. f ≡ figures_of p };
+
+    fn from(p: Plain) -> Figures {
+        Figures {
+            kind: p.kind,
+            figure: p.figure,
+            scale: p.scale,
+        }
     }
 }
 
-pub fn same(a: Plain, b: Plain) -> bool
-    ensures { result ≡ same_plain a b }
-{
-    if a.kind != b.kind {
-        return false;
+impl From<Figures> for Plain {
+    ghost from_gives = { λ f p. p ≡ plain_figures f };
+
+    fn from(f: Figures) -> Plain {
+        Plain {
+            kind: f.kind,
+            figure: f.figure,
+            scale: f.scale,
+            zone: 0,
+        }
     }
-    if a.figure != b.figure {
-        return false;
-    }
-    if a.scale != b.scale {
-        return false;
-    }
-    a.zone == b.zone
 }
 
-pub fn first_of(a: Plain, b: Plain) -> Plain
-    ensures { result ≡ first_of a b }
-{
-    if a.kind == 0 { b } else { a }
-}
-
-pub fn figures(p: Plain) -> Figures
-    ensures { result ≡ figures_of p }
-{
-    Figures {
-        kind: p.kind,
-        figure: p.figure,
-        scale: p.scale,
+impl fmt::Display for Plain {
+    fn fmt<W: fmt::Write>(&self, f: &mut fmt::Formatter<W>) -> fmt::Result {
+        write!(
+            f,
+            "{} {} {} {}",
+            self.kind, self.figure, self.scale, self.zone
+        )
     }
 }
 
@@ -67,52 +60,34 @@ pub fn timestamp(unit: u8, zone: u8) -> Plain
     }
 }
 
-pub fn of_common(c: Common) -> Plain
-    ensures { result ≡ of_figures (figures_in c) }
+pub fn of_common(c: Option<Figures>) -> Option<Plain>
+    ensures { result ≡ of_figures c }
 {
-    match c {
-        Common::Of(f) => Plain {
-            kind: f.kind,
-            figure: f.figure,
-            scale: f.scale,
-            zone: 0,
-        },
-        Common::Nothing => nothing(),
-    }
+    c.map(Plain::from)
 }
 
-pub fn of_found(f: Found) -> Plain
-    ensures { result ≡ of_kind (kind_of f) }
+pub fn of_found(k: Option<u8>) -> Option<Plain>
+    ensures { result ≡ of_kind k }
 {
-    match f {
-        Found::Kind(kind) => Plain {
-            kind,
-            figure: 0,
-            scale: 0,
-            zone: 0,
-        },
-        Found::Nothing => nothing(),
-    }
+    of_common(k.map(Figures::of_kind))
 }
 
-pub fn of_side(s: Side, l: Plain, r: Plain) -> Plain
+pub fn of_side(s: Option<Side>, l: Plain, r: Plain) -> Option<Plain>
     ensures { result ≡ of_side s l r }
 {
-    match s {
-        Side::Left => l,
-        Side::Right => r,
-        Side::Neither => nothing(),
+    match s? {
+        Side::Left => Some(l),
+        Side::Right => Some(r),
     }
 }
 
-pub fn of_moment(m: Moment, l: Plain, r: Plain) -> Plain
+pub fn of_moment(m: Option<Moment>, l: Plain, r: Plain) -> Option<Plain>
     ensures { result ≡ of_moment m l r }
 {
-    match m {
-        Moment::Left => l,
-        Moment::Right => r,
-        Moment::LeftNanoseconds => timestamp(3, l.zone),
-        Moment::RightNanoseconds => timestamp(3, r.zone),
-        Moment::Nothing => nothing(),
+    match m? {
+        Moment::Left => Some(l),
+        Moment::Right => Some(r),
+        Moment::LeftNanoseconds => Some(timestamp(3, l.zone)),
+        Moment::RightNanoseconds => Some(timestamp(3, r.zone)),
     }
 }

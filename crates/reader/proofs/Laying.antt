@@ -7,13 +7,14 @@ use lib.ListN.{set, length, length-set}
 use borrow.Author.Tests.{ne_eqb}
 use Rattle.sheet.specs.Types.{Fields, end, field, arity, count}
 use Rattle.sheet.specs.Read.{records_of, read}
-use Rattle.sheet.specs.Refusals.{refusal, number_of, verdict}
+use Rattle.sheet.specs.Refusals.{refusal, number_of, meaning, verdict}
 use Rattle.sheet.specs.Holds.{Plain}
 use Rattle.sheet.specs.declared.Refusal.{Refusal}
 use Rattle.sheet.proofs.Accepted.{accepted_n}
 use Rattle.refusals.proofs.Verdicts.{checked_number, number_some}
 use Rattle.reader.specs.Record.{listed_at, entry_at}
-use Rattle.reader.specs.Listed.{kinds, over, listing}
+use Rattle.reader.specs.Listed.{kinds, over, listing, seen_in}
+use Rattle.std.specs.Prelude.{Result, Ok, Err, IsErrAnd}
 use Rattle.reader.specs.Standing.{StandsAt}
 use Rattle.reader.specs.declared.Entry.{Entry}
 use Rattle.reader.proofs.Stands.{stands_new, stands_past, stands_kind, stands_next, stands_end}
@@ -102,9 +103,11 @@ module _ (s w₀ : List ℕ) where
       go (field name nullable shape parts rest) b c d = absurd (omega (arith, h, stands_past b))
 
 -- what is seen, from what the check answered
-pub listing_refused : (s w : List ℕ) (r : Refusal) → record { number = number_of r; n = 0; m = 0 } ≡ verdict s → record { number = number_of r; types = 0; output = w } ≡ listing s w
+pub listing_refused : (s w : List ℕ) (x : Refusal) (o : Result ℕ Refusal) → meaning (Err x) ≡ verdict s → IsErrAnd o (λ y. y ≡ x) → seen_in o w ≡ listing s w
 unfolding listing
-listing_refused s w r h = rw (checked_number s (number_of r) 0 0 h, ne_eqb (number_of r) 0 (number_some r))
+listing_refused s w x (Ok k) h f = absurd f
+listing_refused s w x (Err y) h f =
+    rw (checked_number s (number_of x) 0 0 h, ne_eqb (number_of x) 0 (number_some x)) (λ i. record { number = number_of (f i); types = 0; output = w })
 
 pub listing_types : (s w : List ℕ) → refusal s ≡ 0 → {k : ℕ} {v : List ℕ} → k ≡ arity (read s) → v ≡ over (kinds (read s)) w → record { number = 0; types = k; output = v } ≡ listing s w
 unfolding listing

@@ -1,10 +1,9 @@
 -- What is seen after the types of a sheet were listed.
-use Rattle.std.specs.Prelude.{ℕ, cond, List, [], ◌∷◌, eqb}
+use Rattle.std.specs.Prelude.{ℕ, cond, List, [], ◌∷◌, eqb, Result, Ok, Err}
 use Rattle.sheet.specs.Types.{Fields, end, field, arity}
 use Rattle.sheet.specs.Read.{read}
 use Rattle.sheet.specs.Refusals.{refusal, number_of}
-use Rattle.reader.specs.declared.list.Listing.{Listing}
-use Rattle.reader.specs.declared.list.Listing.TheVariants.{Refused, Types}
+use Rattle.sheet.specs.declared.Refusal.{Refusal}
 
 -- the kinds of the listed types
 unfoldable pub kinds : Fields → List ℕ
@@ -31,6 +30,6 @@ listing s w =
     (record { number = refusal s; types = 0; output = w })
 
 -- what is seen where the code reports an answer and leaves an output
-abbrev pub seen_in : Listing → List ℕ → Seen
-seen_in (Refused r) w = record { number = number_of r; types = 0; output = w }
-seen_in (Types k) w = record { number = 0; types = k; output = w }
+abbrev pub seen_in : Result ℕ Refusal → List ℕ → Seen
+seen_in (Err r) w = record { number = number_of r; types = 0; output = w }
+seen_in (Ok k) w = record { number = 0; types = k; output = w }

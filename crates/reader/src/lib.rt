@@ -30,8 +30,10 @@ impl<'a> Reader<'a> {
     pub fn new(sheet: &'a [u8]) -> Reader<'a>
         ensures { (result.sheet ≡ sheet.entry) × (result.at ≡ listed_at sheet.now) }
     {
-        let at = first_listed(sheet);
-        Reader { sheet, at }
+        Reader {
+            sheet,
+            at: first_listed(sheet),
+        }
     }
 
     // The kind of the type, 0 where the chain has ended.
@@ -45,10 +47,9 @@ impl<'a> Reader<'a> {
     pub fn first_part(self) -> Reader<'a>
         ensures { (result.sheet ≡ self.entry.sheet) × (result.at ≡ first_at self.entry.sheet.now self.entry.at) }
     {
-        let at = first_at(self.sheet, self.at);
         Reader {
-            sheet: self.sheet,
-            at,
+            at: first_at(self.sheet, self.at),
+            ..self
         }
     }
 
@@ -56,10 +57,9 @@ impl<'a> Reader<'a> {
     pub fn next(self) -> Reader<'a>
         ensures { (result.sheet ≡ self.entry.sheet) × (result.at ≡ next_at self.entry.sheet.now self.entry.at) }
     {
-        let at = next_at(self.sheet, self.at);
         Reader {
-            sheet: self.sheet,
-            at,
+            at: next_at(self.sheet, self.at),
+            ..self
         }
     }
 
@@ -76,12 +76,9 @@ pub fn look(sheet: &[u8], at: usize) -> Entry
     ensures { result ≡ entry_at sheet.now at }
 {
     let r = Reader { sheet, at };
-    let kind = r.kind();
-    let first = r.first_part();
-    let next = r.next();
     Entry {
-        kind,
-        first: first.at,
-        next: next.at,
+        kind: r.kind(),
+        first: r.first_part().at,
+        next: r.next().at,
     }
 }

@@ -8,26 +8,14 @@ ghost use Rattle.reader.specs.Listed.{kinds, over, seen_in, listing};
 use crate::look;
 use crate::record::first_listed;
 use refusals::check;
-use sheet::{Checked, Refusal};
+use sheet::Refusal;
 
-// What a listing reports: why the sheet is refused, or how many types it lists.
-#[derive(Clone, Copy)]
-pub enum Listing {
-    Refused(Refusal),
-    Types(usize),
-}
-
-// Lists a sheet's types: the kind of each goes to the front of the output, as far as that has room.
-pub fn listed_kinds(sheet: &[u8], output: &mut [u8]) -> Listing
+// Lists a sheet's types, and tells how many they are: the kind of each goes to the front of the output, as far as that has room.
+pub fn listed_kinds(sheet: &[u8], output: &mut [u8]) -> Result<usize, Refusal>
     ensures { seen_in result output.new ≡ listing sheet.now output.old }
 {
-    match check(sheet) {
-        Checked::Refused(r) => Listing::Refused(r),
-        Checked::Accepted(_, _) => {
-            let types = list_kinds(sheet, output);
-            Listing::Types(types)
-        }
-    }
+    check(sheet)?;
+    Ok(list_kinds(sheet, output))
 }
 
 // The kinds of an accepted sheet's types, and how many they are.

@@ -8,17 +8,11 @@ use sheet::Head;
 use sheet::label::label_at;
 use sheet::record::head_at;
 
-fn wide(x: u8) -> usize
-    ensures { (result ≡ x) × (result < 256) }
-{
-    x as usize
-}
-
 // A byte, 0 past the end.
 fn byte_at(s: &[u8], i: usize) -> usize
     ensures { (result ≡ get_or s.now i 0) × (result < 256) }
 {
-    if i < s.len() { wide(s[i]) } else { 0 }
+    s.get(i).map_or(0, |&b| usize::from(b))
 }
 
 // The header's number of records.
@@ -29,24 +23,14 @@ fn records_of(s: &[u8]) -> usize
 }
 
 // The head of the type at a record.
+#[tactic(auto, unfolding(crate::specs::Record::type_at))]
 fn type_at(s: &[u8], at: usize) -> Head
     ensures { (result ≡ type_at s.now at) × Bounded result }
 {
     if at != 0 {
         head_at(s, at)
     } else {
-        Head {
-            kind: 0,
-            flags: 0,
-            figure: 0,
-            scale: 0,
-            quad: 0,
-            first: 0,
-            next: 0,
-            name: 0,
-            nlen: 0,
-            last: 0,
-        }
+        Head::default()
     }
 }
 
@@ -54,28 +38,25 @@ fn type_at(s: &[u8], at: usize) -> Head
 pub fn first_listed(s: &[u8]) -> usize
     ensures { result ≡ listed_at s.now }
 {
-    if 1 < records_of(s) { 1 } else { 0 }
+    usize::from(1 < records_of(s))
 }
 
 pub fn kind_at(s: &[u8], at: usize) -> u8
     ensures { result ≡ kind_at s.now at }
 {
-    let h = type_at(s, at);
-    h.kind
+    type_at(s, at).kind
 }
 
 pub fn first_at(s: &[u8], at: usize) -> usize
     ensures { result ≡ first_at s.now at }
 {
-    let h = type_at(s, at);
-    h.first
+    type_at(s, at).first
 }
 
 pub fn next_at(s: &[u8], at: usize) -> usize
     ensures { result ≡ next_at s.now at }
 {
-    let h = type_at(s, at);
-    h.next
+    type_at(s, at).next
 }
 
 // The name of the record, as a part of the sheet.
@@ -83,6 +64,5 @@ pub fn name_at(s: &[u8], at: usize) -> &[u8]
     ensures { result.now ≡ name_at s.now at }
 {
     let h = type_at(s, at);
-    let n = records_of(s);
-    label_at(s, n, h.name, h.nlen)
+    label_at(s, records_of(s), h.name, h.nlen)
 }

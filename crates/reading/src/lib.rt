@@ -11,10 +11,7 @@ fn read_some<R: Read>(reader: &mut R, place: &mut [u8]) -> usize
     ensures count { result ≤ length place.new }
     ensures bytes { Consumes (R.remaining reader.old) (R.remaining reader.new) (take result place.new) }
 {
-    match reader.read(place) {
-        Ok(n) => n,
-        Err(_) => 0,
-    }
+    reader.read(place).unwrap_or(0)
 }
 
 // Fills a buffer from the front until it is full, the reader ends or a read fails, and tells how many bytes it put there.

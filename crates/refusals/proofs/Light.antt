@@ -4,13 +4,13 @@ use mathlib.Core.Bool.{Bool, true, false, not, cond, ◌&&◌, ◌||◌}
 use mathlib.Core.Logic.{◌⊎◌, inl, inr, ⊎_elim}
 use Prim.Native.Nat.{ℕ, ◌+◌, ◌*◌, ◌/◌, ◌%◌, ◌<◌, ◌≤◌}
 use native.Mathlib.Omega.{arith}
-use lib.Dec.{eqb, ltb, leb}
-use borrow.Author.Tests.{eq-eqb, ne_eqb, eqb-true, lt-ltb, ltb-true, lt-leb, le-leb, leb-true}
+use lib.Dec.{eqb, ltb}
+use borrow.Author.Tests.{eq-eqb, ne_eqb, eqb-true, lt-ltb, ltb-true, lt-leb, le-leb}
+use Rattle.std.proofs.lemmas.Bool.Decides.{nat_tests}
 use Rattle.sheet.specs.Tests.{implies, between}
 use Rattle.sheet.specs.Kind.{is_decimal, cap, parts_right, names_parts}
 use Rattle.sheet.specs.Head.{by_quads, nullable_in, zoned_in, zone_len}
 use Rattle.sheet.specs.Refusals.{decimal_right, figure_right, figures_right, record_right, placed, label_right}
-use Rattle.sheet.specs.declared.Head.{Head}
 use Rattle.refusals.specs.Packed.{light, usual_decimal, plain, Passes}
 use Rattle.sheet.proofs.Tests.{never, and_fst, and_snd, all_not, all_nil, all_cons}
 use Rattle.sheet.proofs.Figures.{figure_none, size_none, record_plain, labels_named, parts_none}
@@ -30,25 +30,27 @@ unfolding figure_right decimal_right
 decimal_none k f c d e = rw (d, e) (all_not _ 0 refl)
 
 module _ (a b : ℕ) where
-  pub light_decimal : a < 512 → is_decimal (a % 256) ≡ true → false ≡ light (by_quads a b 0 0)
+  light_decimal : a < 512 → is_decimal (a % 256) ≡ true → false ≡ light (by_quads a b 0 0)
   unfolding light
   light_decimal h d = sym (and_last (eqb b 0) (ltb (a / 256 % 256) 2) (decimal_none (a % 256) (a / 65536 % 256) (a / 16777216) d (omega arith)))
 
-  pub light_few : b ≡ 0 → a < 512 → is_decimal (a % 256) ≡ false → true ≡ light (by_quads a b 0 0)
+  light_few : b ≡ 0 → a < 512 → is_decimal (a % 256) ≡ false → true ≡ light (by_quads a b 0 0)
   unfolding light
   light_few z h d =
       let f : a / 65536 % 256 ≡ 0 = omega arith in
       rw (eq-eqb b 0 z, lt-ltb (a / 256 % 256) 2 (omega arith))
       (sym (ap (λ (x : ℕ). figure_right (a % 256) x (a / 16777216)) f ∙ figure_none (a % 256) (a / 16777216) d (omega arith)))
 
+  pub light_first : b ≡ 0 → a < 512 → not (is_decimal (a % 256)) ≡ light (by_quads a b 0 0)
+  light_first z h = go (is_decimal (a % 256)) refl
+    where
+      go : (d : Bool) → is_decimal (a % 256) ≡ d → not (is_decimal (a % 256)) ≡ light (by_quads a b 0 0)
+      go true e = ap not e ∙ light_decimal h e
+      go false e = ap not e ∙ light_few z h e
+
   pub light_quad : light (by_quads a b 0 0) ≡ true → b ≡ 0
   unfolding light
   light_quad l = eqb-true b 0 (and_fst (eqb b 0) _ l)
-
--- 511 says nothing
-pub passes_open : (h : Head) (up o : ℕ) → Passes h up o 511
-passes_open h up o =
-    record { few = omega arith; figures = λ q. absurd (omega arith); placed = λ q. absurd (omega arith); all = λ q. absurd (omega arith) }
 
 module _ (a d up o : ℕ) (l : light (by_quads a 0 0 0) ≡ true) where
   few_flags : a / 256 % 256 < 2
@@ -74,9 +76,9 @@ module _ (a d up o : ℕ) (l : light (by_quads a 0 0 0) ≡ true) where
       let e : d / 65536 ≡ d / 65536 % 256 = omega arith in
       record {
         few = omega arith;
-        figures = λ q. record_plain (by_quads a 0 0 d) up (omega arith) few_flags u ∙ right_figures;
-        placed = λ q. labels_named (by_quads a 0 0 d) up o p n no_zone;
-        all = λ q. omega (arith, z, e);
+        figures = record_plain (by_quads a 0 0 d) up (omega arith) few_flags u ∙ right_figures;
+        placed = labels_named (by_quads a 0 0 d) up o p n no_zone;
+        all = omega (arith, z, e);
       }
 
   pub light_nameless : d ≡ 0 → implies (nullable_in (by_quads a 0 0 d)) (names_parts up) ≡ true → Passes (by_quads a 0 0 d) up o 0
@@ -111,16 +113,16 @@ passes_linked a b c d up o r z p =
 -- a usual decimal
 module _ (k p s : ℕ) (u : usual_decimal k p s ≡ true) where
   usual_kind : k ≡ 16
-  usual_kind = eqb-true k 16 (and_fst (eqb k 16) _ u)
+  usual_kind = grind (arith, nat_tests)
 
   usual_scale : s ≤ p
-  usual_scale = leb-true s p (and_fst (leb s p) _ (and_snd (eqb k 16) _ u))
+  usual_scale = grind (arith, nat_tests)
 
   usual_some : 0 < p
-  usual_some = ltb-true 0 p (and_fst (ltb 0 p) _ (and_snd (leb s p) _ (and_snd (eqb k 16) _ u)))
+  usual_some = grind (arith, nat_tests)
 
   usual_few : p ≤ 38
-  usual_few = leb-true p 38 (and_snd (ltb 0 p) _ (and_snd (leb s p) _ (and_snd (eqb k 16) _ u)))
+  usual_few = grind (arith, nat_tests)
 
   usual_right : figure_right 16 p s ≡ true
   unfolding figure_right decimal_right is_decimal between cap

@@ -1,16 +1,15 @@
 -- The loops over a sheet's header and records, and the returns of `limits`. Assumes nothing.
 use mathlib.Core.Path.{◌≡◌, refl, ap, sym, subst, ◌∙◌}
 use mathlib.Core.Bool.{Bool, true, false, not, ◌||◌, ◌&&◌}
-use mathlib.Core.List.{List, [], ◌∷◌}
+use mathlib.Core.List.{List}
 use Prim.Native.Nat.{ℕ, zero, suc, ◌+◌, ◌*◌, ◌-◌, ◌<◌, ◌≤◌}
 use native.Mathlib.Omega.{arith}
 use native.Mathlib.Numerals.{add-one}
 use lib.ListN.{length, get_or, take, drop}
 use lib.Seq.{drop-cons}
 use lib.Dec.{eqb}
-use native.Mathlib.Decide.{ℕ_discrete}
-use borrow.Author.Tests.{eq-eqb, ne_eqb, eqb-true, lt-ltb, le-ltb, ltb-false, not-false}
-use Rattle.sheet.specs.Tests.{all_of}
+use borrow.Author.Tests.{eq-eqb, eqb-true, lt-ltb, le-ltb, ltb-false, not-false}
+use Rattle.std.proofs.lemmas.Bool.Decides.{nat_tests}
 use Rattle.sheet.specs.Kind.{is_kind}
 use Rattle.sheet.specs.Head.{quad_at, head_at}
 use Rattle.sheet.specs.Read.{records_of, labels_of}
@@ -18,7 +17,7 @@ use Rattle.sheet.specs.Refusals.{all_zero, any_from, torn}
 use Rattle.refusals.specs.Limits.{Fits}
 use Rattle.sheet.specs.declared.Head.{Head}
 use Rattle.sheet.proofs.Heads.{head_inside}
-use Rattle.sheet.proofs.Tests.{all_at, one_at, one_is_lem, one_cons, one_nil, not_of}
+use Rattle.sheet.proofs.Tests.{one_at, one_is_lem, one_cons, one_nil, not_of}
 
 -- the sum of k bytes from i on
 abbrev total : List ℕ → ℕ → ℕ → ℕ
@@ -26,18 +25,10 @@ total s i zero = 0
 total s i (suc k) = get_or s i 0 + total s (i + 1) k
 
 zero_both : (a b : ℕ) → (a ≡ 0 → b ≡ 0) → (b ≡ 0 → a ≡ 0) → eqb a 0 ≡ eqb b 0
-zero_both a b f g = go (ℕ_discrete a 0)
-  where
-    go : Dec (a ≡ 0) → eqb a 0 ≡ eqb b 0
-    go (yes e) = eq-eqb a 0 e ∙ sym (eq-eqb b 0 (f e))
-    go (no ne) = ne_eqb a 0 ne ∙ sym (ne_eqb b 0 (λ e. ne (g e)))
+zero_both a b f g = grind (arith, nat_tests)
 
 zero_sum : (a b : ℕ) → (eqb a 0 && eqb b 0) ≡ eqb (a + b) 0
-zero_sum a b = go (ℕ_discrete a 0)
-  where
-    go : Dec (a ≡ 0) → (eqb a 0 && eqb b 0) ≡ eqb (a + b) 0
-    go (yes e) = ap (λ (c : Bool). c && eqb b 0) (eq-eqb a 0 e) ∙ zero_both b (a + b) (λ z. omega arith) (λ z. omega arith)
-    go (no ne) = ap (λ (c : Bool). c && eqb b 0) (ne_eqb a 0 ne) ∙ sym (ne_eqb (a + b) 0 (λ z. ne (omega arith)))
+zero_sum a b = grind (arith, nat_tests)
 
 -- bytes are zero where their sum is
 zero_total : (s : List ℕ) (k i : ℕ) → i + k ≤ length s → all_zero (take k (drop i s)) ≡ eqb (total s i k) 0
@@ -76,9 +67,6 @@ any_next test n r w h e v = ap (λ (b : Bool). b || any_from test (r + 1) (n - (
 pub any_here : (test : ℕ → Bool) (n r : ℕ) (w : Bool) → r < n → test r ≡ true → any_from test r (n - r) ≡ w → true ≡ w
 any_here test n r w h e v = ap (λ (b : Bool). b || any_from test (r + 1) (n - (r + 1))) (sym e) ∙ sym (any_step test n r h) ∙ v
 
-pub any_done : (test : ℕ → Bool) (n r : ℕ) (w : Bool) → n ≤ r → any_from test r (n - r) ≡ w → false ≡ w
-any_done test n r w h v = let e : n - r ≡ 0 = omega arith in sym (ap (any_from test r) e) ∙ v
-
 -- four records of right kinds
 module _ (s : List ℕ) (n r : ℕ) (long : 16 * n ≤ length s) (lt : r + 3 < n) where
   odd : ℕ → Bool
@@ -89,63 +77,22 @@ module _ (s : List ℕ) (n r : ℕ) (long : 16 * n ≤ length s) (lt : r + 3 < n
   right_at q i h e k =
       ap (λ (x : Head). not (is_kind x.kind)) (head_inside s q (omega arith)) ∙ ap (λ (j : ℕ). not (is_kind (get_or s j 0))) (sym e) ∙ not_of k
 
-  pub any_four : (w : Bool) {b : Bool}
-      → b ≡ all_of (is_kind (get_or s (16 * r) 0) ∷ is_kind (get_or s (16 * r + 16) 0) ∷ is_kind (get_or s (16 * r + 32) 0) ∷ is_kind (get_or s (16 * r + 48) 0) ∷ []) → b ≡ true
+  pub any_four : (w : Bool)
+      → (is_kind (get_or s (16 * r) 0) ≡ true) × ((is_kind (get_or s (16 * r + 16) 0) ≡ true) × ((is_kind (get_or s (16 * r + 32) 0) ≡ true) × (is_kind (get_or s (16 * r + 48) 0) ≡ true)))
       → any_from (λ q. not (is_kind (head_at s q).kind)) r (n - r) ≡ w → any_from (λ q. not (is_kind (head_at s q).kind)) (r + 4) (n - (r + 4)) ≡ w
   unfolding odd
-  any_four w e t v =
-      let k = sym e ∙ t in
+  any_four w k v =
       let four : r + 1 + 1 + 1 + 1 ≡ r + 4 = omega arith in
       subst (λ (q : ℕ). any_from odd q (n - q) ≡ w) four
-      (any_next odd n (r + 1 + 1 + 1) w (omega arith) (right_at (r + 1 + 1 + 1) (16 * r + 48) (omega arith) (omega arith) (all_at _ 3 k))
-      (any_next odd n (r + 1 + 1) w (omega arith) (right_at (r + 1 + 1) (16 * r + 32) (omega arith) (omega arith) (all_at _ 2 k))
-      (any_next odd n (r + 1) w (omega arith) (right_at (r + 1) (16 * r + 16) (omega arith) (omega arith) (all_at _ 1 k))
-      (any_next odd n r w (omega arith) (right_at r (16 * r) (omega arith) refl (all_at _ 0 k)) v))))
+      (any_next odd n (r + 1 + 1 + 1) w (omega arith) (right_at (r + 1 + 1 + 1) (16 * r + 48) (omega arith) (omega arith) k.1.1.1)
+      (any_next odd n (r + 1 + 1) w (omega arith) (right_at (r + 1 + 1) (16 * r + 32) (omega arith) (omega arith) k.1.1.0)
+      (any_next odd n (r + 1) w (omega arith) (right_at (r + 1) (16 * r + 16) (omega arith) (omega arith) k.1.0)
+      (any_next odd n r w (omega arith) (right_at r (16 * r) (omega arith) refl k.0) v))))
 
 module _ (s : List ℕ) where
   pub torn_short : length s < 16 → torn s ≡ true
   unfolding torn
   torn_short h = one_is_lem _ 0 (lt-ltb (length s) 16 h)
-
-  module _ (n m : ℕ) (en : n ≡ records_of s) (em : m ≡ labels_of s) where
-    pub torn_none : n < 1 → torn s ≡ true
-    unfolding torn
-    torn_none h = one_is_lem _ 1 (lt-ltb (records_of s) 1 (omega arith))
-
-    pub torn_many : 1024 < n → torn s ≡ true
-    unfolding torn
-    torn_many h = one_is_lem _ 2 (lt-ltb 1024 (records_of s) (omega arith))
-
-    pub torn_labels : 16384 < m → torn s ≡ true
-    unfolding torn
-    torn_labels h = one_is_lem _ 3 (lt-ltb 16384 (labels_of s) (omega arith))
-
-    pub torn_length : ¬ (length s ≡ 16 * n + m) → torn s ≡ true
-    unfolding torn
-    torn_length h = one_is_lem _ 4 (ap not (ne_eqb (length s) (16 * records_of s + labels_of s) (λ e. h (omega arith))))
-
-    pub torn_rest : {b : Bool} → b ≡ all_zero (take 12 (drop 4 s)) → b ≡ false → torn s ≡ true
-    unfolding torn
-    torn_rest e h = one_is_lem _ 5 (ap not (sym e ∙ h))
-
-    pub not_torn : {b : Bool} → 16 ≤ length s → 1 ≤ n → n ≤ 1024 → m ≤ 16384 → length s ≡ 16 * n + m → b ≡ all_zero (take 12 (drop 4 s)) → b ≡ true → Fits s n m
-    unfolding torn
-    not_torn least some few short long e z =
-        record {
-          whole =
-              one_cons _ (le-ltb (length s) 16 least)
-              (one_cons _ (le-ltb (records_of s) 1 (omega arith))
-              (one_cons _ (le-ltb 1024 (records_of s) (omega arith))
-              (one_cons _ (le-ltb 16384 (labels_of s) (omega arith))
-              (one_cons _ (not_of (eq-eqb (length s) (16 * records_of s + labels_of s) (omega arith)))
-              (one_cons _ (not_of (sym e ∙ z)) one_nil)))));
-          records = en;
-          labels = em;
-          some = some;
-          few = few;
-          short = short;
-          long = long;
-        }
 
 -- a sheet that is not torn
 module _ (s : List ℕ) (h : torn s ≡ false) where
@@ -161,3 +108,27 @@ module _ (s : List ℕ) (h : torn s ≡ false) where
       let short = ltb-false 16384 (labels_of s) (one_at _ 3 h) in
       let long = eqb-true (length s) (16 * records_of s + labels_of s) (not-false _ (one_at _ 4 h)) in
       record { whole = h; records = en; labels = em; some = omega arith; few = omega arith; short = omega arith; long = omega arith }
+
+-- n and m of a header, and the rest of it
+module _ (s : List ℕ) (n m : ℕ) (en : n ≡ records_of s) (em : m ≡ labels_of s) where
+  pub torn_outside : (length s ≡ 16 * n + m → 1 ≤ n → n ≤ 1024 → m ≤ 16384 → ⊥) → torn s ≡ true
+  torn_outside f = go (torn s) refl
+    where
+      go : (b : Bool) → torn s ≡ b → torn s ≡ true
+      go true e = e
+      go false e = let w = whole_fits s e n m en em in absurd (f w.long w.some w.few w.short)
+
+  pub torn_rest : {b : Bool} → 16 ≤ length s → 1 ≤ n → n ≤ 1024 → m ≤ 16384 → length s ≡ 16 * n + m → b ≡ all_zero (take 12 (drop 4 s)) → not b ≡ torn s
+  unfolding torn
+  torn_rest {b} least some few short long e = go b e
+    where
+      go : (z : Bool) → z ≡ all_zero (take 12 (drop 4 s)) → not z ≡ torn s
+      go true z =
+          sym
+          (one_cons _ (le-ltb (length s) 16 least)
+          (one_cons _ (le-ltb (records_of s) 1 (omega arith))
+          (one_cons _ (le-ltb 1024 (records_of s) (omega arith))
+          (one_cons _ (le-ltb 16384 (labels_of s) (omega arith))
+          (one_cons _ (not_of (eq-eqb (length s) (16 * records_of s + labels_of s) (omega arith)))
+          (one_cons _ (not_of (sym z)) one_nil))))))
+      go false z = sym (one_is_lem _ 5 (ap not (sym z)))

@@ -45,15 +45,14 @@ module _ (h : Head) (up : ℕ) (s : Stamped h) where
       let l : zone_len h ≡ r = omega (arith, s.zone) in
       record {
         few = omega (arith, s.zone);
-        figures = λ q. stamp_right;
+        figures = stamp_right;
         placed =
-            λ q.
             labels_named h up o
             (eq-eqb h.name (cond (eqb h.nlen 0) 0 o) (s.nameless ∙ sym (ap (λ (b : Bool). cond b 0 o) unnamed)))
             (ap (λ (b : Bool). implies (not b) (names_parts up)) unnamed)
             zoned
             ∙ eq-eqb (zone_at h) (cond (eqb (zone_len h) 0) 0 (o + h.nlen)) (p ∙ (λ i. cond (eqb (sym l i) 0) 0 (moved i)));
-        all = λ q. sym l ∙ size;
+        all = sym l ∙ size;
       }
     where
       moved : o ≡ o + h.nlen

@@ -2,9 +2,11 @@
 use mathlib.Core.Path.{◌≡◌, refl, ap, ap₂, sym, subst, ◌∙◌}
 use mathlib.Core.Bool.{Bool, true, false, cond, not, ◌||◌, ◌&&◌, or_assoc, or-false}
 use mathlib.Core.List.{List, [], ◌∷◌}
+use Rattle.std.specs.Prelude.{Option, Some, None, Result, Ok, Err, IsErrAnd, ok_or}
 use Prim.Native.Nat.{ℕ, ◌+◌, ◌-◌, ◌≤◌}
 use native.Mathlib.Omega.{arith}
-use lib.Dec.{eqb}
+use lib.Dec.{eqb, ltb}
+use mir.Val.{bool_byte as from_bool}
 use borrow.Author.Tests.{eq-eqb, ne_eqb, eqb-true}
 use Rattle.sheet.specs.Kind as Kind
 use Rattle.sheet.specs.Kind.{is_kind}
@@ -12,18 +14,26 @@ use Rattle.sheet.specs.Types.{Fields, end, field, count}
 use Rattle.sheet.specs.Head.{head_at, labelled}
 use Rattle.sheet.specs.Read.{records_of, labels_of, start, read, walk_from}
 use Rattle.sheet.specs.Names.{has_name, repeats, names_differ}
-use Rattle.sheet.specs.Refusals.{Met, walk, torn, any_from, bad_kind, linked, bad_chain, record_right, any_wrong, bad_figure, label_right, misplaced, bad_label, refusal, Verdict, verdict, number_of}
+use Rattle.sheet.specs.Refusals.{Met, walk, torn, any_from, bad_kind, linked, bad_chain, record_right, any_wrong, bad_figure, label_right, misplaced, bad_label, refusal, Verdict, verdict, number_of, meaning}
 use Rattle.sheet.specs.Holds.{Plain, Holds}
 use Rattle.refusals.specs.Walk.{pass_head, pass_all, Says, Walks}
 use Rattle.refusals.specs.Limits.{Fits}
 use Rattle.refusals.specs.Found.{outset, Found}
 use Rattle.refusals.specs.declared.Progress.{Progress}
 use Rattle.sheet.specs.declared.Refusal.{Refusal}
-use Rattle.refusals.specs.declared.Walked.{Walked}
-use Rattle.refusals.specs.declared.Walked.TheVariants.{Came, Lost}
+use Rattle.sheet.specs.declared.Refusal.TheVariants.{Chain}
+use Rattle.sheet.specs.declared.Sizes.{Sizes}
 use Rattle.sheet.proofs.Tests.{all_not, all_cons, all_nil, one_is_lem, one_cons, one_nil, not_of}
 use Rattle.refusals.proofs.Walking.{pass_due, met_length}
 use Rattle.sheet.proofs.Accepted.{sound_holds}
+
+-- the link to the first listed type
+pub started : (n : ℕ) {l : ℕ} → l ≡ from_bool (ltb 1 n) → l ≡ start n
+started n e = e ∙ bit (ltb 1 n)
+  where
+    bit : (b : Bool) → from_bool b ≡ cond b 1 0
+    bit true = refl
+    bit false = refl
 
 -- what the scan over the kinds says
 pub odd_kinds : (s : List ℕ) (n : ℕ) {b w : Bool} → n ≡ records_of s → b ≡ any_from (λ r. not (is_kind (head_at s r).kind)) 1 (n - 1) → b ≡ w → bad_kind s ≡ w
@@ -93,19 +103,28 @@ few_differ (field name nullable shape parts rest) h =
 
 -- the walk over the whole sheet
 module _ (s : List ℕ) (n m : ℕ) (fits : Fits s n m) (kinds : bad_kind s ≡ false) (link : ℕ) (root : link ≡ start n) where
-  whole_walk : {o : Walked} → Walks s n 0 link outset 0 o → Says s 0 link outset 0 (read s) o
+  whole_walk : {o : Option (Progress × ℕ)} → Walks s n 0 link outset 0 o → Says s 0 link outset 0 (read s) o
   unfolding read
   whole_walk {o} w =
       subst (λ (t : Fields). Says s 0 link outset 0 t o)
       (ap₂ (λ (a b : ℕ). walk_from a s a b 1) fits.records (root ∙ ap start fits.records)) (w.says n (omega arith))
 
-  pub chain_lost : Walks s n 0 link outset 0 Lost → record { number = 3; n = 0; m = 0 } ≡ verdict s
+  chain_lost : Walks s n 0 link outset 0 None → record { number = 3; n = 0; m = 0 } ≡ verdict s
   unfolding bad_chain
   chain_lost w =
       says_chain s fits.whole kinds
       (ap not (all_not _ 0 (ap (λ (l : ℕ). linked s l 1 (read s)) (sym (root ∙ ap start fits.records)) ∙ whole_walk w)))
 
-  pub chain_found : (p : Progress) (k : ℕ) → Walks s n 0 link outset 0 (Came p k) → Found s n m link p
+  -- what is answered where the walk came to nothing
+  pub lost_answer : (o : Option (Progress × ℕ)) (x : Refusal) (r : Result Sizes Refusal) → Walks s n 0 link outset 0 o → Err x ≡ ok_or o Chain → IsErrAnd r (λ y. y ≡ x)
+      → meaning r ≡ verdict s
+  lost_answer (Some z) x r w e f = absurd cc
+  lost_answer None x (Ok z) w e f = absurd f
+  lost_answer None x (Err y) w e f =
+      let k : x ≡ Chain = cc in
+      ap (λ (z : Refusal). record { number = number_of z; n = 0; m = 0 }) (f ∙ k) ∙ chain_lost w
+
+  pub chain_found : (p : Progress) (k : ℕ) → Walks s n 0 link outset 0 (Some (p, k)) → Found s n m link p
   chain_found p k w = let a = whole_walk w in record { fits = fits; kinds = kinds; root = root; chain = a.0; passed = a.1.0 }
 
 module _ (s : List ℕ) (n m link : ℕ) (p : Progress) (found : Found s n m link p) where

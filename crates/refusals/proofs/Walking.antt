@@ -1,12 +1,14 @@
 -- The returns of `walk`, each from what its calls ensure. Assumes nothing.
 use mathlib.Core.Path.{◌≡◌, refl, ap, ap₂, sym, subst, ◌∙◌}
-use mathlib.Core.Bool.{Bool, true, false, ◌&&◌}
+use mathlib.Core.Bool.{true, false, ◌&&◌}
 use mathlib.Core.List.{List, [], ◌∷◌, ◌++◌}
+use Rattle.std.specs.Prelude.{Option, Some, None}
 use Prim.Native.Nat.{ℕ, zero, suc, ◌+◌, ◌<◌, ◌≤◌}
 use native.Mathlib.Omega.{arith}
 use lib.ListN.{length, length-append}
 use lib.Dec.{eqb, ltb}
 use borrow.Author.Tests.{eq-eqb, ne_eqb, le-ltb}
+use Rattle.std.proofs.lemmas.Bool.{and_right}
 use Rattle.sheet.specs.Kind.{parts_right}
 use Rattle.sheet.specs.Types.{Fields, end, field, arity, count}
 use Rattle.sheet.specs.Head.{head_at}
@@ -15,8 +17,6 @@ use Rattle.sheet.specs.Refusals.{Met, met, linked}
 use Rattle.refusals.specs.Walk.{pass_head, pass_all, Ready, Says, Walks}
 use Rattle.sheet.specs.declared.Head.{Head}
 use Rattle.refusals.specs.declared.Progress.{Progress}
-use Rattle.refusals.specs.declared.Walked.{Walked}
-use Rattle.refusals.specs.declared.Walked.TheVariants.{Came, Lost}
 use Rattle.sheet.proofs.Tests.{all_not, all_cons, all_nil}
 use Rattle.sheet.proofs.Reading.{walk_step, walk_end}
 
@@ -41,12 +41,8 @@ unfolding walk_from
 walk_nowhere zero s n link r h = refl
 walk_nowhere (suc f) s n link r h = rw h
 
-and_not : (a b : Bool) → b ≡ false → a && b ≡ false
-and_not true b h = h
-and_not false b h = refl
-
 module _ (s : List ℕ) (n up link : ℕ) (p : Progress) (k : ℕ) where
-  pub walk_none : Ready n p k → link ≡ 0 → Walks s n up link p k (Came p k)
+  pub walk_none : Ready n p k → link ≡ 0 → Walks s n up link p k (Some (p, k))
   unfolding linked met arity
   walk_none ready e =
       record {
@@ -57,15 +53,15 @@ module _ (s : List ℕ) (n up link : ℕ) (p : Progress) (k : ℕ) where
             (rw (walk_end f s n p.due ready.some) (refl, (refl, omega arith)));
       }
 
-  stop : (¬ (link ≡ 0)) → (eqb link p.due && ltb p.due n) ≡ false → Walks s n up link p k Lost
+  stop : (¬ (link ≡ 0)) → (eqb link p.due && ltb p.due n) ≡ false → Walks s n up link p k None
   unfolding linked
   stop z h = record { grows = tt; says = λ f q. rw (walk_nowhere f s n link p.due h) (ne_eqb link 0 z) }
 
-  pub walk_lost : (¬ (link ≡ 0)) → (¬ (link ≡ p.due)) → Walks s n up link p k Lost
+  pub walk_lost : (¬ (link ≡ 0)) → (¬ (link ≡ p.due)) → Walks s n up link p k None
   walk_lost z d = stop z (rw (ne_eqb link p.due d))
 
-  pub walk_past : (¬ (link ≡ 0)) → n ≤ p.due → Walks s n up link p k Lost
-  walk_past z d = stop z (and_not (eqb link p.due) (ltb p.due n) (le-ltb p.due n d))
+  pub walk_past : (¬ (link ≡ 0)) → n ≤ p.due → Walks s n up link p k None
+  walk_past z d = stop z (and_right (eqb link p.due) (ltb p.due n) (le-ltb p.due n d))
 
   module _ (e : link ≡ p.due) (lt : p.due < n) (h : Head) (eh : h ≡ head_at s p.due) (q : Progress) (eq : q ≡ pass_head h up p) where
     parts_of_lem : ℕ → Fields
@@ -93,7 +89,7 @@ module _ (s : List ℕ) (n up link : ℕ) (p : Progress) (k : ℕ) where
         }
 
     -- what the walk of the parts says, at one step less
-    inside : {o : Walked} → Walks s n h.kind h.first q 0 o → (f : ℕ) → n ≤ p.due + suc f → Says s h.kind h.first q 0 (parts_of_lem f) o
+    inside : {o : Option (Progress × ℕ)} → Walks s n h.kind h.first q 0 o → (f : ℕ) → n ≤ p.due + suc f → Says s h.kind h.first q 0 (parts_of_lem f) o
     unfolding parts_of_lem
     inside {o} w f g =
         subst (λ (j : ℕ). Says s h.kind h.first q 0 (walk_from f s n h.first j) o) due_is (w.says f (omega (arith, due_is)))
@@ -102,7 +98,7 @@ module _ (s : List ℕ) (n up link : ℕ) (p : Progress) (k : ℕ) where
     steps Q a zero g = absurd (omega arith)
     steps Q a (suc f) g = rw (walked f) (a f g)
 
-    pub walk_parts_lost : Walks s n h.kind h.first q 0 Lost → Walks s n up link p k Lost
+    pub walk_parts_lost : Walks s n h.kind h.first q 0 None → Walks s n up link p k None
     unfolding linked
     walk_parts_lost w =
         record {
@@ -112,7 +108,7 @@ module _ (s : List ℕ) (n up link : ℕ) (p : Progress) (k : ℕ) where
               (λ f g. all_not _ 2 (rw (← eh) (subst (λ (j : ℕ). linked s h.first j (parts_of_lem f) ≡ false) due_is (inside w f g))));
         }
 
-    module _ (inner : Progress) (parts : ℕ) (w : Walks s n h.kind h.first q 0 (Came inner parts)) where
+    module _ (inner : Progress) (parts : ℕ) (w : Walks s n h.kind h.first q 0 (Some (inner, parts))) where
       arity_is : (f : ℕ) → n ≤ p.due + suc f → parts ≡ arity (parts_of_lem f)
       arity_is f g = omega (arith, (inside w f g).1.1)
 
@@ -127,7 +123,7 @@ module _ (s : List ℕ) (n up link : ℕ) (p : Progress) (k : ℕ) where
       parts_linked : (f : ℕ) → n ≤ p.due + suc f → linked s (head_at s p.due).first (p.due + 1) (parts_of_lem f) ≡ true
       parts_linked f g = rw (← eh) (subst (λ (j : ℕ). linked s h.first j (parts_of_lem f) ≡ true) due_is (inside w f g).0)
 
-      pub walk_parts_wrong : parts_right h.kind parts ≡ false → Walks s n up link p k Lost
+      pub walk_parts_wrong : parts_right h.kind parts ≡ false → Walks s n up link p k None
       unfolding linked
       walk_parts_wrong b =
           record {
@@ -136,12 +132,12 @@ module _ (s : List ℕ) (n up link : ℕ) (p : Progress) (k : ℕ) where
           }
 
       -- what the walk of the rest says
-      outside : {o : Walked} → Walks s n up h.next inner (k + 1) o → (f : ℕ) → n ≤ p.due + suc f → Says s up h.next inner (k + 1) (rest_of f) o
+      outside : {o : Option (Progress × ℕ)} → Walks s n up h.next inner (k + 1) o → (f : ℕ) → n ≤ p.due + suc f → Says s up h.next inner (k + 1) (rest_of f) o
       unfolding rest_of parts_of_lem
       outside {o} v f g =
           subst (λ (j : ℕ). Says s up h.next inner (k + 1) (walk_from f s n h.next j) o) (inner_due f g) (v.says f (omega (arith, inner_due f g)))
 
-      pub walk_rest_lost : Walks s n up h.next inner (k + 1) Lost → Walks s n up link p k Lost
+      pub walk_rest_lost : Walks s n up h.next inner (k + 1) None → Walks s n up link p k None
       unfolding linked
       walk_rest_lost v =
           record {
@@ -151,7 +147,7 @@ module _ (s : List ℕ) (n up link : ℕ) (p : Progress) (k : ℕ) where
                 (λ f g. all_not _ 3 (rw (← eh) (subst (λ (j : ℕ). linked s h.next j (rest_of f) ≡ false) (inner_due f g) (outside v f g))));
           }
 
-      pub walk_rest : parts_right h.kind parts ≡ true → (last : Progress) (j : ℕ) → Walks s n up h.next inner (k + 1) (Came last j) → Walks s n up link p k (Came last j)
+      pub walk_rest : parts_right h.kind parts ≡ true → (last : Progress) (j : ℕ) → Walks s n up h.next inner (k + 1) (Some (last, j)) → Walks s n up link p k (Some (last, j))
       unfolding linked met arity
       walk_rest b last j v =
           record {
@@ -175,18 +171,18 @@ module _ (s : List ℕ) (n up link : ℕ) (p : Progress) (k : ℕ) where
                 ));
           }
 
-      pub walk_on : parts_right h.kind parts ≡ true → (o : Walked) → Walks s n up h.next inner (k + 1) o → Walks s n up link p k o
-      walk_on b (Came last j) v = walk_rest b last j v
-      walk_on b Lost v = walk_rest_lost v
+      pub walk_on : parts_right h.kind parts ≡ true → (o : Option (Progress × ℕ)) → Walks s n up h.next inner (k + 1) o → Walks s n up link p k o
+      walk_on b (Some (last, j)) v = walk_rest b last j v
+      walk_on b None v = walk_rest_lost v
 
 -- a record without parts
 module _ (s : List ℕ) (n up link : ℕ) (p : Progress) (k : ℕ) (e : link ≡ p.due) (lt : p.due < n) (h : Head) (eh : h ≡ head_at s p.due)
     (q : Progress) (eq : q ≡ pass_head h up p) (ready : Ready n p k) (few : q.at ≤ p.at + 510) (z : h.first ≡ 0) where
-  none : Walks s n h.kind h.first q 0 (Came q 0)
+  none : Walks s n h.kind h.first q 0 (Some (q, 0))
   none = walk_none s n h.kind h.first q 0 (ready_past s n up link p k e lt h eh q eq 0 (omega arith) ready few) z
 
-  pub walk_bare : parts_right h.kind 0 ≡ true → (o : Walked) → Walks s n up h.next q (k + 1) o → Walks s n up link p k o
+  pub walk_bare : parts_right h.kind 0 ≡ true → (o : Option (Progress × ℕ)) → Walks s n up h.next q (k + 1) o → Walks s n up link p k o
   walk_bare = walk_on s n up link p k e lt h eh q eq q 0 none
 
-  pub walk_bare_wrong : parts_right h.kind 0 ≡ false → Walks s n up link p k Lost
+  pub walk_bare_wrong : parts_right h.kind 0 ≡ false → Walks s n up link p k None
   walk_bare_wrong = walk_parts_wrong s n up link p k e lt h eh q eq q 0 none

@@ -1,21 +1,21 @@
 -- What the numbers say that a walk carries.
-use Rattle.std.specs.Prelude.{◌≡◌, Bool, true, cond, ◌&&◌, ◌||◌, List, ℕ, ◌+◌, ◌-◌, ◌/◌, ◌%◌, ◌<◌, ◌≤◌, eqb, ltb, leb}
-use Rattle.sheet.specs.Head.{labelled}
+use Rattle.std.specs.Prelude.{◌≡◌, Bool, true, cond, ◌&&◌, ◌||◌, List, ℕ, ◌+◌, ◌*◌, ◌-◌, ◌/◌, ◌%◌, ◌<◌, ◌≤◌, eqb, ltb, leb, Option, Some, None, IfSome}
+use Rattle.sheet.specs.Head.{labelled, quad_at}
 use Rattle.sheet.specs.Refusals.{figure_right, record_right, label_right}
 use Rattle.sheet.specs.declared.Head.{Head}
 use Rattle.refusals.specs.Walk.{pass_head, Ready, Walks}
 use Rattle.refusals.specs.declared.Progress.{Progress}
-use Rattle.refusals.specs.declared.Walked.{Walked}
-use Rattle.refusals.specs.declared.Walked.TheVariants.{Came, Lost}
+use Rattle.refusals.specs.declared.walk.Walked.{Walked}
 
 -- what was found, at + 2³² · figure + 2³³ · label, before the record that is due
 abbrev pub progress_of : ℕ → ℕ → Progress
 progress_of due found =
     record { due = due; at = found % 4294967296; figure = eqb (found / 4294967296 % 2) 1; label = eqb (found / 8589934592 % 2) 1 }
 
--- how a walk ended, due + 2¹⁶ · k + 2²⁸ · found for k records in its chain, or 0
-abbrev pub walked_of : ℕ → Walked
-walked_of r = cond (eqb r 0) Lost (Came (progress_of (r % 65536) (r / 268435456)) (r / 65536 % 4096))
+-- how a walk ended
+abbrev pub walked_of : Option Walked → Option (Progress × ℕ)
+walked_of None = None
+walked_of (Some w) = Some (progress_of w.due w.found, w.count)
 
 -- no flag but the first, no size, and the figures are right
 unfoldable pub light : Head → Bool
@@ -32,12 +32,12 @@ pub record Stamped (h : Head) : Type 0 where
   pub last : h.last ≡ 0
   pub zone : h.quad < 16777216
 
--- a number of label bytes, which says that nothing is wrong with a record; 511 leaves that open
+-- nothing is wrong with a record, which has r label bytes
 pub record Passes (h : Head) (up o r : ℕ) : Type 0 where
-  pub few : r ≤ 511
-  pub figures : r < 511 → record_right h up ≡ true
-  pub placed : r < 511 → label_right h up o ≡ true
-  pub all : r < 511 → r ≡ labelled h
+  pub few : r ≤ 510
+  pub figures : record_right h up ≡ true
+  pub placed : label_right h up o ≡ true
+  pub all : r ≡ labelled h
 
 -- a Decimal128 of up to 38 digits, and a scale of 0 up to the precision
 abbrev pub usual_decimal : ℕ → ℕ → ℕ → Bool
@@ -49,6 +49,11 @@ plain a b d =
     eqb (b + d) 0
     && (ltb a 14 || cond (ltb a 32) (ltb 17 a) (usual_decimal (a % 65536) (a / 65536 % 256) (a / 16777216)))
 
+-- record r is such a record, and its links are the number given
+pub record PlainAt (s : List ℕ) (r links : ℕ) : Type 0 where
+  pub says : plain (quad_at s (16 * r)) (quad_at s (16 * r + 4)) (quad_at s (16 * r + 12)) ≡ true
+  pub leads : quad_at s (16 * r + 8) ≡ links
+
 -- past a record: what was found becomes r
 pub record Passed (h : Head) (up found r : ℕ) : Type 0 where
   pub past : (due : ℕ) → progress_of (due + 1) r ≡ pass_head h up (progress_of due found)
@@ -58,19 +63,11 @@ pub record Passed (h : Head) (up found r : ℕ) : Type 0 where
 -- the records from r to e - 1 are plain and each leads to the following one, but that the link of the last is the one given
 pub record Row (s : List ℕ) (n r e link : ℕ) : Type 0 where
   pub some : r ≤ e
-  pub past : ¬ (link ≡ e) → r < e
   pub inside : e ≤ n
-  pub on : (o : Walked) (up found : ℕ) → Ready n (progress_of r found) 0
+  pub on : (o : Option (Progress × ℕ)) (up found : ℕ) → Ready n (progress_of r found) 0
       → Walks s n up link (progress_of e found) (e - r) o → Walks s n up r (progress_of r found) 0 o
 
--- what the number r tells of a walk
-pub record Tells (s : List ℕ) (n up link : ℕ) (p : Progress) (k r : ℕ) : Type 0 where
-  pub walks : Walks s n up link p k (walked_of r)
-  pub small : r / 268435456 < 17179869184
-
--- how a walk begins with a row: r tells of the whole walk from 2¹⁶ on, and below is the record at which the row stops, or 0
-pub record Begun (s : List ℕ) (n link due found r : ℕ) : Type 0 where
-  pub lost : r ≡ 0 → ¬ (link ≡ due)
-  pub same : ¬ (r ≡ 0) → r < 65536 → link ≡ due
-  pub row : ¬ (r ≡ 0) → r < 65536 → Row s n due r r
-  pub tells : 65536 ≤ r → (up : ℕ) → Tells s n up link (progress_of due found) 0 r
+-- what a walk tells
+pub record Tells (s : List ℕ) (n up link : ℕ) (p : Progress) (k : ℕ) (o : Option Walked) : Type 0 where
+  pub walks : Walks s n up link p k (walked_of o)
+  pub small : IfSome o (λ w. w.found < 17179869184)

@@ -1,13 +1,11 @@
 -- The walk as the code makes it: what has been found on the way, and what is left to walk.
-use Rattle.std.specs.Prelude.{◌≡◌, ℕ, ◌+◌, ◌*◌, ◌<◌, ◌≤◌, true, false, not, ◌||◌, List, [], ◌∷◌}
+use Rattle.std.specs.Prelude.{◌≡◌, ℕ, ◌+◌, ◌*◌, ◌<◌, ◌≤◌, true, false, not, ◌||◌, List, [], ◌∷◌, Option, Some, None}
 use Rattle.sheet.specs.Types.{Fields, arity}
 use Rattle.sheet.specs.Head.{head_at, labelled}
 use Rattle.sheet.specs.Read.{walk_from}
 use Rattle.sheet.specs.Refusals.{Met, met, linked, record_right, label_right}
 use Rattle.sheet.specs.declared.Head.{Head}
 use Rattle.refusals.specs.declared.Progress.{Progress}
-use Rattle.refusals.specs.declared.Walked.{Walked}
-use Rattle.refusals.specs.declared.Walked.TheVariants.{Came, Lost}
 
 -- past a record, in one of kind up
 abbrev pub pass_head : Head → ℕ → Progress → Progress
@@ -33,15 +31,17 @@ pub record Ready (n : ℕ) (p : Progress) (k : ℕ) : Type 0 where
   pub counted : k ≤ p.due
 
 -- how far a walk came
-abbrev pub Grows : ℕ → Progress → Walked → Type 0
-Grows n p (Came q k) = Ready n q k × (p.due ≤ q.due)
-Grows n p Lost = Unit
+abbrev pub Grows : ℕ → Progress → Option (Progress × ℕ) → Type 0
+Grows n p (Some (q, k)) = Ready n q k × (p.due ≤ q.due)
+Grows n p None = Unit
 
 -- what a walk along t says
-abbrev pub Says : List ℕ → ℕ → ℕ → Progress → ℕ → Fields → Walked → Type 0
-Says s up link p k t (Came q j) = (linked s link p.due t ≡ true) × ((q ≡ pass_all s p (met up p.due t)) × (j ≡ k + arity t))
-Says s up link p k t Lost = linked s link p.due t ≡ false
+abbrev pub Says : List ℕ → ℕ → ℕ → Progress → ℕ → Fields → Option (Progress × ℕ) → Type 0
+Says s up link p k t (Some (q, j)) = (linked s link p.due t ≡ true) × ((q ≡ pass_all s p (met up p.due t)) × (j ≡ k + arity t))
+Says s up link p k t None = linked s link p.due t ≡ false
 
-pub record Walks (s : List ℕ) (n up link : ℕ) (p : Progress) (k : ℕ) (o : Walked) : Type 0 where
+-- what a walk along the chain that a link leads to comes to: what it found and how many records the chain has; or None where a link leads elsewhere or a
+-- number of parts is wrong
+pub record Walks (s : List ℕ) (n up link : ℕ) (p : Progress) (k : ℕ) (o : Option (Progress × ℕ)) : Type 0 where
   pub grows : Grows n p o
   pub says : (f : ℕ) → n ≤ p.due + f → Says s up link p k (walk_from f s n link p.due) o

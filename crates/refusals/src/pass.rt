@@ -1,5 +1,5 @@
 // The tests of one record by the walk: by few numbers where these show that nothing is wrong, and else by every test of refusals 4 and 5.
-ghost use Rattle.std.specs.Prelude.{◌≡◌, true, cond, ◌||◌, ℕ, ◌+◌, ◌/◌, ◌%◌, ◌<◌, ◌≤◌, length};
+ghost use Rattle.std.specs.Prelude.{◌≡◌, true, ℕ, ◌+◌, ◌%◌, ◌<◌, ◌≤◌, length, IfSome};
 ghost use Rattle.sheet.specs.Head.{head_from, by_quads};
 ghost use Rattle.sheet.specs.Bounds.{Bounded};
 ghost use Rattle.sheet.specs.declared.Head as Declared;
@@ -12,6 +12,7 @@ use sheet::figure::{
 use sheet::record::{head_from, quad_at};
 
 // Whether a record has no flag but the first, no size, and right figures, by its first two numbers of 32 bits.
+#[tactic(auto, unfolding(crate::specs::Packed::light))]
 fn is_light(a: usize, b: usize) -> bool
     requires { a < 4294967296 }
     ensures { result ≡ light (by_quads a b 0 0) }
@@ -21,107 +22,59 @@ fn is_light(a: usize, b: usize) -> bool
     }
     let kind = (a % 256) as u8;
     if a < 512 {
-        if is_decimal(kind) {
-            return false;
-        }
-        return true;
+        return !is_decimal(kind);
     }
-    if a / 256 % 256 < 2 {
-        figure_right(kind, (a / 65536 % 256) as u8, (a / 16777216) as u8)
-    } else {
-        false
-    }
+    a / 256 % 256 < 2 && figure_right(kind, (a / 65536 % 256) as u8, (a / 16777216) as u8)
 }
 
-// How many label bytes a light record has that is a part of one of kind up, after what was found, by its first and its last number of 32 bits.
-fn light_labels(a: usize, d: usize, up: u8, found: usize) -> usize
+// How many label bytes a light record has that is a part of one of kind up, where the next label is at byte at, by its first and its last number
+// of 32 bits. None leaves open whether it is right.
+fn light_labels(a: usize, d: usize, up: u8, at: usize) -> Option<usize>
     requires { light (by_quads a 0 0 0) ≡ true }
-    ensures { Passes (by_quads a 0 0 d) up (found % 4294967296) result }
+    ensures { IfSome result (Passes (by_quads a 0 0 d) up at) }
 {
     if d == 0 {
-        if a / 256 % 256 == 0 {
-            return 0;
+        if a / 256 % 256 == 0 || names_parts(up) {
+            return Some(0);
         }
-        if names_parts(up) {
-            return 0;
-        }
-        return 511;
+        return None;
     }
-    if 16777216 <= d {
-        return 511;
+    if 65536 <= d && d < 16777216 && names_parts(up) && d % 65536 == at {
+        return Some(d / 65536);
     }
-    if d < 65536 {
-        return 511;
-    }
-    if names_parts(up) {
-        if d % 65536 == found % 4294967296 {
-            return d / 65536;
-        }
-    }
-    511
+    None
 }
 
 // Whether a record is a Timestamp with a zone that has no name and is not nullable, and its unit and its unused bytes are right.
 fn is_stamped(h: Head) -> bool
     ensures { result ≡ true → Stamped h }
 {
-    if h.kind != 22 {
-        return false;
-    }
-    if h.flags != 4 {
-        return false;
-    }
-    if 3 < h.figure {
-        return false;
-    }
-    if h.scale != 0 {
-        return false;
-    }
-    if h.name != 0 {
-        return false;
-    }
-    if h.nlen != 0 {
-        return false;
-    }
-    if h.last != 0 {
-        return false;
-    }
-    if 16777216 <= h.quad {
-        return false;
-    }
-    true
+    h.kind == 22
+        && h.flags == 4
+        && h.figure <= 3
+        && h.scale == 0
+        && h.name == 0
+        && h.nlen == 0
+        && h.last == 0
+        && h.quad < 16777216
 }
 
 // How many label bytes such a record has, by its bytes 4 to 7.
-fn zone_labels(quad: usize, found: usize) -> usize
-    ensures { (h : Declared.Head) (up : ℕ) → Stamped h → h.quad ≡ quad → Passes h up (found % 4294967296) result }
+fn zone_labels(quad: usize, next: usize) -> Option<usize>
+    ensures { (h : Declared.Head) (up : ℕ) → Stamped h → h.quad ≡ quad → IfSome result (Passes h up next) }
 {
     let at = quad % 65536;
     let len = quad / 65536;
     if len == 0 {
         if at == 0 {
-            return 0;
+            return Some(0);
         }
-        return 511;
+        return None;
     }
-    if at == found % 4294967296 {
-        if len < 256 {
-            return len;
-        }
+    if at == next && len < 256 {
+        return Some(len);
     }
-    511
-}
-
-fn either(a: bool, b: bool) -> bool
-    ensures { result ≡ a || b }
-{
-    if a { true } else { b }
-}
-
-fn mark(b: bool, x: usize) -> usize
-    ensures { (result ≡ cond b x 0) × (result ≤ x) }
-{
-    if b { x } else { 0 }
+    None
 }
 
 // Goes past a record, by every test. The number `found` is the offset of the next label, with 2³² where a figure is wrong and 2³³ where a label is.
@@ -130,9 +83,9 @@ fn pass_open(h: Head, up: u8, found: usize) -> usize
     ensures { Passed h up found result }
 {
     let at = found % 4294967296;
-    let figure = either(found / 4294967296 % 2 == 1, !record_right(h, up));
-    let label = either(found / 8589934592 % 2 == 1, !label_right(h, up, at));
-    at + label_bytes(h) + mark(figure, 4294967296) + mark(label, 8589934592)
+    let figure = found / 4294967296 % 2 == 1 || !record_right(h, up);
+    let label = found / 8589934592 % 2 == 1 || !label_right(h, up, at);
+    at + label_bytes(h) + 4294967296 * usize::from(figure) + 8589934592 * usize::from(label)
 }
 
 // Goes past the record at byte i, by the quick tests where these decide. It calls `pass_open` twice, so that this is not inlined.
@@ -140,18 +93,17 @@ pub(crate) fn pass_record(s: &[u8], i: usize, up: u8, found: usize) -> usize
     requires { (i + 16 ≤ length s.now) × ((found % 4294967296 < 1000000) × (found < 17179869184)) }
     ensures { Passed (head_from s.now i) up found result }
 {
+    let at = found % 4294967296;
     let a = quad_at(s, i);
     if is_light(a, quad_at(s, i + 4)) {
-        let labels = light_labels(a, quad_at(s, i + 12), up, found);
-        if labels < 511 {
-            return found + labels;
-        }
-        return pass_open(head_from(s, i), up, found);
+        return match light_labels(a, quad_at(s, i + 12), up, at) {
+            Some(labels) => found + labels,
+            None => pass_open(head_from(s, i), up, found),
+        };
     }
     let h = head_from(s, i);
     if is_stamped(h) {
-        let labels = zone_labels(h.quad, found);
-        if labels < 511 {
+        if let Some(labels) = zone_labels(h.quad, at) {
             return found + labels;
         }
     }

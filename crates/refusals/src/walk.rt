@@ -1,26 +1,29 @@
-// The walk over the records of a sheet, which finds what refusals 3, 4 and 5 are about. It carries what it found as one number.
-ghost use Rattle.std.specs.Prelude.{◌≡◌, ◌+◌, ◌*◌, ◌-◌, ◌<◌, ◌≤◌, length};
+// The walk over the records of a sheet, which finds what refusals 3, 4 and 5 are about. What it found so far is one number, which `pass` makes: with a
+// struct in its place a Rust version of this file took up to twice as long (Dictionaries 2.1 times, zoned Timestamps 1.7, Structs 1.6).
+ghost use Rattle.std.specs.Prelude.{◌≡◌, ◌+◌, ◌*◌, ◌-◌, ◌<◌, ◌≤◌, true, length};
 ghost use Rattle.refusals.specs.Walk.{Ready, Walks};
 ghost use Rattle.refusals.specs.Found.{outset};
-ghost use Rattle.refusals.specs.Packed.{progress_of, usual_decimal, plain, Row, Begun, Tells};
+ghost use Rattle.refusals.specs.Packed.{progress_of, usual_decimal, plain, PlainAt, Row, Tells};
 
+use crate::Progress;
 use crate::pass::pass_record;
-use crate::{Progress, Walked};
+use crate::records::Records;
 use sheet::figure::parts_right;
 use sheet::record::{head_from, quad_at};
+
+// A walk along a chain: the record that is due behind it, how many records the chain has, and what was found.
+#[derive(Clone, Copy)]
+struct Walked {
+    due: usize,
+    count: usize,
+    found: usize,
+}
 
 // Whether a kind with no flags, a precision and a scale are those of a Decimal128 as it is mostly written.
 fn is_usual_decimal(k: usize, p: usize, s: usize) -> bool
     ensures { result ≡ usual_decimal k p s }
 {
-    if k == 16 {
-        if s <= p {
-            if 0 < p {
-                return p <= 38;
-            }
-        }
-    }
-    false
+    k == 16 && s <= p && 0 < p && p <= 38
 }
 
 // Whether a record says nothing but a kind that has no parts, at most a usual decimal's figures, and its links, by its numbers of 32 bits.
@@ -31,146 +34,131 @@ fn is_plain(a: usize, b: usize, d: usize) -> bool
     if b + d != 0 {
         return false;
     }
-    if a < 14 {
-        return true;
-    }
     if a < 32 {
-        return 17 < a;
+        return a < 14 || 17 < a;
     }
     is_usual_decimal(a % 65536, a / 65536 % 256, a / 16777216)
 }
 
-// Follows the chain that begins at record r through plain records, each of which leads to the following one. Says at which record it stopped, and adds 65536 where the chain ended before it.
-fn plain_row(s: &[u8], n: usize, r: usize) -> usize
-    requires { (16 * n ≤ length s.now) × ((n ≤ 1024) × (r ≤ n)) }
-    ensures { (result < 65536 → Row s.now n r result result) × (65536 ≤ result → Row s.now n r (result - 65536) 0) }
-{
-    let mut r = r;
-    while r < n {
+impl Records<'_> {
+    // Whether record r is such a record, and its links are the number given.
+    fn is_plain_at(&self, r: usize, links: usize) -> bool
+        requires { r < self.now.n }
+        ensures { result ≡ true → PlainAt self.now.sheet.now r links }
+    {
         let i = 16 * r;
-        let links = quad_at(s, i + 8);
-        if is_plain(quad_at(s, i), quad_at(s, i + 4), quad_at(s, i + 12)) {
-            if links == 65536 * (r + 1) {
-                r += 1;
-                continue;
-            }
-            if links == 0 {
-                return r + 65537;
+        quad_at(self.sheet, i + 8) == links
+            && is_plain(
+                quad_at(self.sheet, i),
+                quad_at(self.sheet, i + 4),
+                quad_at(self.sheet, i + 12),
+            )
+    }
+
+    // Follows the chain that begins at record r through plain records, each of which leads to the following one, and tells at which record it stopped.
+    fn plain_row(&self, r: usize) -> usize
+        requires { r ≤ self.now.n }
+        ensures { Row self.now.sheet.now self.now.n r result result }
+    {
+        for q in r..self.n {
+            if !self.is_plain_at(q, 65536 * (q + 1)) {
+                return q;
             }
         }
-        return r;
+        self.n
     }
-    r
-}
 
-// Follows the chain that a link leads to through such a row. Says how the walk of it came out where the row is all of it, and else at which record it stopped.
-fn row_walk(s: &[u8], n: usize, link: usize, due: usize, found: usize) -> usize
-    requires { (16 * n ≤ length s.now) × (Ready n (progress_of due found) 0 × (found < 17179869184)) }
-    ensures { Begun s.now n link due found result }
-{
-    if link == due {
-        let row = plain_row(s, n, due);
-        if row < 65536 {
-            return row;
-        }
-        let end = row - 65536;
-        return end + 65536 * (end - due) + 268435456 * found;
-    }
-    0
-}
-
-// Walks the chain that a link leads to, in a record of kind up.
-#[cycle(walk_chain_walk_records)]
-fn walk_chain(s: &[u8], n: usize, up: u8, link: usize, due: usize, found: usize) -> usize
-    requires { (16 * n ≤ length s.now) × (Ready n (progress_of due found) 0 × ((found < 17179869184) × (0 < link))) }
-    ensures { Tells s.now n up link (progress_of due found) 0 result }
-{
-    let r = row_walk(s, n, link, due, found);
-    if r == 0 {
-        return 0;
-    }
-    if r < 65536 {
-        return walk_records(s, n, up, r, found, r - due);
-    }
-    r
-}
-
-// Walks the chain from the record that is due, of which k records are passed. Parts are walked by a call, the chain by the loop.
-#[cycle(walk_chain_walk_records)]
-fn walk_records(s: &[u8], n: usize, up: u8, due: usize, found: usize, k: usize) -> usize
-    requires { (16 * n ≤ length s.now) × (Ready n (progress_of due found) k × (found < 17179869184)) }
-    ensures { Tells s.now n up due (progress_of due found) k result }
-{
-    let mut link = due;
-    let mut due = due;
-    let mut found = found;
-    let mut k = k;
-    while link != 0 {
+    // Walks the chain that a link leads to, in a record of kind up, by such a row as far as it goes. None where a link leads elsewhere or a number of
+    // parts is wrong.
+    #[cycle(walk_chain_walk_records)]
+    #[inline(always)]
+    fn walk_chain(&self, up: u8, link: usize, due: usize, found: usize) -> Option<Walked>
+        requires { Ready self.now.n (progress_of due found) 0 × ((found < 17179869184) × (0 < link)) }
+        ensures { Tells self.now.sheet.now self.now.n up link (progress_of due found) 0 result }
+    {
         if link != due {
-            return 0;
+            return None;
         }
-        if n <= due {
-            return 0;
+        let last = self.plain_row(due);
+        if last < self.n && self.is_plain_at(last, 0) {
+            return Some(Walked {
+                due: last + 1,
+                count: last + 1 - due,
+                found,
+            });
         }
-        let i = 16 * due;
-        found = pass_record(s, i, up, found);
-        let h = head_from(s, i);
-        due += 1;
-        k += 1;
-        link = h.next;
-        if h.first == 0 {
-            if parts_right(h.kind, 0) {
-                continue;
+        self.walk_records(up, last, found, last - due)
+    }
+
+    // Walks the chain from the record that is due, of which k records are passed. Parts are walked by a call, the chain by the loop.
+    #[cycle(walk_chain_walk_records)]
+    fn walk_records(&self, up: u8, due: usize, found: usize, k: usize) -> Option<Walked>
+        requires { Ready self.now.n (progress_of due found) k × (found < 17179869184) }
+        ensures { Tells self.now.sheet.now self.now.n up due (progress_of due found) k result }
+    {
+        // Read once: the loop runs for each record.
+        let Records { sheet, n } = *self;
+        let mut link = due;
+        let mut due = due;
+        let mut found = found;
+        let mut k = k;
+        while link != 0 {
+            if link != due || n <= due {
+                return None;
             }
-            return 0;
+            let i = 16 * due;
+            found = pass_record(sheet, i, up, found);
+            let h = head_from(sheet, i);
+            due += 1;
+            k += 1;
+            link = h.next;
+            if h.first == 0 {
+                if parts_right(h.kind, 0) {
+                    continue;
+                }
+                return None;
+            }
+            let inner = self.walk_chain(h.kind, h.first, due, found)?;
+            if !parts_right(h.kind, inner.count) {
+                return None;
+            }
+            due = inner.due;
+            found = inner.found;
         }
-        let inner = walk_chain(s, n, h.kind, h.first, due, found);
-        if inner == 0 {
-            return 0;
-        }
-        if parts_right(h.kind, inner / 65536 % 4096) {
-            due = inner % 65536;
-            found = inner / 268435456;
-        } else {
-            return 0;
-        }
+        Some(Walked {
+            due,
+            count: k,
+            found,
+        })
     }
-    due + 65536 * k + 268435456 * found
-}
 
-// Walks the chain of the listed types. It calls what `walk_chain` calls, so that `row_walk` is inlined here.
-fn walk_types(s: &[u8], n: usize, link: usize) -> usize
-    requires { (16 * n ≤ length s.now) × Ready n outset 0 }
-    ensures { Tells s.now n 0 link (progress_of 1 0) 0 result }
-{
-    if link == 0 {
-        return 1;
+    // Walks the chain of the listed types.
+    fn walk_types(&self, link: usize) -> Option<Walked>
+        requires { Ready self.now.n outset 0 }
+        ensures { Tells self.now.sheet.now self.now.n 0 link outset 0 result }
+    {
+        if link == 0 {
+            return Some(Walked {
+                due: 1,
+                count: 0,
+                found: 0,
+            });
+        }
+        self.walk_chain(0, link, 1, 0)
     }
-    let r = row_walk(s, n, link, 1, 0);
-    if r == 0 {
-        return 0;
-    }
-    if r < 65536 {
-        return walk_records(s, n, 0, r, 0, r - 1);
-    }
-    r
-}
 
-// Walks all records of a sheet.
-pub(crate) fn walk_all(s: &[u8], n: usize, link: usize) -> Walked
-    requires { (16 * n ≤ length s.now) × Ready n outset 0 }
-    ensures { Walks s.now n 0 link outset 0 result }
-{
-    let r = walk_types(s, n, link);
-    if r == 0 {
-        return Walked::Lost;
+    // Walks all records of a sheet.
+    pub(crate) fn walk_all(&self, link: usize) -> Option<(Progress, usize)>
+        requires { Ready self.now.n outset 0 }
+        ensures { Walks self.now.sheet.now self.now.n 0 link outset 0 result }
+    {
+        let w = self.walk_types(link)?;
+        let p = Progress {
+            due: w.due,
+            at: w.found % 4294967296,
+            figure: w.found / 4294967296 % 2 == 1,
+            label: w.found / 8589934592 % 2 == 1,
+        };
+        Some((p, w.count))
     }
-    let found = r / 268435456;
-    let p = Progress {
-        due: r % 65536,
-        at: found % 4294967296,
-        figure: found / 4294967296 % 2 == 1,
-        label: found / 8589934592 % 2 == 1,
-    };
-    Walked::Came(p, r / 65536 % 4096)
 }

@@ -1,38 +1,56 @@
 -- The stored calls, as oracle/vectors/README.md has their form.
-use Rattle.std.specs.Prelude.{ℕ, ◌+◌, ◌*◌, Bool, cond, ◌||◌, List, eqb, ltb, get_or}
+use Rattle.std.specs.Prelude.{ℕ, cond, ◌&&◌, List, eqb, ltb, get_or, take, drop, Option, None, Some, Result, Ok, Err}
+use Rattle.std.specs.Int.{w32, w64, from_le_bytes}
+use Rattle.replay.specs.declared.stored.Broken.{Broken}
+use Rattle.buffers.specs.declared.Question.{Question}
+use Rattle.replay.specs.declared.stored.Reply.{Reply}
 use Rattle.replay.specs.declared.stored.Vector.{Vector}
-use Rattle.replay.specs.declared.stored.Entry.{Entry}
-use Rattle.replay.specs.declared.stored.Entry.TheVariants.{End, Broken, Stored}
+
+-- a file that is not in that form
+abbrev pub broken : Broken
+broken = record {}
 
 -- the number that stands for a type that is expected
 abbrev pub type : ℕ
 type = 32
 
 -- the three questions: list, union and compare
-abbrev pub is_question : ℕ → Bool
-is_question question = eqb question 1 || (eqb question 2 || eqb question 3)
+abbrev pub question_in : ℕ → Result Question Broken
+question_in n = cond (eqb n 1) (Ok Question.List) (cond (eqb n 2) (Ok Question.Union) (cond (eqb n 3) (Ok Question.Compare) (Err broken)))
+
+-- what is expected, by its number and the length of the stored answer: 0 none, 32 a type, any other number a refusal. Only a type has an answer
+abbrev pub expected_in : ℕ → ℕ → Result Reply Broken
+expected_in number len =
+    cond (eqb number type)
+    (Ok (record { 0 = Ok (Some len) }))
+    (cond (eqb len 0) (cond (eqb number 0) (Ok (record { 0 = Ok None })) (Ok (record { 0 = Err number }))) (Err broken))
 
 -- the number in the four bytes from at, the lowest first
 abbrev pub number_at : List ℕ → ℕ → ℕ
-number_at s at = get_or s at 0 + 256 * get_or s (at + 1) 0 + 65536 * get_or s (at + 2) 0 + 16777216 * get_or s (at + 3) 0
+number_at s at = from_le_bytes w32 (take 4 (drop at s))
 
--- the number of two halves
-abbrev pub mask_of : ℕ → ℕ → ℕ
-mask_of low high = low + 4294967296 * high
+-- the mask in the eight bytes from at, the lowest first
+abbrev pub mask_at : List ℕ → ℕ → ℕ
+mask_at s at = from_le_bytes w64 (take 8 (drop at s))
 
--- the stored call that a head of 32 bytes describes
-abbrev pub vector_in : List ℕ → Vector
-vector_in head =
+-- the stored call with this question and this answer expected that a head of 32 bytes describes
+abbrev pub vector_in : Question → Reply → List ℕ → Vector
+vector_in question expected head =
     record {
-      question = get_or head 0 0;
-      expected = get_or head 1 0;
+      question = question;
+      expected = expected;
       output = number_at head 4;
       work = number_at head 8;
       sheet = number_at head 12;
-      answer = number_at head 24;
-      mask = mask_of (number_at head 16) (number_at head 20);
+      mask = mask_at head 16;
     }
 
--- what a head is of which so many bytes were read
-abbrev pub entry_in : List ℕ → ℕ → Entry
-entry_in head got = cond (eqb got 0) End (cond (ltb got 32) Broken (Stored (vector_in head)))
+abbrev asked : Result Question Broken → Result Reply Broken → List ℕ → Result (Option Vector) Broken
+asked (Err e) expected head = Err e
+asked (Ok question) (Err e) head = Err e
+asked (Ok question) (Ok expected) head = Ok (Some (vector_in question expected head))
+
+-- what a head is of which so many bytes were read: the end of the file, broken, or a stored call
+abbrev pub entry_in : List ℕ → ℕ → Result (Option Vector) Broken
+entry_in head got =
+    cond (eqb got 0) (Ok None) (cond (ltb got 32) (Err broken) (asked (question_in (get_or head 0 0)) (expected_in (get_or head 1 0) (number_at head 24)) head))

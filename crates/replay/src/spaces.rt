@@ -1,10 +1,9 @@
 // Filling lent spaces before a call, and what a call leaves in them.
-ghost use Rattle.std.specs.Prelude.{◌≡◌, ◌≤◌, length, drop};
+ghost use Rattle.std.specs.Prelude.{◌≡◌, ◌+◌, ◌^◌, ◌<◌, ◌≤◌, length};
 ghost use Rattle.sheet.specs.Refusals.{all_zero};
 ghost use Rattle.replay.specs.Spaces.{mark_at, marks, is_marked, is_answered, is_cleared, cleared_bytes};
 
-use crate::stored::TYPE;
-use check::same;
+use crate::stored::Reply;
 
 // What the byte at i is filled with: never zero, and not the same everywhere.
 fn mark(i: usize) -> u8
@@ -16,77 +15,48 @@ fn mark(i: usize) -> u8
 pub fn fill(place: &mut [u8])
     ensures { place.new ≡ marks 0 (length place.old) }
 {
-    let mut i = 0;
-    while i < place.len() {
-        place[i] = mark(i);
-        i += 1;
+    for (i, byte) in place.iter_mut().enumerate() {
+        *byte = mark(i);
     }
 }
 
-// Whether the bytes from `from` on are still as they were filled.
-fn is_filled(place: &[u8], from: usize) -> bool
-    ensures { result ≡ is_marked from (drop from place.now) }
+// Whether the rest of a space, from the byte at `from` on, is still as it was filled.
+fn is_filled(rest: &[u8], from: usize) -> bool
+    requires { from + length rest.now < 2 ^ 64 }
+    ensures { result ≡ is_marked from rest.now }
 {
-    let mut i = from;
-    while i < place.len() {
-        if place[i] != mark(i) {
-            return false;
-        }
-        i += 1;
-    }
-    true
+    rest.iter()
+        .enumerate()
+        .all(|(i, byte)| *byte == mark(from + i))
 }
 
 fn is_zero(place: &[u8]) -> bool
     ensures { result ≡ all_zero place.now }
 {
-    let mut i = 0;
-    while i < place.len() {
-        if place[i] != 0 {
-            return false;
-        }
-        i += 1;
-    }
-    true
+    place.iter().all(|byte| *byte == 0)
 }
 
 // Whether an output has an answer at its front and is as it was filled behind it.
 pub fn is_answered(output: &[u8], answer: &[u8]) -> bool
     ensures { result ≡ is_answered output.now answer.now }
 {
-    let length = answer.len();
-    if length > output.len() {
-        return false;
-    }
-    if !same(&output[..length], answer) {
-        return false;
-    }
-    is_filled(output, length)
+    output.starts_with(answer) && is_filled(&output[answer.len()..], answer.len())
 }
 
-// Whether the first `length` bytes of a work space are zero and the others as they were filled.
-pub fn is_cleared(work: &[u8], length: usize) -> bool
-    ensures { result ≡ is_cleared work.now length }
+// Whether the first n bytes of a work space are zero and the others as they were filled.
+pub fn is_cleared(work: &[u8], n: usize) -> bool
+    ensures { result ≡ is_cleared work.now n }
 {
-    if length > work.len() {
-        return false;
-    }
-    if !is_zero(&work[..length]) {
-        return false;
-    }
-    is_filled(work, length)
+    n <= work.len() && is_zero(&work[..n]) && is_filled(&work[n..], n)
 }
 
 // How many bytes of work space a call leaves zero: none where it is refused.
-pub fn cleared(expected: u8, sheet: usize) -> usize
+pub fn cleared(expected: Reply, sheet: usize) -> usize
     requires { sheet ≤ 20000 }
-    ensures { result ≡ cleared_bytes expected sheet }
+    ensures { result ≡ cleared_bytes expected.0 sheet }
 {
-    if expected == 0 {
-        return 2 * sheet;
+    match expected.0 {
+        Ok(_) => 2 * sheet,
+        Err(_) => 0,
     }
-    if expected == TYPE {
-        return 2 * sheet;
-    }
-    0
 }

@@ -1,94 +1,111 @@
 // The stored calls, as oracle/vectors/README.md has their form.
-ghost use Rattle.std.specs.Prelude.{◌≡◌, ◌+◌, ◌^◌, ◌<◌, ◌≤◌};
-ghost use Rattle.replay.specs.Stored.{is_question, number_at, mask_of, vector_in, entry_in};
+ghost use Rattle.std.specs.Prelude.{◌≡◌, ◌+◌, ◌≤◌, take, drop};
+ghost use Rattle.replay.specs.Stored.{question_in, expected_in, number_at, entry_in};
 
-pub const LIST: u8 = 1;
+pub use buffers::Question;
+use std::fmt;
 
-pub const UNION: u8 = 2;
+// The number that stands for a type that is expected.
+const TYPE: u8 = 32;
 
-pub const COMPARE: u8 = 3;
+// A file that is not in that form, or has a vector that does not fit the room for it.
+#[derive(Clone, Copy)]
+pub struct Broken;
 
-// A type is expected; 0 is none, and the other numbers are refusals.
-pub const TYPE: u8 = 32;
+// The question of a vector, by its number.
+fn question_of(n: u8) -> Result<Question, Broken>
+    ensures { result ≡ question_in n }
+{
+    match n {
+        1 => Ok(Question::List),
+        2 => Ok(Question::Union),
+        3 => Ok(Question::Compare),
+        _ => Err(Broken),
+    }
+}
+
+// What a call answers: none; a type, by the byte length of its one-type sheet; or a refusal, by its number.
+#[derive(Clone, Copy, PartialEq)]
+pub struct Reply(pub Result<Option<usize>, u8>);
+
+// By the numbers of the file.
+impl fmt::Display for Reply {
+    fn fmt<W: fmt::Write>(&self, f: &mut fmt::Formatter<W>) -> fmt::Result {
+        match self.0 {
+            Ok(None) => write!(f, "0"),
+            Ok(Some(length)) => write!(f, "{TYPE} of length {length}"),
+            Err(refusal) => write!(f, "{refusal}"),
+        }
+    }
+}
 
 // A stored call without its bytes: its question, the answer that is expected, lengths and the mask.
 #[derive(Clone, Copy)]
 pub struct Vector {
-    pub question: u8,
-    pub expected: u8,
+    pub question: Question,
+    pub expected: Reply,
     pub output: usize,
     pub work: usize,
     pub sheet: usize,
-    pub answer: usize,
     pub mask: u64,
 }
 
-#[derive(Clone, Copy)]
-pub enum Entry {
-    End,
-    Broken,
-    Stored(Vector),
+impl Vector {
+    // The length of the answer that is stored behind the sheet.
+    pub fn answer(&self) -> usize {
+        match self.expected.0 {
+            Ok(Some(length)) => length,
+            _ => 0,
+        }
+    }
 }
 
-fn wide(b: u8) -> usize
-    ensures { (result ≡ b) × (result < 256) }
+// The N bytes from `at`.
+fn bytes<const N: usize>(head: &[u8; 32], at: usize) -> [u8; N]
+    requires { at + N ≤ 32 }
+    ensures { result ≡ take N (drop at head.now) }
 {
-    b as usize
+    let mut b = [0; N];
+    b.copy_from_slice(&head[at..at + N]);
+    b
 }
 
 // The number in the four bytes from `at`.
 fn number_at(head: &[u8; 32], at: usize) -> usize
     requires { at + 4 ≤ 32 }
-    ensures { (result ≡ number_at head.now at) × (result < 2 ^ 32) }
+    ensures { result ≡ number_at head.now at }
 {
-    let low = wide(head[at]) + 256 * wide(head[at + 1]);
-    let high = wide(head[at + 2]) + 256 * wide(head[at + 3]);
-    low + 65536 * high
+    u32::from_le_bytes(bytes(head, at)) as usize
 }
 
-fn mask_of(low: usize, high: usize) -> u64
-    requires { (low < 2 ^ 32) × (high < 2 ^ 32) }
-    ensures { result ≡ mask_of low high }
+// The answer that a number and the length of an answer stand for. Only a type has one.
+fn expected_of(number: u8, length: usize) -> Result<Reply, Broken>
+    ensures { result ≡ expected_in number length }
 {
-    low as u64 + 4294967296 * high as u64
-}
-
-fn vector_of(head: &[u8; 32]) -> Vector
-    ensures { result ≡ vector_in head.now }
-{
-    Vector {
-        question: head[0],
-        expected: head[1],
-        output: number_at(head, 4),
-        work: number_at(head, 8),
-        sheet: number_at(head, 12),
-        answer: number_at(head, 24),
-        mask: mask_of(number_at(head, 16), number_at(head, 20)),
+    match (number, length) {
+        (TYPE, _) => Ok(Reply(Ok(Some(length)))),
+        (0, 0) => Ok(Reply(Ok(None))),
+        (_, 0) => Ok(Reply(Err(number))),
+        _ => Err(Broken),
     }
 }
 
-// What a head is of which `got` bytes were read.
-pub fn entry_of(head: &[u8; 32], got: usize) -> Entry
+// The stored call that a head describes of which `got` bytes were read, none at the end of the file.
+pub fn entry_of(head: &[u8; 32], got: usize) -> Result<Option<Vector>, Broken>
     ensures { result ≡ entry_in head.now got }
 {
     if got == 0 {
-        return Entry::End;
+        return Ok(None);
     }
     if got < 32 {
-        return Entry::Broken;
+        return Err(Broken);
     }
-    Entry::Stored(vector_of(head))
-}
-
-// Whether it is one of the three questions.
-pub fn is_question(question: u8) -> bool
-    ensures { result ≡ is_question question }
-{
-    if question == LIST {
-        return true;
-    }
-    if question == UNION {
-        return true;
-    }
-    question == COMPARE
+    Ok(Some(Vector {
+        question: question_of(head[0])?,
+        expected: expected_of(head[1], number_at(head, 24))?,
+        output: number_at(head, 4),
+        work: number_at(head, 8),
+        sheet: number_at(head, 12),
+        mask: u64::from_le_bytes(bytes(head, 16)),
+    }))
 }

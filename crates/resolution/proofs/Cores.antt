@@ -3,7 +3,7 @@ use mathlib.Core.Path.{◌≡◌, refl, ap, sym, subst, ◌∙◌}
 use mathlib.Core.Bool.{Bool, true}
 use mathlib.Core.List.{List}
 use mathlib.Core.Logic.{⊎_elim}
-use mathlib.Core.Option.{Option, none, some}
+use Rattle.std.specs.Prelude.{Option, None, Some}
 use Prim.Native.Nat.{ℕ, ◌+◌, ◌*◌, ◌-◌, ◌<◌, ◌≤◌}
 use native.Mathlib.Omega.{arith}
 use lib.ListN.{length, get_or, length-append, length-drop}
@@ -20,8 +20,9 @@ use Rattle.buffers.specs.Typed.{Typed, Merges}
 use Rattle.buffers.specs.declared.Space.{Space}
 use Rattle.buffers.specs.declared.Spot.{Spot}
 use Rattle.buffers.specs.declared.Goal.{Goal}
-use Rattle.buffers.specs.declared.Out.{Out}
-use Rattle.buffers.specs.declared.Out.TheVariants.{Done, No, Full}
+use Rattle.buffers.specs.Out.{Out}
+use Rattle.std.specs.Prelude.{Ok, Err}
+use Rattle.buffers.specs.declared.Failure.TheVariants.{NoType, Full}
 use Rattle.buffers.proofs.Sources.{link_is, read_nullable}
 use Rattle.buffers.proofs.Frames.{span_frame}
 use Rattle.buffers.proofs.Chained.{labels_sum}
@@ -118,10 +119,10 @@ module _ (space : Space) (w : List ℕ) (d : Spot) (c : DataType) (room : Room w
     module _ (h : Head) (e : h ≡ head_at (region space w) (d.at - 1)) (x : DataType) {u : List ℕ} (kept : Kept space v u last.at (last.label + length last.name))
         (few : size x + size c < space.n) (short : letters x + letters c ≤ space.m) where
       core_answered : (o : Out) (m : Option DataType) → Means space v u (goal h e) (size core + size x) (letters core + letters x) o m
-          → AnswerIs space u o (and_then m (λ t. some (with_core c.shape c.parts t)))
+          → AnswerIs space u o (and_then m (λ t. Some (with_core c.shape c.parts t)))
       unfolding goal count labels
-      core_answered (Done f) none b = b
-      core_answered (Done f) (some t) b =
+      core_answered (Ok f) None b = b
+      core_answered (Ok f) (Some t) b =
           let n = b last.name (named h e) in
           record {
             records = n.records ∙ sym (last.many t);
@@ -133,9 +134,9 @@ module _ (space : Space) (w : List ℕ) (d : Spot) (c : DataType) (room : Room w
                 (λ j lo hi. get_or-drop space.half u j 0 ∙ kept.between (space.half + j) (omega arith) (omega arith) ∙ sym (get_or-drop space.half v j 0) ∙ same j)
                 n.holds;
           }
-      core_answered No none b = tt
-      core_answered No (some t) b = b
-      core_answered Full m b =
+      core_answered (Err NoType) None b = tt
+      core_answered (Err NoType) (Some t) b = b
+      core_answered (Err Full) m b =
           ⊎_elim (λ q. omega (arith, last.records))
           (λ q.
           omega
@@ -145,13 +146,13 @@ module _ (space : Space) (w : List ℕ) (d : Spot) (c : DataType) (room : Room w
 -- a type of the sheet that changes the core alone
 module _ (rules : Rules) (space : Space) {s w : List ℕ} {link : ℕ} {d : Spot} (room : Room w space) (inside : Inside space d) (cored : Cored rules space s w link d) where
   -- a candidate has a record
-  pub core_lost : d.at < 2 → Steps (coercion rules) space (Candidate space w d) s w w link No
+  pub core_lost : d.at < 2 → Steps (coercion rules) space (Candidate space w d) s w w link (Err NoType)
   unfolding count
   core_lost q = record { within = within_self w; inside = tt; means = λ x c t k h l. absurd (omega (arith, k.wrote.records)) }
 
   module _ (h : Head) (e : h ≡ head_at (region space w) (d.at - 1)) where
     -- and the labels of its last record
-    pub core_short : d.label < labelled h → Steps (coercion rules) space (Candidate space w d) s w w link No
+    pub core_short : d.label < labelled h → Steps (coercion rules) space (Candidate space w d) s w w link (Err NoType)
     core_short q =
         record {
           within = within_self w;

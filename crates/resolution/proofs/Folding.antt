@@ -3,15 +3,18 @@ use mathlib.Core.Path.{◌≡◌, refl, ap, sym, subst, ◌∙◌}
 use mathlib.Core.Bool.{Bool, true, false, cond}
 use mathlib.Core.List.{List, [], ◌∷◌}
 use mathlib.Core.Logic.{⊎_elim}
-use mathlib.Core.Option.{Option, none, some}
+use Rattle.std.specs.Prelude.{Option, None, Some}
+use Rattle.std.proofs.lemmas.Option.{same_Some}
+use Rattle.std.specs.Borrow.{Bor}
 use Prim.Native.Nat.{ℕ, ◌+◌, ◌*◌, ◌<◌, ◌≤◌}
 use native.Mathlib.Omega.{arith}
-use borrow.Author.Tests.{eq-eqb, ne_eqb}
+use borrow.Author.Tests.{eq-eqb, ne_eqb, le-ltb}
 use lib.ListN.{length, length-append}
 use Rattle.sheet.specs.Types.{Shape, Fields, end, field, count, zone_bytes, labels}
 use Rattle.sheet.specs.Kind.{names_parts}
 use Rattle.sheet.specs.Tests.{between}
 use Rattle.sheet.specs.Head.{head_at}
+use Rattle.sheet.specs.Read.{start}
 use Rattle.sheet.specs.declared.Head.{Head}
 use Rattle.sheet.proofs.Spans.{span_nil}
 use Rattle.sheet.proofs.Tests.{never}
@@ -31,11 +34,14 @@ use Rattle.buffers.specs.declared.Question.{Question}
 use Rattle.buffers.specs.declared.Space.{Space}
 use Rattle.buffers.specs.declared.Spot.{Spot}
 use Rattle.buffers.specs.declared.Goal.{Goal}
-use Rattle.buffers.specs.declared.Out.{Out}
-use Rattle.buffers.specs.declared.Out.TheVariants.{Done, No, Full}
+use Rattle.buffers.specs.Out.{Out}
+use Rattle.std.specs.Prelude.{Ok, Err}
+use Rattle.buffers.specs.declared.Failure.{Failure}
+use Rattle.buffers.specs.declared.Failure.TheVariants.{NoType, Full}
 use Rattle.buffers.proofs.Sources.{source_none, link_inside}
 use Rattle.buffers.proofs.Chained.{labels_sum}
 use Rattle.merge.specs.Merge.{MergesKnown}
+use Rattle.merge.specs.declared.Merger.{Merger}
 use Rattle.merge.proofs.Merging.{typed_kind, typed_differs, nothing_known, type_differ, single_letters}
 use Rattle.resolution.specs.Reached.{front, Listed, Fits, AnswerIs, Enclosed, Within, Reached, Candidate, Shifted, Mirrored, Entry, Compared, Steps, Folds, fold_behind}
 use Rattle.values.proofs.Valuing.{typed_right}
@@ -49,16 +55,16 @@ foremost = record { at = 1; label = 0; nlen = 0; nullable = false }
 
 -- where there is room, an answer at the front says which type there is
 answered : (space : Space) (w v : List ℕ) (z y : ℕ) (o : Out) (m : Option DataType) → z < space.n → y ≤ space.m → Means space w v foremost z y o m → AnswerIs space v o m
-answered space w v z y (Done d) none p q a = a
-answered space w v z y (Done d) (some t) p q a = a [] (record { long = refl; span = span_nil })
-answered space w v z y No none p q a = tt
-answered space w v z y No (some t) p q a = a
-answered space w v z y Full m p q a = ⊎_elim (λ h. omega arith) (λ h. omega arith) a
+answered space w v z y (Ok d) None p q a = a
+answered space w v z y (Ok d) (Some t) p q a = a [] (record { long = refl; span = span_nil })
+answered space w v z y (Err NoType) None p q a = tt
+answered space w v z y (Err NoType) (Some t) p q a = a
+answered space w v z y (Err Full) m p q a = ⊎_elim (λ h. omega arith) (λ h. omega arith) a
 
 pub enclosed : (space : Space) (g : Goal) (o : Out) → Passes space g o → Enclosed space o
-enclosed space g (Done d) a = a.0
-enclosed space g No a = tt
-enclosed space g Full a = tt
+enclosed space g (Ok d) a = a.0
+enclosed space g (Err NoType) a = tt
+enclosed space g (Err Full) a = tt
 
 -- the candidate was moved, then something was written in the second half
 pub shifted_within : {space : Space} {w v u : List ℕ} {at label : ℕ} {d : Spot} → Room w space → Shifted space w v d → Kept space v u at label → Within space w u
@@ -69,17 +75,28 @@ shifted_within room a k =
     }
 
 -- two types that were compared, and two of which nothing is known
-pub compared : {space : Space} {s : List ℕ} {link other d : ℕ} → DifferTypes s space.n link s space.n other true d → Compared d true space (Typed space s other) s link
-compared f = record { is = λ x c a b h. sym (typed_differs true f a b) }
+pub compared : {space : Space} {s : List ℕ} {link other d : ℕ} → DifferTypes s space.n link s space.n other true d → Compared (Some d) true space (Typed space s other) s link
+compared f = record { is = λ x c a b i h. sym (typed_differs true f a b) ∙ same_Some _ i h }
 
-pub not_compared : {named : Bool} {space : Space} {Is : DataType → Type 0} {s : List ℕ} {link : ℕ} → Compared 1 named space Is s link
-not_compared {named} = record { is = λ x c a k. nothing_known named x c a }
+pub not_compared : {named : Bool} {space : Space} {Is : DataType → Type 0} {s : List ℕ} {link : ℕ} → Compared None named space Is s link
+not_compared {named} = record { is = λ x c a k. nothing_known named _ x c }
+
+-- a merge, by what it is asked with
+pub merged : {m : Merger} {space : Space} {question : Question} {mask left : ℕ} {known : Option ℕ} {l r : ℕ} {swap : Bool} {sheet : Bor (List ℕ)} {w v : List ℕ} {g : Goal} {o : Out}
+    → m ≡ record { sheet = sheet; space = space; question = question; mask = mask }
+    → MergesKnown known (is_list_question (asked m.question)) (coercion (rules_of m.question m.mask)) m.space left swap m.sheet.now w v l r g o
+    → MergesKnown known (is_list_question (asked question)) (coercion (rules_of question mask)) space left swap sheet.now w v l r g o
+merged {left = left} {known} {l} {r} {swap} {w = w} {v} {g} {o} e =
+    subst (λ (m : Merger). MergesKnown known (is_list_question (asked m.question)) (coercion (rules_of m.question m.mask)) m.space left swap m.sheet.now w v l r g o) e
 
 -- the candidate was moved, then merged
-pub stepped : {A : DataType → DataType → Option DataType} (space : Space) {s w v u : List ℕ} {link known : ℕ} {d : Spot} (o : Out) → Room w space → Inside space d
-    → Compared known true space (Candidate space w d) s link → Shifted space w v d → MergesKnown known true A space (2 * space.n) false s v u link 1 foremost o
-    → Steps A space (Candidate space w d) s w u link o
-stepped {A} space {w = w} {v} {u} {d = d} o room inside i a m =
+pub stepped : (space : Space) {sheet : Bor (List ℕ)} {w v u : List ℕ} {mask link : ℕ} {known : Option ℕ} {d : Spot} (o : Out) → Room w space → Inside space d
+    → Compared known true space (Candidate space w d) sheet.now link → Shifted space w v d → {k : Merger} → k ≡ record { sheet = sheet; space = space; question = Question.List; mask = mask }
+    → MergesKnown known (is_list_question (asked k.question)) (coercion (rules_of k.question k.mask)) k.space (2 * space.n) false k.sheet.now v u link 1 foremost o
+    → Steps (coercion (rules_of Question.List mask)) space (Candidate space w d) sheet.now w u link o
+stepped space {w = w} {v} {u} {mask} {d = d} o room inside i a e told =
+    let m = merged e told in
+    let A = coercion (rules_of Question.List mask) in
     record {
       within = shifted_within room a m.writes.kept;
       inside = enclosed space foremost o m.writes.passes;
@@ -90,10 +107,15 @@ stepped {A} space {w = w} {v} {u} {d = d} o room inside i a m =
     }
 
 -- the sheet was laid in the first half, then two of its types were merged
-pub met : {A : DataType → DataType → Option DataType} (space : Space) {s w v u : List ℕ} {link other known : ℕ} {named : Bool} (o : Out) → Room w space
-    → Compared known named space (Typed space s other) s link → Mirrored space s w v → MergesKnown known named A space (2 * space.n) false s v u link other foremost o
-    → Steps A space (Typed space s other) s w u link o
-met {A} space {s} {w} {v} {u} o room i a m =
+pub met : (space : Space) {sheet : Bor (List ℕ)} {w v u : List ℕ} {question : Question} {mask link other : ℕ} {known : Option ℕ} (o : Out) → Room w space
+    → Compared known (is_list_question (asked question)) space (Typed space sheet.now other) sheet.now link → Mirrored space sheet.now w v
+    → {k : Merger} → k ≡ record { sheet = sheet; space = space; question = question; mask = mask }
+    → MergesKnown known (is_list_question (asked k.question)) (coercion (rules_of k.question k.mask)) k.space (2 * space.n) false k.sheet.now v u link other foremost o
+    → Steps (coercion (rules_of question mask)) space (Typed space sheet.now other) sheet.now w u link o
+met space {sheet} {w} {v} {u} {question} {mask} o room i a e told =
+    let m = merged e told in
+    let A = coercion (rules_of question mask) in
+    let s = sheet.now in
     record {
       within =
           record {
@@ -111,9 +133,9 @@ within_self w = record { long = refl; above = λ j h. refl }
 
 -- the common type is the candidate itself
 pub steps_kept : {A : DataType → DataType → Option DataType} {space : Space} {s w : List ℕ} {link : ℕ} {d : Spot} → Inside space d
-    → ((x c : DataType) → Typed space s link x → Candidate space w d c → A x c ≡ some c) → Steps A space (Candidate space w d) s w w link (Done d)
+    → ((x c : DataType) → Typed space s link x → Candidate space w d c → A x c ≡ Some c) → Steps A space (Candidate space w d) s w w link (Ok d)
 steps_kept {space = space} {w = w} {d = d} inside f =
-    record { within = within_self w; inside = inside; means = λ x c t k h l. subst (AnswerIs space w (Done d)) (sym (f x c t k)) k.wrote }
+    record { within = within_self w; inside = inside; means = λ x c t k h l. subst (AnswerIs space w (Ok d)) (sym (f x c t k)) k.wrote }
 
 pub within_trans : {space : Space} {w v u : List ℕ} → Within space w v → Within space v u → Within space w u
 within_trans a b = record { long = b.long ∙ a.long; above = λ j h. b.above j h ∙ a.above j h }
@@ -160,7 +182,7 @@ module _ {space : Space} {records bytes : ℕ} (name : List ℕ) (nullable : Boo
 
 -- the common type of a listed type and a candidate is the next candidate
 module _ (rules : Rules) {space : Space} {s : List ℕ} {link : ℕ} {x c : DataType} (t : DataType) (a : Typed space s link x) (k : TypeRight c)
-    (q : coercion rules x c ≡ some t) where
+    (q : coercion rules x c ≡ Some t) where
   next_candidate : {v : List ℕ} {e : Spot} → Wrote space v front e (single t) → Candidate space v e t
   next_candidate b = let r = coercion_right rules x c t (typed_right x a) k q in record { wrote = b; right = r.0; differ = r.1 }
 
@@ -172,9 +194,9 @@ module _ (rules : Rules) {space : Space} {s : List ℕ} {link : ℕ} {x c : Data
       }
 
 -- what the fold of the types that are left says is what the fold of all of them says
-abbrev pub FoldsOn : (DataType → List DataType → Option DataType) → Space → List ℕ → List ℕ → ℕ → ℕ → Spot → List ℕ → ℕ → ℕ → Spot → Type 0
-FoldsOn fold space s w₀ floor link d w last at e =
-    (v : List ℕ) (o : Out) → Folds fold space (Candidate space w e) s w v last at o → Folds fold space (Candidate space w₀ d) s w₀ v floor link o
+abbrev pub FoldsOn : (DataType → List DataType → Option DataType) → Space → List ℕ → (DataType → Type 0) → List ℕ → ℕ → ℕ → (DataType → Type 0) → List ℕ → ℕ → ℕ → Type 0
+FoldsOn fold space s Was w₀ floor link Is w last at =
+    (v : List ℕ) (o : Out) → Folds fold space Is s w v last at o → Folds fold space Was s w₀ v floor link o
 
 -- a candidate is a type that a list may have
 pub candidate_right : {space : Space} {w : List ℕ} {d : Spot} (c : DataType) → Candidate space w d c → TypeRight c
@@ -190,22 +212,24 @@ pub steps_as : {A : DataType → DataType → Option DataType} {space : Space} {
     → Steps A space Was s w v link o → Steps A space Is s w v link o
 steps_as f m = record { within = m.within; inside = m.inside; means = λ x c t k h l. m.means x c t (f c k) h l }
 
-stops : (rules : Rules) (space : Space) (v : List ℕ) (ts : List DataType) (m : Option DataType) → AnswerIs space v No m → AnswerIs space v No (and_then m (λ t. fold_from rules t ts))
-stops rules space v ts none a = tt
-stops rules space v ts (some t) a = absurd a
+stops : (rules : Rules) (space : Space) (v : List ℕ) (ts : List DataType) (e : Failure) (m : Option DataType) → AnswerIs space v (Err e) m
+    → AnswerIs space v (Err e) (and_then m (λ t. fold_from rules t ts))
+stops rules space v ts NoType None a = tt
+stops rules space v ts NoType (Some t) a = absurd a
+stops rules space v ts Full m a = absurd a
 
 -- no type is left
 module _ (rules : Rules) (space : Space) {s w : List ℕ} {floor link : ℕ} {d : Spot} where
-  pub folds_end : link ≤ floor → Folds (fold_from rules) space (Candidate space w d) s w w floor link (Done d)
+  pub folds_end : link ≤ floor → Folds (fold_from rules) space (Candidate space w d) s w w floor link (Ok d)
   unfolding fold_from types_of
   folds_end h = record { within = within_self w; means = λ c types k a f. go c types k a }
     where
-      go : (c : DataType) (types : Fields) → Candidate space w d c → Listed space s floor link types → AnswerIs space w (Done d) (fold_from rules c (types_of types))
-      go c types k a = subst (λ (t : Fields). AnswerIs space w (Done d) (fold_from rules c (types_of t))) (sym (source_none h a.held.source)) k.wrote
+      go : (c : DataType) (types : Fields) → Candidate space w d c → Listed space s floor link types → AnswerIs space w (Ok d) (fold_from rules c (types_of types))
+      go c types k a = subst (λ (t : Fields). AnswerIs space w (Ok d) (fold_from rules c (types_of t))) (sym (source_none h a.held.source)) k.wrote
 
 module _ (rules : Rules) (space : Space) (Is : DataType → Type 0) {s w : List ℕ} {floor link : ℕ} where
   -- a link that leads nowhere
-  pub folds_lost : floor < link → space.n ≤ link → Folds (fold_from rules) space Is s w w floor link No
+  pub folds_lost : floor < link → space.n ≤ link → Folds (fold_from rules) space Is s w w floor link (Err NoType)
   folds_lost h g = record { within = within_self w; means = λ c types k a f. absurd (unlisted types h g a) }
 
   module _ (past : floor < link) (h : Head) (e : h ≡ head_at s link) where
@@ -227,7 +251,7 @@ module _ (rules : Rules) (space : Space) (Is : DataType → Type 0) {s w : List 
     folds_null o n m = folds_past o (λ x c a k ts. rw (eq-eqb x.shape.kind 1 (sym (typed_kind h e a) ∙ n)) refl) m
 
     -- the common type is the candidate itself
-    pub folds_kept : {v : List ℕ} (o : Out) → (h.kind ≡ 1 → ⊥) → ((x c : DataType) → Typed space s link x → Is c → coercion rules x c ≡ some c)
+    pub folds_kept : {v : List ℕ} (o : Out) → (h.kind ≡ 1 → ⊥) → ((x c : DataType) → Typed space s link x → Is c → coercion rules x c ≡ Some c)
         → Folds (fold_from rules) space Is s w v link h.next o → Folds (fold_from rules) space Is s w v floor link o
     unfolding fold_from
     folds_kept o n same m = folds_past o (λ x c a k ts. rw (ne_eqb x.shape.kind 1 (λ q. n (typed_kind h e a ∙ q)), same x c a k) refl) m
@@ -240,16 +264,16 @@ module _ (rules : Rules) (space : Space) (Is : DataType → Type 0) {s w : List 
           m.means (type_of shape parts) c (listed_typed a) k (omega (arith, fits_few name nullable shape parts rest f)) (omega (arith, fits_short name nullable shape parts rest f))
 
       -- the candidate gives way to the next
-      pub folds_on : {u : List ℕ} {d' : Spot} → ((c : DataType) → Is c → TypeRight c) → (o : Out) → Steps (coercion rules) space Is s w v link (Done d')
+      pub folds_on : {u : List ℕ} {d' : Spot} → ((c : DataType) → Is c → TypeRight c) → (o : Out) → Steps (coercion rules) space Is s w v link (Ok d')
           → Folds (fold_from rules) space (Candidate space v d') s v u link h.next o → Folds (fold_from rules) space Is s w u floor link o
       unfolding fold_from types_of
       folds_on {u} {d'} right o m g = record { within = within_trans m.within g.within; means = go }
         where
           more : (c x : DataType) (rest : Fields) → TypeRight c → Typed space s link x → Listed space s link h.next rest → size c + (size x + count rest) < space.n
-              → letters c + (letters x + length (labels rest)) ≤ space.m → (r : Option DataType) → coercion rules x c ≡ r → AnswerIs space v (Done d') r
+              → letters c + (letters x + length (labels rest)) ≤ space.m → (r : Option DataType) → coercion rules x c ≡ r → AnswerIs space v (Ok d') r
               → AnswerIs space u o (and_then r (λ t. fold_from rules t (types_of rest)))
-          more c x rest k a b p q none i z = absurd z
-          more c x rest k a b p q (some t) i z = g.means t rest (next_candidate rules t a k i z) b (next_fits rules t a k i rest p q)
+          more c x rest k a b p q None i z = absurd z
+          more c x rest k a b p q (Some t) i z = g.means t rest (next_candidate rules t a k i z) b (next_fits rules t a k i rest p q)
 
           go : (c : DataType) (types : Fields) → Is c → Listed space s floor link types → Fits space (size c) (letters c) types → AnswerIs space u o (fold_from rules c (types_of types))
           go c end k a f = absurd (some_listed past a)
@@ -258,24 +282,16 @@ module _ (rules : Rules) (space : Space) (Is : DataType → Type 0) {s w : List 
               (more c (type_of shape parts) rest (right c k) (listed_typed a) (listed_next a h e) (fits_few name nullable shape parts rest f) (fits_short name nullable shape parts rest f)
               (coercion rules (type_of shape parts) c) refl (first m c name nullable shape parts rest k a f))
 
-      -- there is no common type
-      pub folds_no : Steps (coercion rules) space Is s w v link No → Folds (fold_from rules) space Is s w v floor link No
+      -- there is none
+      pub folds_failed : (z : Failure) → Steps (coercion rules) space Is s w v link (Err z) → Folds (fold_from rules) space Is s w v floor link (Err z)
       unfolding fold_from types_of
-      folds_no m = record { within = m.within; means = go }
+      folds_failed z m = record { within = m.within; means = go }
         where
-          go : (c : DataType) (types : Fields) → Is c → Listed space s floor link types → Fits space (size c) (letters c) types → AnswerIs space v No (fold_from rules c (types_of types))
+          go : (c : DataType) (types : Fields) → Is c → Listed space s floor link types → Fits space (size c) (letters c) types → AnswerIs space v (Err z) (fold_from rules c (types_of types))
           go c end k a f = absurd (some_listed past a)
           go c (field name nullable shape parts rest) k a f =
               rw (ne_eqb shape.kind 1 (λ q. n (typed_kind h e (listed_typed a) ∙ q)))
-              (stops rules space v (types_of rest) (coercion rules (type_of shape parts) c) (first m c name nullable shape parts rest k a f))
-
-      -- there is always room
-      pub folds_full : Steps (coercion rules) space Is s w v link Full → Folds (fold_from rules) space Is s w v floor link No
-      folds_full m = record { within = m.within; means = go }
-        where
-          go : (c : DataType) (types : Fields) → Is c → Listed space s floor link types → Fits space (size c) (letters c) types → AnswerIs space v No (fold_from rules c (types_of types))
-          go c end k a f = absurd (some_listed past a)
-          go c (field name nullable shape parts rest) k a f = absurd (first m c name nullable shape parts rest k a f)
+              (stops rules space v (types_of rest) z (coercion rules (type_of shape parts) c) (first m c name nullable shape parts rest k a f))
 
 abbrev name_length : Fields → ℕ
 name_length end = 0
@@ -285,28 +301,28 @@ name_length (field name nullable shape parts rest) = length name
 module _ {space : Space} {s w v : List ℕ} {floor link : ℕ} where
   copied : (o : Out) (name : List ℕ) (nullable : Bool) (shape : Shape) (parts rest : Fields) → CopiedField space s w v link front o
       → Listed space s floor link (field name nullable shape parts rest) → size (type_of shape parts) < space.n → letters (type_of shape parts) ≤ space.m
-      → AnswerIs space v o (some (type_of shape parts))
+      → AnswerIs space v o (Some (type_of shape parts))
   copied o name nullable shape parts rest m a few short = go o (m.means name nullable shape parts rest (listed_chain a))
     where
-      go : (o : Out) → ChainIs space v front (1 + count parts) (length name + letters (type_of shape parts)) o (some (field name nullable shape parts end)) → AnswerIs space v o (some (type_of shape parts))
-      go (Done d) c = subst (Wrote space v front d) (listed_plain a) c
-      go No c = c
-      go Full c = ⊎_elim (λ h. omega arith) (λ h. omega (arith, ap name_length (listed_plain a))) c
+      go : (o : Out) → ChainIs space v front (1 + count parts) (length name + letters (type_of shape parts)) o (Some (field name nullable shape parts end)) → AnswerIs space v o (Some (type_of shape parts))
+      go (Ok d) c = subst (Wrote space v front d) (listed_plain a) c
+      go (Err NoType) c = c
+      go (Err Full) c = ⊎_elim (λ h. omega arith) (λ h. omega (arith, ap name_length (listed_plain a))) c
 
 -- no answer, whatever is listed
 nothing_reached : {A : List DataType → Option DataType} (space : Space) {s w : List ℕ} {floor link : ℕ}
-    → ((types : Fields) → Listed space s floor link types → Fits space 0 0 types → none ≡ A (types_of types)) → Reached A space s w w floor link No
-nothing_reached {A} space {w = w} f = record { within = within_self w; means = λ types a b. subst (AnswerIs space w No) (f types a b) tt }
+    → ((types : Fields) → Listed space s floor link types → Fits space 0 0 types → None ≡ A (types_of types)) → Reached A space s w w floor link (Err NoType)
+nothing_reached {A} space {w = w} f = record { within = within_self w; means = λ types a b. subst (AnswerIs space w (Err NoType)) (f types a b) tt }
 
 pub reached_as : {A : List DataType → Option DataType} {space : Space} {s w w₀ v : List ℕ} {floor link : ℕ} {o : Out} → w ≡ w₀ → Reached A space s w v floor link o
     → Reached A space s w₀ v floor link o
 reached_as {A} {space} {s} {v = v} {floor} {link} {o} e = subst (λ (w : List ℕ). Reached A space s w v floor link o) e
 
-pub reached_empty : {A : List DataType → Option DataType} (space : Space) {s w : List ℕ} {floor link : ℕ} → none ≡ A [] → link ≤ floor → Reached A space s w w floor link No
+pub reached_empty : {A : List DataType → Option DataType} (space : Space) {s w : List ℕ} {floor link : ℕ} → None ≡ A [] → link ≤ floor → Reached A space s w w floor link (Err NoType)
 unfolding types_of
 reached_empty {A} space e h = nothing_reached space (λ types a f. e ∙ ap (λ (t : Fields). A (types_of t)) (sym (source_none h a.held.source)))
 
-pub reached_lost : {A : List DataType → Option DataType} (space : Space) {s w : List ℕ} {floor link : ℕ} → floor < link → space.n ≤ link → Reached A space s w w floor link No
+pub reached_lost : {A : List DataType → Option DataType} (space : Space) {s w : List ℕ} {floor link : ℕ} → floor < link → space.n ≤ link → Reached A space s w w floor link (Err NoType)
 reached_lost space h g = nothing_reached space (λ types a f. absurd (unlisted types h g a))
 
 module _ (rules : Rules) (space : Space) {s w : List ℕ} {floor link : ℕ} where
@@ -371,8 +387,7 @@ folds_same mask {space} {s} {first = first} past h e same z o m =
 abbrev pub SameUpTo : ℕ → Space → List ℕ → List ℕ → ℕ → ℕ → ℕ → ℕ → Type 0
 SameUpTo mask space s w first next last at =
     ((t : DataType) → Typed space s first t → Onward (all_equal t) (all_equal t) space s first next last at)
-    × ((v : List ℕ) (o : Out) → Folds (fold_behind (rules_of Question.List mask)) space (Entry space s first) s w v last at o
-    → Folds (fold_behind (rules_of Question.List mask)) space (Entry space s first) s w v first next o)
+    × FoldsOn (fold_behind (rules_of Question.List mask)) space s (Entry space s first) w first next (Entry space s first) w last at
 
 -- a listed type with no type behind it is the answer
 pub folds_alone : (rules : Rules) (space : Space) {s w v : List ℕ} {first floor link : ℕ} (o : Out) → Room w space → link ≤ floor → CopiedField space s w v first front o
@@ -389,22 +404,22 @@ folds_alone rules space {s} {w} {v} {first} {floor} {link} o room h m =
 
 -- the one pair
 module _ (rules : Rules) (space : Space) {s : List ℕ} {link : ℕ} (past : 0 < link) (h : Head) (e : h ≡ head_at s link) where
-  pub pair_one : {w : List ℕ} → h.next ≡ 0 → Reached (pair_answer rules) space s w w 0 link No
+  pub pair_one : {w : List ℕ} → h.next ≡ 0 → Reached (pair_answer rules) space s w w 0 link (Err NoType)
   unfolding types_of
   pair_one z = nothing_reached space go
     where
-      go : (types : Fields) → Listed space s 0 link types → Fits space 0 0 types → none ≡ pair_answer rules (types_of types)
+      go : (types : Fields) → Listed space s 0 link types → Fits space 0 0 types → None ≡ pair_answer rules (types_of types)
       go end a f = absurd (some_listed past a)
       go (field name nullable shape parts end) a f = refl
       go (field name nullable shape parts (field name₂ nullable₂ shape₂ parts₂ rest)) a f =
           absurd (omega (arith, (listed_next a h e).held.source.leads.is, (listed_next a h e).held.source.leads.above))
 
   module _ (more : h.next ≡ 0 → ⊥) (h₂ : Head) (e₂ : h₂ ≡ head_at s h.next) where
-    pub pair_many : {w : List ℕ} → (h₂.next ≡ 0 → ⊥) → Reached (pair_answer rules) space s w w 0 link No
+    pub pair_many : {w : List ℕ} → (h₂.next ≡ 0 → ⊥) → Reached (pair_answer rules) space s w w 0 link (Err NoType)
     unfolding types_of
     pair_many z = nothing_reached space go
       where
-        go : (types : Fields) → Listed space s 0 link types → Fits space 0 0 types → none ≡ pair_answer rules (types_of types)
+        go : (types : Fields) → Listed space s 0 link types → Fits space 0 0 types → None ≡ pair_answer rules (types_of types)
         go end a f = absurd (some_listed past a)
         go (field name nullable shape parts end) a f = refl
         go (field name nullable shape parts (field name₂ nullable₂ shape₂ parts₂ end)) a f = absurd (z (listed_next (listed_next a h e) h₂ e₂).held.source.leads.is)
@@ -438,25 +453,25 @@ module _ (rules : Rules) (space : Space) {s : List ℕ} {link : ℕ} (past : 0 <
 
 -- `type_union_resolution` by its two tests
 by_tests : (rules : Rules) (t : DataType) (ts : List DataType) (same fit : Bool) → same ≡ all_equal t ts → fit ≡ categories_fit (t ∷ ts)
-    → type_union_resolution rules (t ∷ ts) ≡ cond same (some t) (cond fit (fold_types rules (t ∷ ts)) none)
+    → type_union_resolution rules (t ∷ ts) ≡ cond same (Some t) (cond fit (fold_types rules (t ∷ ts)) None)
 unfolding type_union_resolution
 by_tests rules t ts same fit p q =
-    ap (λ (b : Bool). cond b (some t) rest) (sym p)
-    ∙ ap (cond same (some t)) (tests (has_category notSupported (t ∷ ts)) (between 0 1 (categories_in (t ∷ ts))) ∙ ap (λ (b : Bool). cond b (fold_types rules (t ∷ ts)) none) (sym q))
+    ap (λ (b : Bool). cond b (Some t) rest) (sym p)
+    ∙ ap (cond same (Some t)) (tests (has_category notSupported (t ∷ ts)) (between 0 1 (categories_in (t ∷ ts))) ∙ ap (λ (b : Bool). cond b (fold_types rules (t ∷ ts)) None) (sym q))
   where
     rest : Option DataType
-    rest = cond (has_category notSupported (t ∷ ts)) none (cond (between 0 1 (categories_in (t ∷ ts))) (fold_types rules (t ∷ ts)) none)
+    rest = cond (has_category notSupported (t ∷ ts)) None (cond (between 0 1 (categories_in (t ∷ ts))) (fold_types rules (t ∷ ts)) None)
 
-    tests : (a b : Bool) → cond a none (cond b (fold_types rules (t ∷ ts)) none) ≡ cond (cond a false b) (fold_types rules (t ∷ ts)) none
+    tests : (a b : Bool) → cond a None (cond b (fold_types rules (t ∷ ts)) None) ≡ cond (cond a false b) (fold_types rules (t ∷ ts)) None
     tests true b = refl
     tests false b = refl
 
 module _ (rules : Rules) (space : Space) {s : List ℕ} {link : ℕ} (past : 0 < link) (h : Head) (e : h ≡ head_at s link) where
   -- no types are listed
-  pub union_lost : {w : List ℕ} → ((b : Bool) (t : DataType) → Typed space s link t → Tells (all_equal t) space s link h.next b) → Reached (type_union_resolution rules) space s w w 0 link No
+  pub union_lost : {w : List ℕ} → ((b : Bool) (t : DataType) → Typed space s link t → Tells (all_equal t) space s link h.next b) → Reached (type_union_resolution rules) space s w w 0 link (Err NoType)
   union_lost told = nothing_reached space go
     where
-      go : (types : Fields) → Listed space s 0 link types → Fits space 0 0 types → none ≡ type_union_resolution rules (types_of types)
+      go : (types : Fields) → Listed space s 0 link types → Fits space 0 0 types → None ≡ type_union_resolution rules (types_of types)
       go end a f = absurd (some_listed past a)
       go (field name nullable shape parts rest) a f =
           let t = type_of shape parts in
@@ -477,7 +492,7 @@ module _ (rules : Rules) (space : Space) {s : List ℕ} {link : ℕ} (past : 0 <
           (copied o name nullable shape parts rest m a (omega (arith, fits_few name nullable shape parts rest f)) (omega (arith, fits_short name nullable shape parts rest f)))
 
   module _ (differ : (t : DataType) → Typed space s link t → Tells (all_equal t) space s link h.next false) (fit : Bool) (fits : Tells categories_fit space s 0 link fit) where
-    told : (types : Fields) → Listed space s 0 link types → type_union_resolution rules (types_of types) ≡ cond fit (fold_types rules (types_of types)) none
+    told : (types : Fields) → Listed space s 0 link types → type_union_resolution rules (types_of types) ≡ cond fit (fold_types rules (types_of types)) None
     unfolding types_of
     told end a = absurd (some_listed past a)
     told (field name nullable shape parts rest) a =
@@ -489,29 +504,18 @@ module _ (rules : Rules) (space : Space) {s : List ℕ} {link : ℕ} (past : 0 <
         record {
           within = m.within;
           means =
-              λ types a f. subst (AnswerIs space v o) (sym (told types a ∙ ap (λ (b : Bool). cond b (fold_types rules (types_of types)) none) q)) (m.means types a f);
+              λ types a f. subst (AnswerIs space v o) (sym (told types a ∙ ap (λ (b : Bool). cond b (fold_types rules (types_of types)) None) q)) (m.means types a f);
         }
 
-    pub union_none : {w : List ℕ} → fit ≡ false → Reached (type_union_resolution rules) space s w w 0 link No
-    union_none q = nothing_reached space (λ types a f. sym (told types a ∙ ap (λ (b : Bool). cond b (fold_types rules (types_of types)) none) q))
+    pub union_none : {w : List ℕ} → fit ≡ false → Reached (type_union_resolution rules) space s w w 0 link (Err NoType)
+    union_none q = nothing_reached space (λ types a f. sym (told types a ∙ ap (λ (b : Bool). cond b (fold_types rules (types_of types)) None) q))
 
--- the answer to a list, and to two types
-list_answer : (q : Question) (mask : ℕ) → is_list_question (asked q) ≡ true → type_union_resolution (rules_of Question.List mask) ≡ answer_of (asked q) (rules_of q mask)
-list_answer Question.List mask e = refl
-list_answer Question.Union mask e = never e
-list_answer Question.Compare mask e = never e
-
-pair_answer_lem : (q : Question) (mask : ℕ) → is_list_question (asked q) ≡ false → pair_answer (rules_of q mask) ≡ answer_of (asked q) (rules_of q mask)
-pair_answer_lem Question.List mask e = never (sym e)
-pair_answer_lem Question.Union mask e = refl
-pair_answer_lem Question.Compare mask e = refl
-
-module _ (q : Question) (mask : ℕ) {b : Bool} (asks : b ≡ is_list_question (asked q)) {space : Space} {s w v : List ℕ} {link : ℕ} (o : Out) where
-  answers_as : {A : List DataType → Option DataType} → A ≡ answer_of (asked q) (rules_of q mask) → Reached A space s w v 0 link o → Reached (answer_of (asked q) (rules_of q mask)) space s w v 0 link o
-  answers_as e = subst (λ (a : List DataType → Option DataType). Reached a space s w v 0 link o) e
-
-  pub answers_list : b ≡ true → Reached (type_union_resolution (rules_of Question.List mask)) space s w v 0 link o → Reached (answer_of (asked q) (rules_of q mask)) space s w v 0 link o
-  answers_list t = answers_as (list_answer q mask (sym asks ∙ t))
-
-  pub answers_pair : b ≡ false → Reached (pair_answer (rules_of q mask)) space s w v 0 link o → Reached (answer_of (asked q) (rules_of q mask)) space s w v 0 link o
-  answers_pair t = answers_as (pair_answer_lem q mask (sym asks ∙ t))
+-- no types are listed in a sheet of one record
+pub none_listed : (q : Question) (mask : ℕ) (space : Space) {s w : List ℕ} → space.n ≤ 1 → Reached (answer_of (asked q) (rules_of q mask)) space s w w 0 (start space.n) (Err NoType)
+unfolding type_union_resolution
+none_listed q mask space {s} {w} h = rw (le-ltb 1 space.n h) (reached_empty space (none q) (omega arith))
+  where
+    none : (q : Question) → None ≡ answer_of (asked q) (rules_of q mask) []
+    none Question.List = refl
+    none Question.Union = refl
+    none Question.Compare = refl

@@ -2,7 +2,7 @@
 use mathlib.Core.Path.{◌≡◌, refl, ap, sym, subst, ◌∙◌}
 use mathlib.Core.Bool.{Bool, true, false, ◌||◌}
 use mathlib.Core.List.{List, []}
-use mathlib.Core.Option.{Option, none, some}
+use Rattle.std.specs.Prelude.{Option, None, Some}
 use Prim.Native.Nat.{ℕ, ◌+◌, ◌<◌, ◌≤◌}
 use native.Mathlib.Decide.{ℕ_discrete}
 use native.Mathlib.Omega.{arith}
@@ -21,19 +21,18 @@ use Rattle.buffers.specs.Region.{Room, Wrote}
 use Rattle.buffers.specs.Goal.{letters, type_of, Laid}
 use Rattle.buffers.specs.Typed.{Typed}
 use Rattle.buffers.specs.declared.Space.{Space}
-use Rattle.buffers.specs.declared.Spot.{Spot}
-use Rattle.buffers.specs.declared.Out.{Out}
-use Rattle.buffers.specs.declared.Out.TheVariants.{Done, No}
+use Rattle.buffers.specs.Out.{Out}
+use Rattle.std.specs.Prelude.{Err}
+use Rattle.buffers.specs.declared.Failure.TheVariants.{NoType}
 use Rattle.merge.proofs.Merging.{typed_kind}
 use Rattle.values.specs.declared.value.Leaf.{Leaf}
-use Rattle.values.specs.declared.value.Joint.{Joint}
 use Rattle.values.specs.Value.{is_plain, leaf_of, leaf_type, Valued, JointIs, Joins}
 use Rattle.values.specs.Taken.{is_bare, is_taken}
 use Rattle.values.proofs.Valuing.{valued_right, plain_valued}
 use Rattle.values.proofs.Taking.{bare_is, Absorbs}
-use Rattle.resolution.specs.Reached.{front, Listed, Fits, AnswerIs, Candidate, Steps, Folds, Fronted, JointLaid}
+use Rattle.resolution.specs.Reached.{front, Listed, Fits, AnswerIs, Steps, Folds, Fronted, JointLaid}
 use Rattle.resolution.proofs.Listing.{listed_typed, listed_next}
-use Rattle.resolution.proofs.Folding.{foremost, within_self, within_trans, within_kept, some_listed, fits_few, fits_short, next_fits, folds_null}
+use Rattle.resolution.proofs.Folding.{foremost, within_self, within_kept, some_listed, fits_few, fits_short, next_fits, folds_null}
 
 -- a value that was written as a candidate
 pub fronted : (space : Space) (w v : List ℕ) (x : Leaf) → Room w space → 1 < space.n → Laid space w v foremost (leaf_type x).shape 0 → Fronted space w v x (record { at = 2; label = 0 })
@@ -54,23 +53,8 @@ fronted space w v x room few l =
     wrote : Wrote space v front (record { at = 2; label = 0 }) (single (leaf_type x))
     wrote = record { records = refl; letters = refl; holds = (l.stands [] (record { long = refl; span = span_nil }), (tt, tt)) }
 
-module _ {space : Space} {w : List ℕ} {joint : Joint} where
-  pub joint_laid : {v : List ℕ} {x : Leaf} {d : Spot} → joint ≡ Joint.Of x → Fronted space w v x d → JointLaid space w v joint (Done d)
-  joint_laid {v} {x} {d} e f = record { within = f.within; inside = f.inside; means = λ m a. go m (subst (λ (j : Joint). JointIs Valued j m) e a) }
-    where
-      go : (m : Option DataType) → JointIs Valued (Joint.Of x) m → AnswerIs space v (Done d) m
-      go none a = a
-      go (some t) a = (f.candidate t a).wrote
-
-  pub joint_none : joint ≡ Joint.Nothing → JointLaid space w w joint No
-  joint_none e = record { within = within_self w; inside = tt; means = λ m a. go m (subst (λ (j : Joint). JointIs Valued j m) e a) }
-    where
-      go : (m : Option DataType) → JointIs Valued Joint.Nothing m → AnswerIs space w No m
-      go none a = tt
-      go (some t) a = a
-
 -- two plain types that were joined, and their common type written
-pub steps_joined : {A : DataType → DataType → Option DataType} (space : Space) {s w v : List ℕ} {link other : ℕ} (x y : Head) {lx ly : Leaf} (o : Out) {joint : Joint} → x ≡ head_at s link → y ≡ head_at s other
+pub steps_joined : {A : DataType → DataType → Option DataType} (space : Space) {s w v : List ℕ} {link other : ℕ} (x y : Head) {lx ly : Leaf} (o : Out) {joint : Option Leaf} → x ≡ head_at s link → y ≡ head_at s other
     → lx ≡ leaf_of x → ly ≡ leaf_of y
     → is_plain x ≡ true → is_plain y ≡ true → Joins A lx ly joint → JointLaid space w v joint o → Steps A space (Typed space s other) s w v link o
 steps_joined {A} space x y o ex ey el er px py j l =
@@ -86,13 +70,9 @@ module _ (rules : Rules) {space : Space} {s : List ℕ} {floor link : ℕ} where
       → Folds (fold_from rules) space Is s w v floor link o
   folds_as f m = record { within = m.within; means = λ c types k a b. m.means c types (f c k) a b }
 
-  pub folds_written : {w v u : List ℕ} {x : Leaf} {d : Spot} {o : Out} → Fronted space w v x d → Folds (fold_from rules) space (Candidate space v d) s v u floor link o
-      → Folds (fold_from rules) space (Valued x) s w u floor link o
-  folds_written f m = record { within = within_trans f.within m.within; means = λ c types k a b. m.means c types (f.candidate c k) a b }
-
   -- the next type is plain too
   module _ (past : floor < link) (h : Head) (e : h ≡ head_at s link) (n : h.kind ≡ 1 → ⊥) (p : is_plain h ≡ true) {new y : Leaf} (ex : new ≡ leaf_of h) where
-    next : (v : List ℕ) (o : Out) (joint : Joint) → Joins (coercion rules) new y joint
+    next : (v : List ℕ) (o : Out) (joint : Option Leaf) → Joins (coercion rules) new y joint
         → ((c x : DataType) (rest : Fields) → TypeRight c → Typed space s link x → Listed space s link h.next rest → size c + (size x + count rest) < space.n
         → letters c + (letters x + length (labels rest)) ≤ space.m → (r : Option DataType) → coercion rules x c ≡ r → JointIs Valued joint r
         → AnswerIs space v o (and_then r (λ t. fold_from rules t (types_of rest))))
@@ -104,24 +84,24 @@ module _ (rules : Rules) {space : Space} {s : List ℕ} {floor link : ℕ} where
         (more c (type_of shape parts) rest (valued_right k) (listed_typed a) (listed_next a h e) (fits_few name nullable shape parts rest f) (fits_short name nullable shape parts rest f)
         (coercion rules (type_of shape parts) c) refl (j.means (type_of shape parts) c (plain_valued h p ex e (listed_typed a)) k))
 
-    pub folds_joined : {w v : List ℕ} {c' : Leaf} (o : Out) → Joins (coercion rules) new y (Joint.Of c') → Folds (fold_from rules) space (Valued c') s w v link h.next o
+    pub folds_joined : {w v : List ℕ} {c' : Leaf} (o : Out) → Joins (coercion rules) new y (Some c') → Folds (fold_from rules) space (Valued c') s w v link h.next o
         → Folds (fold_from rules) space (Valued y) s w v floor link o
-    folds_joined {v = v} {c'} o j g = record { within = g.within; means = next v o (Joint.Of c') j more }
+    folds_joined {v = v} {c'} o j g = record { within = g.within; means = next v o (Some c') j more }
       where
         more : (c x : DataType) (rest : Fields) → TypeRight c → Typed space s link x → Listed space s link h.next rest → size c + (size x + count rest) < space.n
-            → letters c + (letters x + length (labels rest)) ≤ space.m → (r : Option DataType) → coercion rules x c ≡ r → JointIs Valued (Joint.Of c') r
+            → letters c + (letters x + length (labels rest)) ≤ space.m → (r : Option DataType) → coercion rules x c ≡ r → JointIs Valued (Some c') r
             → AnswerIs space v o (and_then r (λ t. fold_from rules t (types_of rest)))
-        more c x rest k a b few short none i z = absurd z
-        more c x rest k a b few short (some t) i z = g.means t rest z b (next_fits rules t a k i rest few short)
+        more c x rest k a b few short None i z = absurd z
+        more c x rest k a b few short (Some t) i z = g.means t rest z b (next_fits rules t a k i rest few short)
 
-    pub folds_apart : {w : List ℕ} → Joins (coercion rules) new y Joint.Nothing → Folds (fold_from rules) space (Valued y) s w w floor link No
-    folds_apart {w} j = record { within = within_self w; means = next w No Joint.Nothing j more }
+    pub folds_apart : {w : List ℕ} → Joins (coercion rules) new y None → Folds (fold_from rules) space (Valued y) s w w floor link (Err NoType)
+    folds_apart {w} j = record { within = within_self w; means = next w (Err NoType) None j more }
       where
         more : (c x : DataType) (rest : Fields) → TypeRight c → Typed space s link x → Listed space s link h.next rest → size c + (size x + count rest) < space.n
-            → letters c + (letters x + length (labels rest)) ≤ space.m → (r : Option DataType) → coercion rules x c ≡ r → JointIs Valued Joint.Nothing r
-            → AnswerIs space w No (and_then r (λ t. fold_from rules t (types_of rest)))
-        more c x rest k a b few short none i z = tt
-        more c x rest k a b few short (some t) i z = absurd z
+            → letters c + (letters x + length (labels rest)) ≤ space.m → (r : Option DataType) → coercion rules x c ≡ r → JointIs Valued None r
+            → AnswerIs space w (Err NoType) (and_then r (λ t. fold_from rules t (types_of rest)))
+        more c x rest k a b few short None i z = tt
+        more c x rest k a b few short (Some t) i z = absurd z
 
 or_right : (a : Bool) {b : Bool} → a ≡ false → (a || b) ≡ true → b ≡ true
 or_right true e h = never (sym e)
@@ -142,7 +122,7 @@ folds_taken rules {space} {s} {floor} {link} past h e p {x} {y} ex kinds t low a
         let u = or_right (eqb x.kind 1) (ne_eqb x.kind 1 (λ z. q (sym kind ∙ z))) t in
         let b = and_fst (is_bare x) (may_become kinds x.kind) u in
         let m = and_snd (is_bare x) (may_become kinds x.kind) u in
-        folds_joined rules past h e q p ex o (subst (λ (z : Leaf). Joins (coercion rules) z y (Joint.Of y)) (sym (bare_is x b)) (a x.kind low m)) g
+        folds_joined rules past h e q p ex o (subst (λ (z : Leaf). Joins (coercion rules) z y (Some y)) (sym (bare_is x b)) (a x.kind low m)) g
 
 -- one that is not known is no Null
 pub not_null : (kinds : ℕ) (h : Head) {x : Leaf} → x ≡ leaf_of h → is_taken kinds x ≡ false → h.kind ≡ 1 → ⊥

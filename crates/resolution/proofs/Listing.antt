@@ -7,7 +7,7 @@ use native.Mathlib.Omega.{arith}
 use lib.Bits.{bit_or}
 use lib.Count.{ones, ones_in}
 use lib.Dec.{ltb, eqb, leb-zero}
-use borrow.Author.Tests.{eqb-true, ne_eqb, lt-ltb, lt-leb}
+use borrow.Author.Tests.{eqb-true, lt-ltb, lt-leb}
 use Rattle.sheet.specs.Tests.{between}
 use Rattle.sheet.specs.Types.{Shape, Fields, end, field}
 use Rattle.sheet.specs.Head.{head_at}
@@ -18,7 +18,7 @@ use Rattle.coercion.specs.Rules.{is_null}
 use Rattle.coercion.specs.Same.{equal}
 use Rattle.coercion.specs.Answers.{Category, array, boolean, numeric, dateTime, composite, unknown, notSupported, own_category, category_of, is_category, has_category, as_number, categories_in, categories_fit, all_equal}
 use Rattle.coercion.specs.Meaning.{category_bit, is_supported}
-use Rattle.rules.proofs.Cores.{Found, core_own}
+use Rattle.rules.proofs.Cores.{Found}
 use Rattle.buffers.specs.Differ.{DifferTypes}
 use Rattle.buffers.specs.Typed.{Typed}
 use Rattle.buffers.specs.declared.Space.{Space}
@@ -27,10 +27,6 @@ use Rattle.buffers.proofs.Sources.{link_inside}
 use Rattle.buffers.proofs.Chained.{held_next}
 use Rattle.merge.proofs.Merging.{typed_differs, chain_some}
 use Rattle.resolution.specs.Reached.{Listed, category_bits, seen_bits}
-
-pub unnot : (b : Bool) {c : Bool} → not b ≡ c → b ≡ not c
-unnot true e = ap not e
-unnot false e = ap not e
 
 -- the answer to a question on whatever types stand at a link past floor
 abbrev pub Tells : {A : Type 0} → (List DataType → A) → Space → List ℕ → ℕ → ℕ → A → Type 0
@@ -152,11 +148,6 @@ module _ (space : Space) (s : List ℕ) (floor link : ℕ) (past : floor < link)
 pub seen_none : (space : Space) (s : List ℕ) (floor link bits : ℕ) → link ≤ floor → Tells (seen_bits bits) space s floor link bits
 unfolding seen_bits category_bits has_category
 seen_none space s floor link bits h = tells_none (seen_bits bits) space s floor link bits h refl
-
--- a kind below the wrappers is that of a record's own
-pub own_found : (s : List ℕ) (n link : ℕ) (h : Head) → h ≡ head_at s link → h.kind < 37 → Found s n link h.kind
-own_found s n link h e q =
-    core_own s n link h e {w = false} (sym (rw (ne_eqb h.kind 37 (omega arith), ne_eqb h.kind 38 (omega arith)))) refl
 
 -- a fact of each flag, and of each five flags, by one computed test
 abbrev every : (Bool → Bool) → Bool

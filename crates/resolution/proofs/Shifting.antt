@@ -1,18 +1,17 @@
 -- Bytes that were moved, and what stands in them. Assumes nothing.
 use mathlib.Core.Path.{◌≡◌, refl, ap, sym, subst, ◌∙◌}
 use mathlib.Core.Bool.{Bool, true, false, cond}
-use mathlib.Core.List.{List, ◌++◌}
+use mathlib.Core.List.{List}
+use Rattle.std.specs.Prelude.{Option}
 use Prim.Native.Nat.{ℕ, ◌+◌, ◌*◌, ◌-◌, ◌/◌, ◌<◌, ◌≤◌}
-use native.Mathlib.Decide.{ℕ_discrete}
 use native.Mathlib.Omega.{arith}
 use borrow.Author.Tests.{ltb-true}
 use lib.Dec.{ltb}
-use lib.ListN.{length, get_or, set, take, drop, length-set, length-append, length-take, length-drop, get_or-append}
-use lib.Seq.{get_or-set_same, get_or-set_other, get_or-take, get_or-drop, get_or-append-add, length-take-le, take_all}
+use lib.ListN.{length, get_or, take, length-drop}
+use lib.Seq.{get_or-drop, take_all}
 use Rattle.sheet.specs.Tests.{between}
 use Rattle.sheet.specs.Kind.{is_kind}
 use Rattle.sheet.specs.Head.{head_at, head_from, blank}
-use Rattle.sheet.specs.Bounds.{Filled}
 use Rattle.sheet.specs.Carried.{FieldsRight}
 use Rattle.sheet.specs.declared.Head.{Head}
 use Rattle.sheet.specs.Types.{Fields, end, field, count, own_labels, labels}
@@ -28,51 +27,7 @@ use Rattle.buffers.proofs.Frames.{head_bytes}
 use Rattle.buffers.proofs.Chained.{labels_sum}
 use Rattle.buffers.proofs.Rows.{chain_typed}
 use Rattle.values.specs.Keeps.{CoreAt, CoreIf}
-use Rattle.resolution.specs.Reached.{Moved, Shifted, Candidate, Mirrored}
-
-pub moved_none : (w : List ℕ) (from to : ℕ) → Moved w w from to 0
-moved_none w from to = record { long = refl; moved = λ j h. absurd (omega arith); below = λ j h. refl; above = λ j h. refl }
-
--- one byte more
-pub moved_on : (w v : List ℕ) (from to i : ℕ) → to + i < from → from + i < length w → Moved w v from to i → Moved w (set v (to + i) (get_or v (from + i) 0)) from to (i + 1)
-moved_on w v from to i h g a =
-    record {
-      long = length-set v (to + i) (get_or v (from + i) 0) ∙ a.long;
-      moved = at;
-      below = λ j q. miss j (omega arith) ∙ a.below j q;
-      above = λ j q. miss j (omega arith) ∙ a.above j (omega arith);
-    }
-  where
-    miss : (j : ℕ) → (j ≡ to + i → ⊥) → get_or (set v (to + i) (get_or v (from + i) 0)) j 0 ≡ get_or v j 0
-    miss j q = get_or-set_other v (to + i) j (get_or v (from + i) 0) 0 q
-
-    at_of : (j : ℕ) → j < i + 1 → Dec (j ≡ i) → get_or (set v (to + i) (get_or v (from + i) 0)) (to + j) 0 ≡ get_or w (from + j) 0
-    at_of j q (yes e) =
-        ap (λ (k : ℕ). get_or (set v (to + i) (get_or v (from + i) 0)) (to + k) 0) e
-        ∙ get_or-set_same v (to + i) (get_or v (from + i) 0) 0 (omega (arith, a.long))
-        ∙ a.above (from + i) (omega arith)
-        ∙ ap (λ (k : ℕ). get_or w (from + k) 0) (sym e)
-    at_of j q (no e) = miss (to + j) (λ p. e (omega arith)) ∙ a.moved j (omega (arith, e))
-
-    at : (j : ℕ) → j < i + 1 → get_or (set v (to + i) (get_or v (from + i) 0)) (to + j) 0 ≡ get_or w (from + j) 0
-    at j q = at_of j q (ℕ_discrete j i)
-
-pub moved_all : {w v : List ℕ} {from to i len : ℕ} → i ≤ len → len ≤ i → Moved w v from to i → Moved w v from to len
-moved_all {w} {v} {from} {to} h g a = subst (Moved w v from to) (omega arith) a
-
--- the records were moved, then the labels
-pub moved_both : (space : Space) (w v u : List ℕ) (d : Spot) → Room w space → Inside space d → Moved w v space.half 0 (16 * d.at)
-    → Moved v u (space.half + 16 * space.n) (16 * space.n) d.label → Shifted space w u d
-moved_both space w v u d room inside a b =
-    record {
-      long = b.long ∙ a.long;
-      records = λ j h. b.below j (omega (arith, inside.records)) ∙ first j h;
-      letters = λ j h. b.moved j h ∙ a.above (space.half + 16 * space.n + j) (omega (arith, inside.records)) ∙ ap (λ (k : ℕ). get_or w k 0) (omega arith);
-      above = λ j h. b.above j (omega (arith, room.half, inside.letters)) ∙ a.above j (omega (arith, room.half, inside.records));
-    }
-  where
-    first : (j : ℕ) → j < 16 * d.at → get_or v j 0 ≡ get_or w (space.half + j) 0
-    first j h = ap (λ (k : ℕ). get_or v k 0) {x = j} {y = 0 + j} (omega arith) ∙ a.moved j h
+use Rattle.resolution.specs.Reached.{Shifted, Candidate, Mirrored}
 
 -- a record that has a kind lies inside
 record_inside : (s : List ℕ) (r : ℕ) (k : ℕ) → (head_at s r).kind ≡ k → is_kind k ≡ true → 16 * r + 16 ≤ length s
@@ -171,24 +126,6 @@ candidate_typed space w v d c room inside a k =
           held_shifted space w v d (single c) room inside a (omega (arith, k.wrote.records)) (omega (arith, k.wrote.letters)) (candidate_held space w d c room inside k);
     })
 
--- the sheet's bytes, put into the first half
-pub mirrored : (space : Space) (s w y : List ℕ) (r : ℕ) → space.half ≤ length w → Filled (take space.half (drop 0 s)) (take space.half w) y r → Mirrored space s w (y ++ drop space.half w)
-mirrored space s w y r h f =
-    record {
-      long = omega (arith, length-append y (drop space.half w), length-drop space.half w, long);
-      same =
-          λ j p q.
-          get_or-append y (drop space.half w) 0 j (omega (arith, long)) ∙ sym (get_or-take r y j 0 (omega (arith, f.all, length-take space.half (drop 0 s))))
-          ∙ ap (λ (l : List ℕ). get_or l j 0) f.front ∙ get_or-take space.half (drop 0 s) j 0 p;
-      above =
-          λ j p.
-          at_eq (y ++ drop space.half w) {i = j} {j = length y + (j - space.half)} (omega (arith, long)) ∙ get_or-append-add y (drop space.half w) (j - space.half) 0
-          ∙ get_or-drop space.half w (j - space.half) 0 ∙ at_eq w (omega arith);
-    }
-  where
-    long : length y ≡ space.half
-    long = f.long ∙ length-take-le space.half w h
-
 -- a type of the sheet is one of the first half
 pub mirrored_typed : (space : Space) (s w v : List ℕ) {link : ℕ} {t : DataType} → Room w space → Mirrored space s w v → Typed space s link t → Typed space v link t
 mirrored_typed space s w v {t = t} room m a =
@@ -239,8 +176,8 @@ module _ (space : Space) (w : List ℕ) where
   pub head_second : (h : Head) (r : ℕ) → h ≡ head_at second r → h ≡ head_at (region space w) r
   head_second h r e = e ∙ ap (λ (u : List ℕ). head_at u r) second_half
 
-  pub core_second : {k l : ℕ} → (CoreIf space second k → CoreAt space second 1 l) → CoreIf space (region space w) k → CoreAt space (region space w) 1 l
-  core_second {k} {l} f a = subst (λ (u : List ℕ). CoreAt space u 1 l) second_half (f (subst (λ (u : List ℕ). CoreIf space u k) (sym second_half) a))
+  pub core_second : (k : Option ℕ) {l : ℕ} → (CoreIf space second k → CoreAt space second 1 l) → CoreIf space (region space w) k → CoreAt space (region space w) 1 l
+  core_second k {l} f a = subst (λ (u : List ℕ). CoreAt space u 1 l) second_half (f (subst (λ (u : List ℕ). CoreIf space u k) (sym second_half) a))
 
   pub on_candidate : {P : DataType → DataType → Type 0} {s : List ℕ} {link k : ℕ} {d : Spot} → Room w space → Inside space d → CoreAt space (region space w) 1 k
       → (CoreAt space second 1 k → (x c : DataType) → Typed space s link x → Typed space second 1 c → P x c) → (x c : DataType) → Typed space s link x → Candidate space w d c → P x c

@@ -1,6 +1,6 @@
 -- An answer that was reached in work space, whatever types a sheet lists.
 use Rattle.std.specs.Prelude.{◌≡◌, ℕ, ◌+◌, ◌*◌, ◌<◌, ◌≤◌, Bool, true, cond, List, [], ◌∷◌, length, get_or}
-use Rattle.std.proofs.Math.Option.{Option, none, some}
+use Rattle.std.specs.Prelude.{Option, None, Some}
 use Rattle.std.specs.Int.Bits.{bit_or}
 use Rattle.sheet.specs.Types.{Fields, field, count, labels}
 use Rattle.sheet.specs.Names.{names_differ}
@@ -13,11 +13,11 @@ use Rattle.buffers.specs.Typed.{Typed}
 use Rattle.buffers.specs.Goal.{letters}
 use Rattle.buffers.specs.declared.Space.{Space}
 use Rattle.buffers.specs.declared.Spot.{Spot}
-use Rattle.buffers.specs.declared.Out.{Out}
-use Rattle.buffers.specs.declared.Out.TheVariants.{Done, No, Full}
+use Rattle.buffers.specs.Out.{Out}
+use Rattle.std.specs.Prelude.{Ok, Err}
+use Rattle.buffers.specs.declared.Failure.TheVariants.{NoType, Full}
 use Rattle.merge.specs.Known.{Known}
 use Rattle.values.specs.declared.value.Leaf.{Leaf}
-use Rattle.values.specs.declared.value.Joint.{Joint}
 use Rattle.values.specs.Value.{Valued, JointIs}
 use Rattle.values.specs.Keeps.{CoreAlone}
 
@@ -38,17 +38,17 @@ pub record Fits (space : Space) (records bytes : ℕ) (types : Fields) : Type 0 
 
 -- what an answer in work space says
 abbrev pub AnswerIs : Space → List ℕ → Out → Option DataType → Type 0
-AnswerIs space v (Done d) none = ⊥
-AnswerIs space v (Done d) (some t) = Wrote space v front d (single t)
-AnswerIs space v No none = Unit
-AnswerIs space v No (some t) = ⊥
-AnswerIs space v Full m = ⊥
+AnswerIs space v (Ok d) None = ⊥
+AnswerIs space v (Ok d) (Some t) = Wrote space v front d (single t)
+AnswerIs space v (Err NoType) None = Unit
+AnswerIs space v (Err NoType) (Some t) = ⊥
+AnswerIs space v (Err Full) m = ⊥
 
 -- what was written ends within the room
 abbrev pub Enclosed : Space → Out → Type 0
-Enclosed space (Done d) = Inside space d
-Enclosed space No = Unit
-Enclosed space Full = Unit
+Enclosed space (Ok d) = Inside space d
+Enclosed space (Err NoType) = Unit
+Enclosed space (Err Full) = Unit
 
 -- nothing past the two halves has changed
 pub record Within (space : Space) (w v : List ℕ) : Type 0 where
@@ -86,13 +86,6 @@ category_bits bits (t ∷ ts) = category_bits (bit_or bits (category_bit (catego
 unfoldable pub seen_bits : ℕ → List DataType → ℕ
 seen_bits bits ts = cond (has_category notSupported ts) 255 (category_bits bits ts)
 
--- bytes were moved to another place, and nothing else has changed
-pub record Moved (w v : List ℕ) (from to len : ℕ) : Type 0 where
-  pub long : length v ≡ length w
-  pub moved : (j : ℕ) → j < len → get_or v (to + j) 0 ≡ get_or w (from + j) 0
-  pub below : (j : ℕ) → j < to → get_or v j 0 ≡ get_or w j 0
-  pub above : (j : ℕ) → to + len ≤ j → get_or v j 0 ≡ get_or w j 0
-
 -- the sheet's bytes were laid in the first half, as far as it has them, and nothing else has changed
 pub record Mirrored (space : Space) (s w v : List ℕ) : Type 0 where
   pub long : length v ≡ length w
@@ -108,7 +101,7 @@ pub record Entry (space : Space) (s : List ℕ) (first : ℕ) (c : DataType) : T
   pub listed : Listed space s floor first (field name nullable c.shape c.parts rest)
 
 -- what is known of where a type of the sheet differs from a candidate, which stands as `Is` says
-pub record Compared (known : ℕ) (named : Bool) (space : Space) (Is : DataType → Type 0) (s : List ℕ) (link : ℕ) : Type 0 where
+pub record Compared (known : Option ℕ) (named : Bool) (space : Space) (Is : DataType → Type 0) (s : List ℕ) (link : ℕ) : Type 0 where
   pub is : (x c : DataType) → Typed space s link x → Is c → Known known named link x c
 
 -- a type of the sheet was merged with a candidate, which stands as `Is` says
@@ -133,7 +126,7 @@ pub record Fronted (space : Space) (w v : List ℕ) (x : Leaf) (d : Spot) : Type
   pub candidate : (t : DataType) → Valued x t → Candidate space v d t
 
 -- an answer was written, whatever type it is
-pub record JointLaid (space : Space) (w v : List ℕ) (joint : Joint) (o : Out) : Type 0 where
+pub record JointLaid (space : Space) (w v : List ℕ) (joint : Option Leaf) (o : Out) : Type 0 where
   pub within : Within space w v
   pub inside : Enclosed space o
   pub means : (answer : Option DataType) → JointIs Valued joint answer → AnswerIs space v o answer

@@ -4,36 +4,45 @@ ghost use Rattle.buffers.specs.Region.{Room};
 ghost use Rattle.values.specs.Value.{Holdable};
 ghost use Rattle.resolution.specs.Reached.{Fronted, JointLaid};
 
+use crate::resolver::Resolver;
 use buffers::lay::lay;
-use buffers::{Goal, Out, Space, Spot};
-use values::value::{Joint, Leaf};
+use buffers::{Failure, Goal, Out, Shape, Spot};
+use values::value::Leaf;
 
-// Writes such a type.
-pub(crate) fn lay_front(work: &mut [u8], space: Space, x: Leaf) -> Spot
-    requires { Room work.old space × ((1 < space.n) × (x.size < 4294967296)) }
-    ensures { Fronted space work.old work.new x result }
-{
-    let g = Goal {
-        at: 1,
-        label: 0,
-        nlen: 0,
-        nullable: false,
-    };
-    let kind = x.kind;
-    let figure = x.figure;
-    let scale = x.scale;
-    let size = x.size;
-    lay(work, space, g, kind, figure, scale, size, false, 0);
-    Spot { at: 2, label: 0 }
-}
+// Where an answer is written: record 1, and the first label.
+pub(crate) const FRONT: Spot = Spot { at: 1, label: 0 };
 
-// Writes a common type there, if there is one.
-pub(crate) fn lay_joint(work: &mut [u8], space: Space, joint: Joint) -> Out
-    requires { Room work.old space × ((1 < space.n) × Holdable joint) }
-    ensures { JointLaid space work.old work.new joint result }
-{
-    match joint {
-        Joint::Of(x) => Out::Done(lay_front(work, space, x)),
-        Joint::Nothing => Out::No,
+// The same place, for a type without a name.
+pub(crate) const UNNAMED: Goal = Goal {
+    at: 1,
+    label: 0,
+    nlen: 0,
+    nullable: false,
+};
+
+impl Resolver<'_> {
+    // Writes such a type.
+    pub(crate) fn lay_front(&self, work: &mut [u8], x: Leaf) -> Spot
+        requires { Room work.old self.now.space × (x.size < 4294967296) }
+        ensures { Fronted self.now.space work.old work.new x result }
+    {
+        let shape = Shape {
+            kind: x.kind,
+            figure: x.figure,
+            scale: x.scale,
+            size: x.size,
+            sorted: false,
+        };
+        lay(work, self.space, UNNAMED, shape, 0);
+        Spot { at: 2, label: 0 }
+    }
+
+    // Writes a common type there, if there is one.
+    pub(crate) fn lay_joint(&self, work: &mut [u8], joint: Option<Leaf>) -> Out
+        requires { Room work.old self.now.space × Holdable joint }
+        ensures { JointLaid self.now.space work.old work.new joint result }
+    {
+        let x = joint.ok_or(Failure::NoType)?;
+        Ok(self.lay_front(work, x))
     }
 }

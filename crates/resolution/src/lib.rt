@@ -4,10 +4,10 @@
 mod fold;
 mod front;
 mod list;
+mod resolver;
 mod shift;
 mod wrapped;
 
-ghost use Rattle.std.specs.Prelude.{◌≡◌};
 ghost use Rattle.sheet.specs.Read.{start};
 ghost use Rattle.coercion.specs.Answers.{answer_of};
 ghost use Rattle.buffers.specs.Region.{Room};
@@ -15,24 +15,20 @@ ghost use Rattle.buffers.specs.Plain.{asked, rules_of};
 ghost use Rattle.resolution.specs.Reached.{Reached};
 
 use buffers::plain::is_list_question;
-use buffers::{Out, Question, Space};
-use fold::{pair, type_union_resolution};
+use buffers::{Failure, Out, Question, Space};
+use resolver::Resolver;
 
-// The link to the listed types of a sheet of n records.
-fn start_link(n: usize) -> usize
-    ensures { result ≡ start n }
-{
-    if 1 < n { 1 } else { 0 }
-}
-
-// The answer to a question on the listed types of a sheet, written at the front of the second half of the work space.
+// The answer to a question on the listed types of a sheet, written at the front of the second half of the work space. Record 1 is the first of them, if there is one.
 pub fn answer(sheet: &[u8], work: &mut [u8], space: Space, question: Question, mask: u64) -> Out
     requires { Room work.old space }
     ensures { Reached (answer_of (asked question) (rules_of question mask)) space sheet.now work.old work.new 0 (start space.n) result }
 {
-    let link = start_link(space.n);
-    if is_list_question(question) {
-        return type_union_resolution(sheet, work, space, mask, link);
+    if space.n <= 1 {
+        return Err(Failure::NoType);
     }
-    pair(sheet, work, space, question, mask, link)
+    let resolver = Resolver { sheet, space, mask };
+    if is_list_question(question) {
+        return resolver.type_union_resolution(work, 1);
+    }
+    resolver.pair(work, question, 1)
 }

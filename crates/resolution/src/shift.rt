@@ -1,39 +1,28 @@
 // What is read in the first half of the work space: a candidate that is moved from the second, or the sheet's own bytes.
-ghost use Rattle.std.specs.Prelude.{◌≡◌, ℕ, ◌+◌, ◌*◌, ◌<◌, ◌≤◌, length, get_or};
 ghost use Rattle.buffers.specs.Region.{Room, Inside};
-ghost use Rattle.resolution.specs.Reached.{Shifted, Moved, Mirrored};
+ghost use Rattle.resolution.specs.Reached.{Shifted, Mirrored};
 
-use buffers::{Space, Spot};
-use sheet::label::fill;
+use crate::resolver::Resolver;
+use buffers::Spot;
 
-// Moves len bytes down, to a place that they do not reach into.
-fn move_down(work: &mut [u8], from: usize, to: usize, len: usize)
-    requires { (to + len ≤ from) × (from + len ≤ length work.old) }
-    ensures { Moved work.old work.new from to len }
-{
-    let mut i = 0;
-    while i < len {
-        work[to + i] = work[from + i];
-        i += 1;
+impl Resolver<'_> {
+    // Moves the candidate that ends at d.
+    pub(crate) fn shift(&self, work: &mut [u8], d: Spot)
+        requires { Room work.old self.now.space × Inside self.now.space d }
+        ensures { Shifted self.now.space work.old work.new d }
+    {
+        let half = self.space.half;
+        let labels = 16 * self.space.n;
+        work.copy_within(half..half + 16 * d.at, 0);
+        work.copy_within(half + labels..half + labels + d.label, labels);
     }
-}
 
-// Moves the candidate that ends at d.
-pub(crate) fn shift(work: &mut [u8], space: Space, d: Spot)
-    requires { Room work.old space × Inside space d }
-    ensures { Shifted space work.old work.new d }
-{
-    let half = space.half;
-    let labels = 16 * space.n;
-    move_down(work, half, 0, 16 * d.at);
-    move_down(work, half + labels, labels, d.label)
-}
-
-// Lays the sheet's bytes in the first half, so that its types can be read from there too.
-pub(crate) fn mirror(sheet: &[u8], work: &mut [u8], space: Space)
-    requires { Room work.old space }
-    ensures { Mirrored space sheet.now work.old work.new }
-{
-    let half = space.half;
-    fill(sheet, 0, half, &mut work[..half]);
+    // Lays the sheet's bytes in the first half, so that its types can be read from there too.
+    pub(crate) fn mirror(&self, work: &mut [u8])
+        requires { Room work.old self.now.space }
+        ensures { Mirrored self.now.space self.now.sheet.now work.old work.new }
+    {
+        let n = self.sheet.len().min(self.space.half);
+        work[..n].copy_from_slice(&self.sheet[..n]);
+    }
 }

@@ -13,6 +13,7 @@ use Rattle.sheet.specs.declared.Head.{Head}
 use Rattle.sheet.proofs.Repeating.{kind_is, first_leads, next_leads}
 use Rattle.coercion.specs.Answers.{notSupported, own_category, category_of}
 use Rattle.coercion.specs.Meaning.{value_category}
+pub use Rattle.rules.specs.Wrapped.{Found}
 
 -- a wrapper has its value's category, another type its own
 wrapper : (shape : Shape) (parts : Fields) → (eqb shape.kind 37 || eqb shape.kind 38) ≡ true → category_of shape parts ≡ value_category parts
@@ -30,12 +31,6 @@ own shape (field n b s p (field n₂ b₂ s₂ p₂ rest)) h = rw h
 nothing_own : own_category 0 ≡ notSupported
 unfolding between
 nothing_own = refl
-
--- what is claimed of the kind that is found for the type at a link
-abbrev pub Found : List ℕ → ℕ → ℕ → ℕ → Type 0
-Found s n link k =
-    (floor i o : ℕ) (name : List ℕ) (nullable : Bool) (shape : Shape) (parts rest : Fields) → Leads s n floor link i o (field name nullable shape parts rest)
-    → own_category k ≡ category_of shape parts
 
 module _ (s : List ℕ) (n link : ℕ) (h : Head) (e : h ≡ head_at s link) {w : Bool} (ew : w ≡ (eqb h.kind 37 || eqb h.kind 38)) where
   pub core_own : w ≡ false → Found s n link h.kind

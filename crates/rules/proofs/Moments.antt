@@ -1,7 +1,10 @@
 -- A string and a time, either way round. Assumes nothing.
 use mathlib.Core.Path.{◌≡◌, refl}
 use mathlib.Core.Bool.{Bool, true, false, cond, ◌&&◌}
-use mathlib.Core.Option.{Option, none, some}
+use Rattle.std.specs.Prelude.{Option, None, Some, MatchOption}
+use Rattle.std.specs.Option.{IsSomeAnd}
+use Rattle.coercion.specs.Meaning.{moment_of}
+use Rattle.coercion.specs.declared.Moment.{Moment}
 use Prim.Native.Nat.{ℕ, ◌<◌, ◌≤◌}
 use native.Mathlib.Omega.{arith}
 use lib.Dec.{leb}
@@ -26,7 +29,7 @@ above lo hi k h = rw (lt-leb k hi h) (go (leb lo k))
     go false = refl
 
 -- a string is no time
-no_time : (t : DataType) → is_string t.shape.kind ≡ true → time_of_string t ≡ none
+no_time : (t : DataType) → is_string t.shape.kind ≡ true → time_of_string t ≡ None
 no_time t h =
     let low = least 25 27 t.shape.kind h in
     rw (above 18 19 t.shape.kind (omega arith), above 20 21 t.shape.kind (omega arith), ne_eqb t.shape.kind 22 (λ e. omega arith))
@@ -36,15 +39,22 @@ module _ (l r : DataType) where
   unfolding string_temporal_coercion
   left_string h = rw (h, no_time l h) (go (time_of_string r) (is_string r.shape.kind))
     where
-      go : (a : Option DataType) (b : Bool) → or_else a (cond b none none) ≡ a
-      go none true = refl
-      go none false = refl
-      go (some t) b = refl
+      go : (a : Option DataType) (b : Bool) → or_else a (cond b None None) ≡ a
+      go None true = refl
+      go None false = refl
+      go (Some t) b = refl
 
   pub right_string : is_string l.shape.kind ≡ false → is_string r.shape.kind ≡ true → string_temporal_coercion l r ≡ time_of_string l
   unfolding string_temporal_coercion
   right_string h e = rw (h, e)
 
-  pub no_string : is_string l.shape.kind ≡ false → is_string r.shape.kind ≡ false → string_temporal_coercion l r ≡ none
+  pub no_string : is_string l.shape.kind ≡ false → is_string r.shape.kind ≡ false → string_temporal_coercion l r ≡ None
   unfolding string_temporal_coercion
   no_string h e = rw (h, e)
+
+-- what a moment becomes where the sides are swapped, and so an answer that may be missing
+pub swapped_of : (m o : Option Moment) → MatchOption m (o ≡ None) (λ x. IsSomeAnd o (λ y. (l r : DataType) → moment_of (Some y) l r ≡ moment_of (Some x) r l))
+    → (l r : DataType) → moment_of o l r ≡ moment_of m r l
+swapped_of None o h l r = rw h
+swapped_of (Some x) None h l r = absurd h
+swapped_of (Some x) (Some y) h l r = h l r

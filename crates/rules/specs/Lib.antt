@@ -1,1 +1,4 @@
+pub mod Ordered
+pub mod Sides
+pub mod Wrapped
 pub mod Zones

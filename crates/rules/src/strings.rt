@@ -1,77 +1,37 @@
 // Strings and binary.
 ghost use Rattle.std.specs.Prelude.{◌≡◌};
-ghost use Rattle.coercion.specs.Strings.{string_coercion, binary_coercion, is_long_string, is_binary_or_string};
-ghost use Rattle.coercion.specs.Meaning.{kind_of};
+ghost use Rattle.coercion.specs.Strings.{string_coercion, binary_coercion};
+ghost use Rattle.rules.specs.Ordered.{ordered_binary};
 
-use coercion::Found;
-use kinds::tests::{both, either, is_string, one_is, paired};
+use kinds::tests::is_string;
 
-pub fn string_coercion(k: u8, j: u8) -> Found
-    ensures { kind_of result ≡ string_coercion k j }
+// Utf8View before LargeUtf8 before Utf8, as their kinds go down.
+#[tactic(auto, using(crate::proofs::TwoStrings::string_max, crate::proofs::TwoStrings::no_strings))]
+pub fn string_coercion(k: u8, j: u8) -> Option<u8>
+    ensures { result ≡ string_coercion k j }
 {
-    if both(is_string(k), is_string(j)) {
-        if one_is(27, k, j) {
-            return Found::Kind(27);
-        }
-        if one_is(26, k, j) {
-            return Found::Kind(26);
-        }
-        return Found::Kind(25);
+    if is_string(k) && is_string(j) {
+        Some(k.max(j))
+    } else {
+        None
     }
-    Found::Nothing
 }
 
-fn is_long_string(k: u8) -> bool
-    ensures { result ≡ is_long_string k }
+// The rules of `binary_coercion` for two kinds in one order: Binary, LargeBinary or BinaryView with a string, a binary or a FixedSizeBinary.
+fn ordered_binary(k: u8, j: u8) -> Option<u8>
+    ensures { result ≡ ordered_binary k j }
 {
-    either(k == 26, k == 27)
+    match (k, j) {
+        (28, 25 | 28 | 31) => Some(28),
+        (28, 26 | 27) | (29, 25..=29) => Some(29),
+        (30, 25..=31) => Some(30),
+        _ => None,
+    }
 }
 
-fn is_binary_or_string(k: u8) -> bool
-    ensures { result ≡ is_binary_or_string k }
+#[tactic(auto, using(crate::proofs::Ordering::binaries))]
+pub fn binary_coercion(k: u8, j: u8) -> Option<u8>
+    ensures { result ≡ binary_coercion k j }
 {
-    either(k == 28, is_string(k))
-}
-
-pub fn binary_coercion(k: u8, j: u8) -> Found
-    ensures { kind_of result ≡ binary_coercion k j }
-{
-    if both(k == 28, j == 28) {
-        return Found::Kind(28);
-    }
-    if both(k == 29, j == 29) {
-        return Found::Kind(29);
-    }
-    if both(k == 30, j == 30) {
-        return Found::Kind(30);
-    }
-    if paired(
-        k == 30,
-        either(j == 29, is_binary_or_string(j)),
-        either(k == 29, is_binary_or_string(k)),
-        j == 30,
-    ) {
-        return Found::Kind(30);
-    }
-    if paired(
-        k == 29,
-        is_binary_or_string(j),
-        is_binary_or_string(k),
-        j == 29,
-    ) {
-        return Found::Kind(29);
-    }
-    if paired(k == 28, is_long_string(j), is_long_string(k), j == 28) {
-        return Found::Kind(29);
-    }
-    if paired(k == 28, j == 25, k == 25, j == 28) {
-        return Found::Kind(28);
-    }
-    if paired(k == 28, j == 31, k == 31, j == 28) {
-        return Found::Kind(28);
-    }
-    if paired(k == 30, j == 31, k == 31, j == 30) {
-        return Found::Kind(30);
-    }
-    Found::Nothing
+    ordered_binary(k, j).or(ordered_binary(j, k))
 }

@@ -2,7 +2,8 @@
 ghost use Rattle.std.specs.Prelude.{◌≡◌, Bool, not, ◌-◌, ◌≤◌, length, take, drop};
 ghost use Rattle.rules.specs.Zones.{side, part_of, choice};
 
-// Where a zone stands: whether it is present, where it begins and where it ends. A present one may be empty.
+// Where a zone stands: whether it is present, where it begins and where it ends. A present one may be empty. `present` stands beside the place and in no
+// Option, as the right's place is the answer where neither side has a zone.
 #[derive(Clone, Copy)]
 pub struct Place {
     pub present: bool,
@@ -19,19 +20,14 @@ pub fn zone_coercion<'a>(
     l: Place,
     r: Place,
 ) -> &'a [u8]
-    requires from_le_upto { (l.from ≤ l.upto) × (l.upto ≤ length (side swap sheet.now candidate.now)) }
-    requires from_le_upto_2 { (r.from ≤ r.upto) × (r.upto ≤ length (side (not swap) sheet.now candidate.now)) }
+    requires left_in_bounds { (l.from ≤ l.upto) × (l.upto ≤ length (side swap sheet.now candidate.now)) }
+    requires right_in_bounds { (r.from ≤ r.upto) × (r.upto ≤ length (side (not swap) sheet.now candidate.now)) }
     ensures { result.now ≡ choice sheet.now candidate.now swap l r }
 {
-    let a = l.from;
-    let b = l.upto;
-    let c = r.from;
-    let d = r.upto;
-    if l.present {
-        if swap {
-            return &candidate[a..b];
-        }
-        return &sheet[a..b];
+    let (zone, in_candidate) = if l.present { (l, swap) } else { (r, !swap) };
+    if in_candidate {
+        &candidate[zone.from..zone.upto]
+    } else {
+        &sheet[zone.from..zone.upto]
     }
-    if swap { &sheet[c..d] } else { &candidate[c..d] }
 }

@@ -2,16 +2,18 @@
 use mathlib.Core.Path.{◌≡◌, refl, sym, ◌∙◌, ap, ap₂}
 use mathlib.Core.Bool.{Bool, true, false}
 use mathlib.Core.List.{List}
-use Prim.Native.Nat.{ℕ, ◌+◌, ◌*◌, ◌-◌, ◌/◌, ◌%◌, ◌<◌, ◌≤◌, min}
+use Prim.Native.Nat.{ℕ, ◌+◌, ◌*◌, ◌-◌, ◌/◌, ◌%◌, ◌<◌, ◌≤◌}
 use native.Mathlib.Omega.{arith}
+use mir.Syntax.{w8}
+use mir.Val.{Fits}
 use lib.Dec.{eqb}
-use lib.ListN.{length, get_or, take, drop, length-drop}
-use lib.Seq.{ext_get_or, take_all}
-use borrow.Author.Tests.{eqb-true, eqb-false}
+use lib.ListN.{length, get_or}
+use lib.Seq.{ext_get_or}
+use borrow.Author.Tests.{eqb-true, eqb-false, ne_eqb}
 use Rattle.sheet.specs.Head.{word, quad_at, eight_at}
 use Rattle.sheet.specs.Names.{same_bytes}
 use Rattle.sheet.specs.Holds.{Plain}
-use Rattle.sheet.proofs.Bytewise.{same_self, same_equal, part_at}
+use Rattle.sheet.proofs.Bytewise.{same_self, same_equal}
 use Rattle.sheet.proofs.Heads.{low, high, quad0, quad1, quad2, quad3}
 use Rattle.sheet.proofs.Spans.{at_eq}
 
@@ -30,6 +32,13 @@ same_unlike f a b n = go (same_bytes a b) refl
     go true e = absurd (n (ap f (same_equal a b e)))
     go false e = refl
 
+-- a test of a comparison, where it fails
+pub unlike : (f : List ℕ → ℕ) (a b : List ℕ) {x y : ℕ} → x ≡ f a → y ≡ f b → eqb x y ≡ false → false ≡ same_bytes a b
+unlike f a b p q n = same_unlike f a b (λ e. eqb-false _ _ n (p ∙ e ∙ sym q))
+
+pub apart : (f : List ℕ → ℕ) (a b : List ℕ) {x y : ℕ} → x ≡ f a → y ≡ f b → (x ≡ y → ⊥) → eqb x y ≡ same_bytes a b
+apart f a b p q n = ne_eqb _ _ n ∙ unlike f a b p q (ne_eqb _ _ n)
+
 -- strings of one length that agree in all of it
 agree_all : (a b : List ℕ) → length a ≡ length b → Agree a b (length a) → true ≡ same_bytes a b
 agree_all a b e f = sym (ap (λ (l : List ℕ). same_bytes l b) (ext_get_or 0 a b e f) ∙ same_self b)
@@ -47,7 +56,13 @@ module _ (a b : List ℕ) where
       go (yes l) = f k (omega arith)
       go (no g) = let w : k ≡ j = omega arith in at_eq a w ∙ e ∙ sym (at_eq b w)
 
-  module _ (pa : Plain a) (pb : Plain b) where
+  module _ (fits_a : (i : ℕ) → Fits w8 (get_or a i 0)) (fits_b : (i : ℕ) → Fits w8 (get_or b i 0)) where
+    pa : Plain a
+    pa i = (fits_a i).fits
+
+    pb : Plain b
+    pb i = (fits_b i).fits
+
     pub agree_word : (i j t : ℕ) → Agree a b i → j ≤ i → t ≤ j + 2 → word a j ≡ word b j → Agree a b t
     agree_word i j t f h z e =
         let one = agree_one i j (j + 1) f h (omega arith) (by (λ (x : ℕ). x % 256) e (low a 0 pa j) (low b 0 pb j)) in
@@ -82,54 +97,22 @@ module _ (a b : List ℕ) where
     pub byte_decides : length a ≡ length b → length a ≤ 1 → eqb (get_or a 0 0) (get_or b 0 0) ≡ same_bytes a b
     byte_decides e z = decided (λ (l : List ℕ). get_or l 0 0) e (agree_one 0 0 (length a) (agree_none a b) (omega arith) (omega arith))
 
-    pub word_decides : (i j : ℕ) → length a ≡ length b → Agree a b i → j ≤ i → length a ≤ j + 2 → eqb (word a j) (word b j) ≡ same_bytes a b
-    word_decides i j e f h z = decided (λ (l : List ℕ). word l j) e (agree_word i j (length a) f h z)
+    -- the last two, four or eight bytes, where the strings agree up to these or in as many at the front
+    module _ (e : length a ≡ length b) {z w : ℕ} where
+      pub words_decide : {x y : ℕ} → 2 ≤ length a → length a ≤ 4 → x ≡ word a 0 → y ≡ word b 0 → x ≡ y → z ≡ word a (length a - 2) → w ≡ word b (length a - 2)
+          → eqb z w ≡ same_bytes a b
+      words_decide h k p q f r t =
+          ap₂ eqb r t
+          ∙ decided (λ (l : List ℕ). word l (length a - 2)) e
+          (agree_word 2 (length a - 2) (length a) (agree_word 0 0 2 (agree_none a b) (omega arith) (omega arith) (sym p ∙ f ∙ q)) (omega arith) (omega arith))
 
-    pub quad_decides : (i j : ℕ) → length a ≡ length b → Agree a b i → j ≤ i → length a ≤ j + 4 → eqb (quad_at a j) (quad_at b j) ≡ same_bytes a b
-    quad_decides i j e f h z = decided (λ (l : List ℕ). quad_at l j) e (agree_quad i j (length a) f h z)
+      pub quads_decide : {x y : ℕ} → 4 ≤ length a → length a ≤ 8 → x ≡ quad_at a 0 → y ≡ quad_at b 0 → x ≡ y → z ≡ quad_at a (length a - 4) → w ≡ quad_at b (length a - 4)
+          → eqb z w ≡ same_bytes a b
+      quads_decide h k p q f r t =
+          ap₂ eqb r t
+          ∙ decided (λ (l : List ℕ). quad_at l (length a - 4)) e
+          (agree_quad 4 (length a - 4) (length a) (agree_quad 0 0 4 (agree_none a b) (omega arith) (omega arith) (sym p ∙ f ∙ q)) (omega arith) (omega arith))
 
-    pub eight_decides : (i j : ℕ) → length a ≡ length b → Agree a b i → j ≤ i → length a ≤ j + 8 → eqb (eight_at a j) (eight_at b j) ≡ same_bytes a b
-    eight_decides i j e f h z = decided (λ (l : List ℕ). eight_at l j) e (agree_eight i j (length a) f h z)
-
--- what two parts that are the same have in common at a place
-module _ (s t : List ℕ) (a b i : ℕ) (e : take i (drop a s) ≡ take i (drop b t)) where
-  byte_like : (k x y : ℕ) → k < i → x ≡ a + k → y ≡ b + k → get_or s x 0 ≡ get_or t y 0
-  byte_like k x y h p q =
-      at_eq s p ∙ sym (part_at s a i k h) ∙ ap (λ (l : List ℕ). get_or l k 0) e ∙ part_at t b i k h ∙ sym (at_eq t q)
-
-  word_like : (k x y : ℕ) → k + 1 < i → x ≡ a + k → y ≡ b + k → word s x ≡ word t y
-  word_like k x y h p q =
-      ap₂ (λ (u v : ℕ). u + 256 * v) (byte_like k x y (omega arith) p q) (byte_like (k + 1) (x + 1) (y + 1) h (omega arith) (omega arith))
-
-  quad_like : (k x y : ℕ) → k + 3 < i → x ≡ a + k → y ≡ b + k → quad_at s x ≡ quad_at t y
-  quad_like k x y h p q =
-      ap₂ (λ (u v : ℕ). u + 65536 * v) (word_like k x y (omega arith) p q) (word_like (k + 2) (x + 2) (y + 2) (omega arith) (omega arith) (omega arith))
-
-  eight_like : (k x y : ℕ) → k + 7 < i → x ≡ a + k → y ≡ b + k → eight_at s x ≡ eight_at t y
-  eight_like k x y h p q =
-      ap₂ (λ (u v : ℕ). u + 4294967296 * v) (quad_like k x y (omega arith) p q) (quad_like (k + 4) (x + 4) (y + 4) (omega arith) (omega arith) (omega arith))
-
--- parts that a number at a place tells apart
-module _ (s t : List ℕ) (a b i : ℕ) where
-  parts_apart : {x y : ℕ} → (take i (drop a s) ≡ take i (drop b t) → x ≡ y) → (x ≡ y → ⊥) → false ≡ same_bytes (take i (drop a s)) (take i (drop b t))
-  parts_apart f n = go (same_bytes (take i (drop a s)) (take i (drop b t))) refl
-    where
-      go : (c : Bool) → same_bytes (take i (drop a s)) (take i (drop b t)) ≡ c → false ≡ c
-      go true q = absurd (n (f (same_equal _ _ q)))
-      go false q = refl
-
-  pub quads_apart : (k x y : ℕ) → k + 3 < i → x ≡ a + k → y ≡ b + k → (quad_at s x ≡ quad_at t y → ⊥) → false ≡ same_bytes (take i (drop a s)) (take i (drop b t))
-  quads_apart k x y h p q = parts_apart (λ e. quad_like s t a b i e k x y h p q)
-
-  pub eights_apart : (k x y : ℕ) → k + 7 < i → x ≡ a + k → y ≡ b + k → (eight_at s x ≡ eight_at t y → ⊥) → false ≡ same_bytes (take i (drop a s)) (take i (drop b t))
-  eights_apart k x y h p q = parts_apart (λ e. eight_like s t a b i e k x y h p q)
-
--- a part is as long as it reaches
-pub part_whole : (s : List ℕ) (a m i : ℕ) → i ≡ min m (length s - a) → take i (drop a s) ≡ take m (drop a s)
-part_whole s a m i e = ap (λ (k : ℕ). take k (drop a s)) e ∙ go (native.Mathlib.Decide.dec_lt m (length s - a))
-  where
-    go : Dec (m < length s - a) → take (min m (length s - a)) (drop a s) ≡ take m (drop a s)
-    go (yes l) = let z : min m (length s - a) ≡ m = omega arith in ap (λ (k : ℕ). take k (drop a s)) z
-    go (no g) =
-        let z : min m (length s - a) ≡ length s - a = omega arith in
-        ap (λ (k : ℕ). take k (drop a s)) z ∙ take_all (length s - a) (drop a s) (omega (arith, length-drop a s)) ∙ sym (take_all m (drop a s) (omega (arith, length-drop a s)))
+      pub eights_decide : 8 ≤ length a → Agree a b (length a - 8) → z ≡ eight_at a (length a - 8) → w ≡ eight_at b (length a - 8) → eqb z w ≡ same_bytes a b
+      eights_decide h f r t =
+          ap₂ eqb r t ∙ decided (λ (l : List ℕ). eight_at l (length a - 8)) e (agree_eight (length a - 8) (length a - 8) (length a) f (omega arith) (omega arith))

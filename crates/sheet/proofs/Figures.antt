@@ -1,7 +1,7 @@
 -- The tests of a record, put together. Assumes nothing.
 use mathlib.Core.Path.{◌≡◌, refl, ◌∙◌, ap}
 use mathlib.Core.Bool.{Bool, true, false, not, cond}
-use mathlib.Core.List.{List, [], ◌∷◌}
+use mathlib.Core.List.{List, ◌∷◌}
 use Prim.Native.Nat.{ℕ, ◌+◌, ◌/◌, ◌%◌, ◌<◌}
 use native.Mathlib.Omega.{arith}
 use lib.Dec.{eqb, ltb}
@@ -41,16 +41,6 @@ size_none k = either (sized k)
     either false = refl
 
 module _ (h : Head) (up : ℕ) where
-  pub record_made : {r : Bool} {size : ℕ} {a b d e : Bool} → size ≡ cond (zoned_in h) 0 h.quad
-      → a ≡ figures_right h.kind h.figure h.scale size (sorted_in h) (zoned_in h) → b ≡ names_parts up → d ≡ implies (nullable_in h) b
-      → e ≡ implies (zoned_in h) (ltb h.quad 16777216)
-      → r ≡ all_of (a ∷ d ∷ ltb h.flags 8 ∷ e ∷ eqb h.last 0 ∷ []) → r ≡ record_right h up
-  unfolding record_right
-  record_made z p q s t g =
-      let p' = p ∙ ap (λ (x : ℕ). figures_right h.kind h.figure h.scale x (sorted_in h) (zoned_in h)) z in
-      let s' = s ∙ ap (implies (nullable_in h)) q in
-      g ∙ (λ i. all_of (p' i ∷ s' i ∷ ltb h.flags 8 ∷ t i ∷ eqb h.last 0 ∷ []))
-
   -- a record with no flag but the first
   pub record_plain : h.last ≡ 0 → h.flags < 2 → implies (nullable_in h) (names_parts up) ≡ true
       → record_right h up ≡ figures_right h.kind h.figure h.scale h.quad false false

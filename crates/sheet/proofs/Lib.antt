@@ -12,4 +12,3 @@ pub mod Mixing
 pub mod Figures
 pub mod Repeating
 pub mod Lowest
-pub mod Capped

@@ -1,49 +1,58 @@
 -- The number that goes by the bytes of a name, four at a time. Assumes nothing.
-use mathlib.Core.Path.{◌≡◌, refl, sym, ◌∙◌, ap, ap₂}
+use mathlib.Core.Path.{◌≡◌, refl, sym, ◌∙◌, ap}
 use mathlib.Core.List.{List, [], ◌∷◌}
-use Prim.Native.Nat.{ℕ, ◌+◌, ◌*◌, ◌-◌, ◌<◌, ◌≤◌}
+use Prim.Native.Nat.{ℕ, zero, suc, ◌+◌, ◌*◌, ◌/◌, ◌%◌, ◌<◌, ◌≤◌}
 use native.Mathlib.Omega.{arith}
-use lib.ListN.{length, get_or, drop, length-drop, drop_of_length-le}
-use lib.Seq.{get_or-drop, drop-drop}
-use Rattle.sheet.specs.Head.{quad_at}
+use lib.ListN.{length, take, drop, length-drop}
+use lib.Seq.{drop-drop, take_all}
+use Rattle.std.specs.Int.{w32, rotate_left, from_le_bytes}
+use Rattle.std.proofs.lemmas.Nat.{or_shifted}
+use Rattle.std.specs.List.{fold}
+use Rattle.std.specs.Simd.{first_chunks}
 use Rattle.sheet.specs.Names.{stir, mixed}
-use Rattle.sheet.proofs.Spans.{at_eq}
 
-four : (k : ℕ) (l : List ℕ) → 4 ≤ length l → mixed k l ≡ mixed (stir k (quad_at l 0)) (drop 4 l)
+turned : (k : ℕ) → k < 4294967296 → rotate_left w32 k 16 ≡ k / 65536 + k % 65536 * 65536
+turned k h =
+    let e : k * 65536 % 4294967296 ≡ k % 65536 * 65536 = omega arith in
+    rw e (or_shifted (k % 65536) 16 (k / 65536) (omega arith) ∙ omega arith)
+
+-- the halves of k change places
+pub stirred_is : (k x r : ℕ) → k < 4294967296 → r ≡ rotate_left w32 k 16 → (r + x) % 4294967296 * 1640531527 % 4294967296 ≡ stir k x
+stirred_is k x r h e = omega (arith, e ∙ turned k h)
+
+-- runs of four bytes, stirred in one after the other
+abbrev pub stir_all : ℕ → List (List ℕ) → ℕ
+stir_all k quads = fold (λ k quad. stir k (from_le_bytes w32 quad)) k quads
+
+mixed_quads : (n k : ℕ) (s : List ℕ) → n * 4 ≤ length s → mixed k s ≡ mixed (stir_all k (first_chunks 4 n s)) (drop (n * 4) s)
 unfolding mixed
-four k [] h = absurd (omega arith)
-four k (a ∷ []) h = absurd (omega arith)
-four k (a ∷ b ∷ []) h = absurd (omega arith)
-four k (a ∷ b ∷ c ∷ []) h = absurd (omega arith)
-four k (a ∷ b ∷ c ∷ d ∷ bs) h = refl
+mixed_quads zero k s h = refl
+mixed_quads (suc n) k [] h = absurd (omega arith)
+mixed_quads (suc n) k (a ∷ []) h = absurd (omega arith)
+mixed_quads (suc n) k (a ∷ b ∷ []) h = absurd (omega arith)
+mixed_quads (suc n) k (a ∷ b ∷ c ∷ []) h = absurd (omega arith)
+mixed_quads (suc n) k (a ∷ b ∷ c ∷ d ∷ bs) h =
+    let e : a + 256 * b + 65536 * (c + 256 * d) ≡ from_le_bytes w32 (a ∷ b ∷ c ∷ d ∷ []) = omega arith in
+    let i : 4 + n * 4 ≡ suc n * 4 = omega arith in
+    ap (λ (x : ℕ). mixed (stir k x) bs) e
+    ∙ mixed_quads n (stir k (from_le_bytes w32 (a ∷ b ∷ c ∷ d ∷ []))) bs (omega arith)
+    ∙ ap (mixed (stir_all (stir k (from_le_bytes w32 (a ∷ b ∷ c ∷ d ∷ []))) (first_chunks 4 n bs))) (drop-drop (n * 4) 4 (a ∷ b ∷ c ∷ d ∷ bs) ∙ ap (λ (j : ℕ). drop j (a ∷ b ∷ c ∷ d ∷ bs)) i)
 
-one : (k : ℕ) (l : List ℕ) → 0 < length l → length l < 4 → mixed k l ≡ mixed (stir k (get_or l 0 0)) (drop 1 l)
+mixed_rest : (k : ℕ) (s : List ℕ) → length s < 4 → mixed k s ≡ fold stir k s
 unfolding mixed
-one k [] p h = absurd (omega arith)
-one k (a ∷ []) p h = refl
-one k (a ∷ b ∷ []) p h = refl
-one k (a ∷ b ∷ c ∷ []) p h = refl
-one k (a ∷ b ∷ c ∷ d ∷ bs) p h = absurd (omega arith)
+mixed_rest k [] h = refl
+mixed_rest k (a ∷ []) h = refl
+mixed_rest k (a ∷ b ∷ []) h = refl
+mixed_rest k (a ∷ b ∷ c ∷ []) h = refl
+mixed_rest k (a ∷ b ∷ c ∷ d ∷ bs) h = absurd (omega arith)
 
-byte_on : (s : List ℕ) (i k j : ℕ) → j ≡ i + k → get_or (drop i s) k 0 ≡ get_or s j 0
-byte_on s i k j e = get_or-drop i s k 0 ∙ sym (at_eq s e)
+-- the number by whole runs of four bytes, and then by the bytes that are left
+mixed_folds : (s : List ℕ) → mixed 0 s ≡ fold stir (stir_all 0 (first_chunks 4 (length s / 4) s)) (drop (length s / 4 * 4) s)
+mixed_folds s =
+    mixed_quads (length s / 4) 0 s (omega arith)
+    ∙ mixed_rest (stir_all 0 (first_chunks 4 (length s / 4) s)) (drop (length s / 4 * 4) s) (omega (arith, length-drop (length s / 4 * 4) s))
 
-quad_on : (s : List ℕ) (i : ℕ) → quad_at (drop i s) 0 ≡ quad_at s i
-quad_on s i =
-    ap₂ (λ (u v : ℕ). u + 65536 * v)
-    (ap₂ (λ (u v : ℕ). u + 256 * v) (byte_on s i 0 i (omega arith)) (byte_on s i 1 (i + 1) refl))
-    (ap₂ (λ (u v : ℕ). u + 256 * v) (byte_on s i 2 (i + 2) refl) (byte_on s i 3 (i + 2 + 1) (omega arith)))
-
--- a turn by four bytes, one by a single byte, and the end
-module _ (name : List ℕ) (k w i : ℕ) (v : mixed k (drop i name) ≡ w) where
-  pub mixed_four : i + 4 ≤ length name → mixed (stir k (quad_at name i)) (drop (i + 4) name) ≡ w
-  mixed_four h =
-      sym (four k (drop i name) (omega (arith, length-drop i name)) ∙ ap₂ (λ (x : ℕ) (l : List ℕ). mixed (stir k x) l) (quad_on name i) (drop-drop 4 i name)) ∙ v
-
-  pub mixed_one : i < length name → length name - i < 4 → mixed (stir k (get_or name i 0)) (drop (i + 1) name) ≡ w
-  mixed_one h z =
-      sym (one k (drop i name) (omega (arith, length-drop i name)) (omega (arith, length-drop i name)) ∙ ap₂ (λ (x : ℕ) (l : List ℕ). mixed (stir k x) l) (byte_on name i 0 i (omega arith)) (drop-drop 1 i name)) ∙ v
-
-  pub mixed_done : length name ≤ i → k ≡ w
-  unfolding mixed
-  mixed_done h = sym (ap (mixed k) (drop_of_length-le name {i = i} h)) ∙ v
+pub mixed_done : (s rest : List ℕ) (k i : ℕ) → rest ≡ drop (length s / 4 * 4) s → length rest ≤ i
+    → k ≡ fold stir (stir_all 0 (first_chunks 4 (length s / 4) s)) (take i rest) → k ≡ mixed 0 s
+mixed_done s rest k i e h v =
+    v ∙ ap (fold stir (stir_all 0 (first_chunks 4 (length s / 4) s))) (take_all i rest h ∙ e) ∙ sym (mixed_folds s)

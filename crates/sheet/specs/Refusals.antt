@@ -1,5 +1,5 @@
 -- The refusals 1 to 5 ("Numbers on the slip"), each condition by itself, over any bytes.
-use Rattle.std.specs.Prelude.{ℕ, zero, suc, ◌+◌, ◌*◌, ◌-◌, ◌%◌, Bool, true, false, cond, not, ◌&&◌, ◌||◌, List, [], ◌∷◌, ◌++◌, length, take, drop, leb, ltb, eqb}
+use Rattle.std.specs.Prelude.{ℕ, zero, suc, ◌+◌, ◌*◌, ◌-◌, ◌%◌, Bool, true, false, cond, not, ◌&&◌, ◌||◌, List, [], ◌∷◌, ◌++◌, length, take, drop, leb, ltb, eqb, Result, Ok, Err}
 use Rattle.sheet.specs.Tests.{all_of, one_of, implies}
 use Rattle.sheet.specs.Kind as Kind
 use Rattle.sheet.specs.Kind.{is_kind, is_decimal, cap, sized, last_unit, parts_right, names_parts}
@@ -10,8 +10,7 @@ use Rattle.sheet.specs.Names.{names_differ}
 use Rattle.sheet.specs.declared.Head.{Head}
 use Rattle.sheet.specs.declared.Refusal.{Refusal}
 use Rattle.sheet.specs.declared.Refusal.TheVariants.{Torn, Kind, Chain, Figure, Label}
-use Rattle.sheet.specs.declared.Checked.{Checked}
-use Rattle.sheet.specs.declared.Checked.TheVariants.{Refused, Accepted}
+use Rattle.sheet.specs.declared.Sizes.{Sizes}
 
 abbrev pub all_zero : List ℕ → Bool
 all_zero [] = true
@@ -176,6 +175,6 @@ number_of Figure = 4
 number_of Label = 5
 
 -- what an answer of `check` says
-abbrev pub meaning : Checked → Verdict
-meaning (Refused r) = record { number = number_of r; n = 0; m = 0 }
-meaning (Accepted n m) = record { number = 0; n = n; m = m }
+abbrev pub meaning : Result Sizes Refusal → Verdict
+meaning (Err r) = record { number = number_of r; n = 0; m = 0 }
+meaning (Ok sizes) = record { number = 0; n = sizes.n; m = sizes.m }

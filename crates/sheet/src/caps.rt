@@ -36,20 +36,17 @@ impl Width {
     pub fn of_kind(k: u8) -> Width
         ensures { result ≡ width_of k }
     {
-        if k == 14 {
-            return Width::W32;
+        match k {
+            14 => Width::W32,
+            15 => Width::W64,
+            16 => Width::W128,
+            _ => Width::W256,
         }
-        if k == 15 {
-            return Width::W64;
-        }
-        if k == 16 {
-            return Width::W128;
-        }
-        Width::W256
     }
 }
 
 // The cap of a decimal's kind.
+#[tactic(auto, using(std::proofs::lemmas::Bool::Decides::nat_tests), unfolding(crate::specs::Kind::cap))]
 pub fn precision_cap(k: u8) -> usize
     ensures { (result ≡ cap k) × (result ≤ 76) }
 {

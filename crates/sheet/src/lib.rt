@@ -1,12 +1,16 @@
 // The sheet of document 01: its records, figures and labels, and how they are read.
 #![tactic(auto)]
 
+ghost use Rattle.std.specs.Prelude.{◌≡◌};
+ghost use Rattle.sheet.specs.Head.{nullable_in, sorted_in, zoned_in};
+ghost use Rattle.sheet.specs.Refusals.{number_of};
+
 pub mod caps;
 pub mod figure;
 pub mod label;
 pub mod record;
 
-#[derive(Clone, Copy)]
+#[derive(Clone, Copy, Default)]
 pub struct Head {
     pub kind: u8,
     pub flags: u8,
@@ -20,6 +24,30 @@ pub struct Head {
     pub last: u8,
 }
 
+impl Head {
+    // Bit 0 of byte 1.
+    pub fn nullable(&self) -> bool
+        ensures { result ≡ nullable_in self.now }
+    {
+        self.flags % 2 == 1
+    }
+
+    // Bit 1 of byte 1.
+    pub fn sorted(&self) -> bool
+        ensures { result ≡ sorted_in self.now }
+    {
+        self.flags / 2 % 2 == 1
+    }
+
+    // Bit 2 of byte 1: whether there is a zone.
+    pub fn zoned(&self) -> bool
+        ensures { result ≡ zoned_in self.now }
+    {
+        self.flags / 4 % 2 == 1
+    }
+}
+
+// Why a sheet is refused.
 #[derive(Clone, Copy)]
 pub enum Refusal {
     Torn,
@@ -29,8 +57,24 @@ pub enum Refusal {
     Label,
 }
 
+impl From<Refusal> for u8 {
+    ghost from_gives = { λ r n. n ≡ number_of r };
+
+    // The paper's number.
+    fn from(r: Refusal) -> u8 {
+        match r {
+            Refusal::Torn => 1,
+            Refusal::Kind => 2,
+            Refusal::Chain => 3,
+            Refusal::Figure => 4,
+            Refusal::Label => 5,
+        }
+    }
+}
+
+// How many records and how many label bytes a sheet has.
 #[derive(Clone, Copy)]
-pub enum Checked {
-    Refused(Refusal),
-    Accepted(usize, usize),
+pub struct Sizes {
+    pub n: usize,
+    pub m: usize,
 }

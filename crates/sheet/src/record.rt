@@ -5,26 +5,20 @@ ghost use Rattle.sheet.specs.Bounds.{Bounded};
 
 use crate::Head;
 
-pub(crate) fn wide(x: u8) -> usize
-    ensures { (result ≡ x) × (result < 256) }
-{
-    x as usize
-}
-
 // Two bytes, the lower first.
 pub fn word_at(s: &[u8], i: usize) -> usize
     requires { i + 1 < length s.now }
     ensures { (result ≡ word s.now i) × (result < 65536) }
 {
-    wide(s[i]) + 256 * wide(s[i + 1])
+    usize::from(u16::from_le_bytes([s[i], s[i + 1]]))
 }
 
-// Four bytes as one number, the lowest first. Written out, so that it is one load.
+// Four bytes as one number, the lowest first.
 pub fn quad_at(s: &[u8], i: usize) -> usize
     requires { i + 3 < length s.now }
     ensures { (result ≡ quad_at s.now i) × (result < 4294967296) }
 {
-    wide(s[i]) + 256 * wide(s[i + 1]) + 65536 * wide(s[i + 2]) + 16777216 * wide(s[i + 3])
+    u32::from_le_bytes([s[i], s[i + 1], s[i + 2], s[i + 3]]) as usize
 }
 
 // Eight bytes, the lowest first.
@@ -32,7 +26,16 @@ pub(crate) fn eight_at(s: &[u8], i: usize) -> usize
     requires { i + 7 < length s.now }
     ensures { result ≡ eight_at s.now i }
 {
-    quad_at(s, i) + 4294967296 * quad_at(s, i + 4)
+    usize::from_le_bytes([
+        s[i],
+        s[i + 1],
+        s[i + 2],
+        s[i + 3],
+        s[i + 4],
+        s[i + 5],
+        s[i + 6],
+        s[i + 7],
+    ])
 }
 
 // The head that the sixteen bytes from i on hold.
@@ -40,42 +43,28 @@ pub fn head_from(s: &[u8], i: usize) -> Head
     requires { i + 16 ≤ length s.now }
     ensures { (result ≡ head_from s.now i) × Bounded result }
 {
-    let a = quad_at(s, i);
-    let quad = quad_at(s, i + 4);
-    let c = quad_at(s, i + 8);
-    let d = quad_at(s, i + 12);
     Head {
-        kind: (a % 256) as u8,
-        flags: (a / 256 % 256) as u8,
-        figure: (a / 65536 % 256) as u8,
-        scale: (a / 16777216) as u8,
-        quad,
-        first: c % 65536,
-        next: c / 65536,
-        name: d % 65536,
-        nlen: d / 65536 % 256,
-        last: (d / 16777216) as u8,
+        kind: s[i],
+        flags: s[i + 1],
+        figure: s[i + 2],
+        scale: s[i + 3],
+        quad: quad_at(s, i + 4),
+        first: word_at(s, i + 8),
+        next: word_at(s, i + 10),
+        name: word_at(s, i + 12),
+        nlen: usize::from(s[i + 14]),
+        last: s[i + 15],
     }
 }
 
 // The head of record r, zeros where the record is past the end.
+#[tactic(auto, using(std::proofs::lemmas::Bool::Decides::nat_tests), unfolding(crate::specs::Head::head_at))]
 pub fn head_at(s: &[u8], r: usize) -> Head
     ensures { (result ≡ head_at s.now r) × Bounded result }
 {
     if r < s.len() / 16 {
         head_from(s, 16 * r)
     } else {
-        Head {
-            kind: 0,
-            flags: 0,
-            figure: 0,
-            scale: 0,
-            quad: 0,
-            first: 0,
-            next: 0,
-            name: 0,
-            nlen: 0,
-            last: 0,
-        }
+        Head::default()
     }
 }

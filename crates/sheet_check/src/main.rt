@@ -9,238 +9,166 @@ ghost use Rattle.std.specs.Prelude.{◌≡◌, ◌+◌, ◌^◌, ◌<◌, ◌≤
 
 use anyhow::Context;
 use reading::read_full;
-use sheet::{Checked, Refusal};
+use sheet::{Refusal, Sizes};
 use std::fs::File;
-use std::io;
 use std::io::Read;
+use std::{fmt, io};
 
-// A refusal number, or 0 with the n and m of an accepted sheet.
-#[derive(Clone, Copy)]
+// A refusal number, or 0 with the n and m of an accepted sheet, as an entry has them.
+#[derive(Clone, Copy, PartialEq)]
 struct Verdict {
     number: u8,
     n: usize,
     m: usize,
 }
 
-#[derive(Clone, Copy)]
-enum Entry {
-    End,
-    Broken,
-    Sheet(Verdict, usize),
+impl From<Result<Sizes, Refusal>> for Verdict {
+    fn from(answer: Result<Sizes, Refusal>) -> Verdict {
+        match answer {
+            Ok(Sizes { n, m }) => Verdict { number: 0, n, m },
+            Err(r) => Verdict {
+                number: u8::from(r),
+                n: 0,
+                m: 0,
+            },
+        }
+    }
 }
 
-#[derive(Clone, Copy)]
-enum Turn {
-    End,
-    Broken,
-    Ran(Verdict, Verdict),
+impl fmt::Display for Verdict {
+    fn fmt<W: fmt::Write>(&self, f: &mut fmt::Formatter<W>) -> fmt::Result {
+        write!(f, "{} with n {} and m {}", self.number, self.n, self.m)
+    }
 }
 
-// The sheets that were run, how many went wrong, and the first of those; and how the reading stopped.
+// The file is not read to its end: an entry is cut off, its sheet does not fit the space, or there are more than are stored by far.
+#[derive(Clone, Copy)]
+struct CutShort;
+
+// A sheet that was answered otherwise than expected, by its place in the file.
+#[derive(Clone, Copy)]
+struct Wrong {
+    at: u64,
+    wanted: Verdict,
+    given: Verdict,
+}
+
+impl fmt::Display for Wrong {
+    fn fmt<W: fmt::Write>(&self, f: &mut fmt::Formatter<W>) -> fmt::Result {
+        write!(
+            f,
+            "first at {}: expected {}, given {}",
+            self.at, self.wanted, self.given
+        )
+    }
+}
+
+// The sheets that were run, how many went wrong, and the first of those.
 #[derive(Clone, Copy)]
 struct Tally {
     sheets: u64,
     wrong: u64,
-    first: u64,
-    wanted: Verdict,
-    given: Verdict,
-    ended: bool,
-    broken: bool,
+    first: Option<Wrong>,
+    ghost part: { wrong ≤ sheets },
 }
 
-fn wide(b: u8) -> usize
-    ensures { result < 256 }
-{
-    b as usize
-}
+impl Tally {
+    fn new() -> Tally
+        ensures { result.sheets ≡ 0 }
+    {
+        Tally {
+            sheets: 0,
+            wrong: 0,
+            first: None,
+        }
+    }
 
-fn number_of(r: Refusal) -> u8 {
-    match r {
-        Refusal::Torn => 1,
-        Refusal::Kind => 2,
-        Refusal::Chain => 3,
-        Refusal::Figure => 4,
-        Refusal::Label => 5,
+    // One sheet more. Only the first that goes wrong is kept.
+    fn count(&mut self, wanted: Verdict, given: Verdict)
+        requires { self.old.sheets < 2 ^ 62 }
+        ensures { self.new.sheets ≡ self.old.sheets + 1 }
+    {
+        let at = self.sheets;
+        self.sheets += 1;
+        if wanted == given {
+            return;
+        }
+        self.wrong += 1;
+        if self.first.is_none() {
+            self.first = Some(Wrong { at, wanted, given });
+        }
     }
 }
 
-fn answer(s: &[u8]) -> Verdict {
-    match refusals::check(s) {
-        Checked::Refused(r) => Verdict {
-            number: number_of(r),
-            n: 0,
-            m: 0,
-        },
-        Checked::Accepted(n, m) => Verdict { number: 0, n, m },
-    }
-}
-
-fn agree(a: Verdict, b: Verdict) -> bool {
-    a.number == b.number && a.n == b.n && a.m == b.m
-}
-
-fn pair(low: u8, high: u8) -> usize
-    ensures { result < 65536 }
-{
-    wide(low) + 256 * wide(high)
-}
-
-fn next_entry<R: Read>(stored: &mut R) -> Entry {
+// What the next entry expects, and how long its sheet is. None at the end of the file.
+fn next_entry<R: Read>(stored: &mut R) -> Result<Option<(Verdict, usize)>, CutShort> {
     let mut head = [0u8; 12];
     let got = read_full(stored, &mut head);
     if got == 0 {
-        return Entry::End;
+        return Ok(None);
     }
     if got < 12 {
-        return Entry::Broken;
+        return Err(CutShort);
     }
-    let length = pair(head[8], head[9]) + 65536 * pair(head[10], head[11]);
     let wanted = Verdict {
         number: head[0],
-        n: pair(head[2], head[3]),
-        m: pair(head[4], head[5]),
+        n: usize::from(u16::from_le_bytes([head[2], head[3]])),
+        m: usize::from(u16::from_le_bytes([head[4], head[5]])),
     };
-    Entry::Sheet(wanted, length)
+    let length = u32::from_le_bytes([head[8], head[9], head[10], head[11]]);
+    Ok(Some((wanted, length as usize)))
 }
 
-// Fills `place` with the sheet and has it checked.
-fn run_in<R: Read>(place: &mut [u8], stored: &mut R, wanted: Verdict) -> Turn {
-    if read_full(stored, place) < place.len() {
-        return Turn::Broken;
-    }
-    Turn::Ran(wanted, answer(place))
-}
-
-// A sheet that does not fit the space counts as broken.
-fn run_sheet<R: Read>(space: &mut [u8], stored: &mut R, wanted: Verdict, length: usize) -> Turn {
-    if length > space.len() {
-        return Turn::Broken;
-    }
-    run_in(&mut space[..length], stored, wanted)
-}
-
-// The space holds more than the longest sheet that can be accepted, which has 32,768 bytes.
-fn turn_of<R: Read>(stored: &mut R) -> Turn {
+// What the next sheet should answer and what it does. None at the end of the file. The space holds more than the longest sheet that can be accepted,
+// which has 32,768 bytes.
+fn next_turn<R: Read>(stored: &mut R) -> Result<Option<(Verdict, Verdict)>, CutShort> {
+    let Some((wanted, length)) = next_entry(stored)? else {
+        return Ok(None);
+    };
     let mut space = [0u8; 40000];
-    match next_entry(stored) {
-        Entry::End => Turn::End,
-        Entry::Broken => Turn::Broken,
-        Entry::Sheet(wanted, length) => run_sheet(&mut space, stored, wanted, length),
+    if space.len() < length {
+        return Err(CutShort);
     }
+    let place = &mut space[..length];
+    if read_full(stored, place) < length {
+        return Err(CutShort);
+    }
+    Ok(Some((wanted, Verdict::from(refusals::check(place)))))
 }
 
-fn nothing_run() -> Tally
-    ensures { (result.sheets ≡ 0) × (result.wrong ≡ 0) }
+// Runs the sheets and counts them.
+fn run<R: Read>(stored: &mut R, t: &mut Tally) -> Result<(), CutShort>
+    requires { t.old.sheets ≡ 0 }
 {
-    let none = Verdict {
-        number: 0,
-        n: 0,
-        m: 0,
-    };
-    Tally {
-        sheets: 0,
-        wrong: 0,
-        first: 0,
-        wanted: none,
-        given: none,
-        ended: false,
-        broken: false,
+    for _ in 0..100000u64 {
+        let Some((wanted, given)) = next_turn(stored)? else {
+            return Ok(());
+        };
+        t.count(wanted, given);
     }
+    Err(CutShort)
 }
 
-// One sheet more. Only the first that goes wrong is kept.
-fn counted(t: Tally, wanted: Verdict, given: Verdict) -> Tally
-    requires { (t.sheets < 2 ^ 62) × (t.wrong ≤ t.sheets) }
-    ensures { (result.sheets ≡ t.sheets + 1) × (result.wrong ≤ result.sheets) }
-{
-    let mut r = t;
-    r.sheets = t.sheets + 1;
-    if agree(wanted, given) {
-        return r;
-    }
-    r.wrong = t.wrong + 1;
-    if t.wrong == 0 {
-        r.first = t.sheets;
-        r.wanted = wanted;
-        r.given = given;
-    }
-    r
-}
-
-fn after(t: Tally, turn: Turn) -> Tally
-    requires { (t.sheets < 2 ^ 62) × (t.wrong ≤ t.sheets) }
-    ensures { (result.sheets ≤ t.sheets + 1) × (result.wrong ≤ result.sheets) }
-{
-    let mut r = t;
-    match turn {
-        Turn::End => {
-            r.ended = true;
-        }
-        Turn::Broken => {
-            r.broken = true;
-        }
-        Turn::Ran(wanted, given) => {
-            r = counted(t, wanted, given);
-        }
-    }
-    r
-}
-
-// The entries are counted down from more than are stored.
-fn run<R: Read>(stored: &mut R) -> Tally
-    ensures { result.wrong ≤ result.sheets }
-{
-    let mut t = nothing_run();
-    let mut left: u64 = 100000;
-    while left > 0 {
-        t = after(t, turn_of(stored));
-        if t.ended || t.broken {
-            return t;
-        }
-        left -= 1;
-    }
-    t
-}
-
-fn print(rt: &impl Print, text: &str, number: u64) -> io::Result<()> {
-    print!(rt; "{text}{number}")
-}
-
-fn print_verdict(rt: &impl Print, v: Verdict) -> io::Result<()> {
-    print(rt, " ", v.number as u64)?;
-    print(rt, " with n ", v.n as u64)?;
-    print(rt, " and m ", v.m as u64)
-}
-
-fn print_first(rt: &impl Print, t: Tally) -> io::Result<()> {
-    print(rt, "first at ", t.first)?;
-    print!(rt; ": expected")?;
-    let wanted = t.wanted;
-    print_verdict(rt, wanted)?;
-    print!(rt; ", given")?;
-    let given = t.given;
-    print_verdict(rt, given)?;
-    println!(rt)
-}
-
-fn summary(rt: &impl Print, t: Tally) -> io::Result<()>
-    requires { t.wrong ≤ t.sheets }
-{
-    print(rt, "", t.sheets)?;
-    print(rt, " sheets: ", t.sheets - t.wrong)?;
-    print(rt, " as expected, ", t.wrong)?;
-    println!(rt; " not")?;
-    if t.wrong > 0 {
-        print_first(rt, t)?;
-    }
-    if !t.ended {
-        println!(rt; "the file of sheets was not read to its end")?;
+fn summary(rt: &impl Print, t: &Tally) -> io::Result<()> {
+    println!(rt;
+        "{} sheets: {} as expected, {} not",
+        t.sheets,
+        t.sheets - t.wrong,
+        t.wrong
+    )?;
+    if let Some(wrong) = t.first {
+        println!(rt; "{wrong}")?;
     }
     Ok(())
 }
 
 fn main(rt: HostRuntime) -> anyhow::Result<()> {
     let mut file = File::open(&rt, "sheets").context("sheets")?;
-    summary(&rt, run(&mut file))?;
+    let mut t = Tally::new();
+    let read = run(&mut file, &mut t);
+    summary(&rt, &t)?;
+    if read.is_err() {
+        println!(rt; "the file of sheets was not read to its end")?;
+    }
     Ok(())
 }

@@ -4,79 +4,73 @@
 // `none`; or `refused` and the number. A write that fails ends the program with its error.
 #![tactic(auto)]
 
-ghost use Rattle.std.specs.Prelude.{◌<◌};
-
 use answers::Answer;
 use reading::read_full;
-use std::io;
+use std::{fmt, io};
 
-const MASK: u64 = 549755813886;
+const MASK: u64 = (1 << 39) - 2;
 
-fn wide(b: u8) -> u64
-    ensures { result < 256 }
-{
-    b as u64
+// The longest sheet: 1,024 records and 16,384 label bytes.
+const MOST: usize = 32768;
+
+// What is printed of the type of a one-type sheet.
+#[derive(Clone, Copy)]
+struct Type {
+    kind: u8,
+    figure: u8,
+    scale: i8,
+    records: u16,
 }
 
-fn print_number(rt: &impl Print, text: &str, number: u64) -> io::Result<()> {
-    print!(rt; "{text}{number}")
-}
-
-// A byte of 128 and more stands for a scale below zero.
-fn print_scale(rt: &impl Print, scale: u8) -> io::Result<()> {
-    if scale < 128 {
-        print_number(rt, " ", scale as u64)
-    } else {
-        print_number(rt, " -", 256 - wide(scale))
+impl Type {
+    // The type of the one-type sheet at the front of an output.
+    fn at_front(output: &[u8; MOST]) -> Type {
+        let n = u16::from_le_bytes([output[0], output[1]]);
+        Type {
+            kind: output[16],
+            figure: output[18],
+            scale: output[19].cast_signed(),
+            records: n.saturating_sub(1),
+        }
     }
 }
 
-// The records of a sheet that has the counts of its first two bytes, without its header.
-fn records(low: u8, high: u8) -> u64 {
-    let n = wide(low) + 256 * wide(high);
-    if n == 0 {
-        return 0;
+impl fmt::Display for Type {
+    fn fmt<W: fmt::Write>(&self, f: &mut fmt::Formatter<W>) -> fmt::Result {
+        let Type {
+            kind,
+            figure,
+            scale,
+            records,
+        } = self;
+        write!(f, "{kind} {figure} {scale} {records}")
     }
-    n - 1
 }
 
-// Prints the type of the one-type sheet at the front of an output.
-fn print_type(rt: &impl Print, output: &[u8; 32768]) -> io::Result<()> {
-    print_number(rt, " ", wide(output[16]))?;
-    print_number(rt, " ", wide(output[18]))?;
-    print_scale(rt, output[19])?;
-    print_number(rt, " ", records(output[0], output[1]))
-}
-
-fn print_answer(
+// Prints what a call answers to a sheet.
+fn print_answer<F: Fn(&[u8], u64, &mut [u8], &mut [u8]) -> Answer>(
     rt: &impl Print,
     question: &str,
-    answer: Answer,
-    output: &[u8; 32768],
-) -> io::Result<()> {
-    print!(rt; "{question}")?;
-    match answer {
-        Answer::Refused(number) => print_number(rt, " refused ", wide(number))?,
-        Answer::Nothing => print!(rt; " none")?,
-        Answer::Type(_) => print_type(rt, output)?,
+    call: F,
+    sheet: &[u8],
+) -> io::Result<()>
+    requires { F.IsAlwaysCallable call }
+{
+    let mut output = [0u8; MOST];
+    let mut work = [0u8; 2 * MOST];
+    match call(sheet, MASK, &mut output, &mut work) {
+        Err(r) => println!(rt; "{question} refused {}", u8::from(r)),
+        Ok(None) => println!(rt; "{question} none"),
+        Ok(Some(_)) => println!(rt; "{question} {}", Type::at_front(&output)),
     }
-    println!(rt)
 }
 
-fn answer_all(rt: &impl Print, sheet: &[u8]) -> io::Result<()> {
-    let mut output = [0u8; 32768];
-    let mut work = [0u8; 65536];
-    let list = answers::type_union_resolution(sheet, MASK, &mut output, &mut work);
-    print_answer(rt, "list", list, &output)?;
-    let union = answers::type_union_coercion(sheet, MASK, &mut output, &mut work);
-    print_answer(rt, "union", union, &output)?;
-    let compare = answers::comparison_coercion(sheet, MASK, &mut output, &mut work);
-    print_answer(rt, "compare", compare, &output)
-}
-
-// No sheet has more than 32,768 bytes (1,024 records and 16,384 label bytes): what has one more is refused as torn.
+// What has one byte more than the longest sheet is refused as torn.
 fn main(rt: HostRuntime) -> io::Result<()> {
-    let mut space = [0u8; 32769];
+    let mut space = [0u8; MOST + 1];
     let length = read_full(&mut rt.reader(), &mut space);
-    answer_all(&rt, &space[..length])
+    let sheet = &space[..length];
+    print_answer(&rt, "list", answers::type_union_resolution, sheet)?;
+    print_answer(&rt, "union", answers::type_union_coercion, sheet)?;
+    print_answer(&rt, "compare", answers::comparison_coercion, sheet)
 }

@@ -3,7 +3,7 @@ use mathlib.Core.Path.{◌≡◌, refl, ap, sym, ◌∙◌}
 use mathlib.Core.Bool.{Bool, true, false, cond, ◌&&◌, ◌||◌}
 use mathlib.Core.List.{List, [], ◌∷◌}
 use mathlib.Core.Logic.{◌⊎◌, inl, inr}
-use mathlib.Core.Option.{Option, none, some}
+use Rattle.std.specs.Prelude.{Option, None, Some}
 use Prim.Native.Nat.{ℕ, ◌<◌, ◌≤◌}
 use native.Mathlib.Omega.{arith}
 use lib.Dec.{eqb}
@@ -33,7 +33,7 @@ use Rattle.turns.specs.Turns.{struct_rule, map_rule, nested_of, either_wrapped, 
 data Among : List (Option DataType) → List (Option DataType) → Type 0 where
   done : Among [] []
   keep : {o : Option DataType} {os ps : List (Option DataType)} → Among os ps → Among (o ∷ os) (o ∷ ps)
-  skip : {p : Option DataType} {os ps : List (Option DataType)} → p ≡ none → Among os ps → Among os (p ∷ ps)
+  skip : {p : Option DataType} {os ps : List (Option DataType)} → p ≡ None → Among os ps → Among os (p ∷ ps)
 
 first_among : {os ps : List (Option DataType)} → Among os ps → first_of ps ≡ first_of os
 unfolding first_of
@@ -47,20 +47,20 @@ unfolding first_of
 only {o} a = first_among a ∙ or_none o
 
 -- an answer after two others, where it is none or they are
-later : {n d e : Option DataType} (o : Option DataType) → (n ≡ none) ⊎ ((d ≡ none) × (e ≡ none))
+later : {n d e : Option DataType} (o : Option DataType) → (n ≡ None) ⊎ ((d ≡ None) × (e ≡ None))
     → or_else n (or_else d (or_else e o)) ≡ or_else d (or_else e (or_else n o))
 later o (inl h) = rw h
 later o (inr h) = rw (h.0, h.1)
 
 -- the rules for types without parts, none of which knows two types that have some
 record Quiet (l r : DataType) : Type 0 where
-  numeric : as_type (binary_numeric_coercion (figures_of l) (figures_of r)) ≡ none
-  temporal : temporal_coercion_nonstrict_timezone l r ≡ none
-  string : of_kind_type (string_coercion l.shape.kind r.shape.kind) ≡ none
-  null : (mask : ℕ) → null_coercion mask l r ≡ none
-  number : (q : Question) → string_number q l r ≡ none
-  time : string_temporal_coercion l r ≡ none
-  binary : of_kind_type (binary_coercion l.shape.kind r.shape.kind) ≡ none
+  numeric : as_type (binary_numeric_coercion (figures_of l) (figures_of r)) ≡ None
+  temporal : temporal_coercion_nonstrict_timezone l r ≡ None
+  string : of_kind_type (string_coercion l.shape.kind r.shape.kind) ≡ None
+  null : (mask : ℕ) → null_coercion mask l r ≡ None
+  number : (q : Question) → string_number q l r ≡ None
+  time : string_temporal_coercion l r ≡ None
+  binary : of_kind_type (binary_coercion l.shape.kind r.shape.kind) ≡ None
 
 quiet : (l r : DataType) → 32 ≤ l.shape.kind → 32 ≤ r.shape.kind → Quiet l r
 unfolding binary_numeric_coercion temporal_coercion_nonstrict_timezone temporal_coercion string_coercion null_coercion string_numeric_coercion string_numeric_union_coercion
@@ -86,7 +86,7 @@ quiet l r h g =
           (other k 25 (omega arith) h, other k 26 (omega arith) h, other k 27 (omega arith) h, other k 28 (omega arith) h, other k 29 (omega arith) h, other k 30 (omega arith) h, other k 31 (omega arith) h, string);
     }
   where
-    asked : is_numeric l.shape.kind ≡ false → is_string l.shape.kind ≡ false → (q : Question) → string_number q l r ≡ none
+    asked : is_numeric l.shape.kind ≡ false → is_string l.shape.kind ≡ false → (q : Question) → string_number q l r ≡ None
     asked n s list = rw (n, s)
     asked n s union = rw (s, n)
     asked n s compare = rw (n, s)
@@ -138,20 +138,20 @@ bare_rules q mask c l r =
     ∷ []
 
 module _ (c : DataType → DataType → Option DataType) (l r : DataType) where
-  list_none : both_lists l r ≡ false → list_coercion c l r ≡ none
+  list_none : both_lists l r ≡ false → list_coercion c l r ≡ None
   unfolding list_coercion
   list_none h = rw h
 
-  struct_none : both Kind.struct l r ≡ false → struct_coercion c l r ≡ none
+  struct_none : both Kind.struct l r ≡ false → struct_coercion c l r ≡ None
   unfolding struct_coercion
   struct_none h = go (is_of Kind.struct l) (is_of Kind.struct r) (eqb (arity l.parts) (arity r.parts)) _ h
     where
-      go : (a b e : Bool) (o : Option DataType) → a && b ≡ false → cond (a && (b && e)) o none ≡ none
+      go : (a b e : Bool) (o : Option DataType) → a && b ≡ false → cond (a && (b && e)) o None ≡ None
       go true true e o h = never (sym h)
       go true false e o h = refl
       go false b e o h = refl
 
-  map_none : both Kind.map l r ≡ false → map_coercion c l r ≡ none
+  map_none : both Kind.map l r ≡ false → map_coercion c l r ≡ None
   unfolding map_coercion
   map_none h = rw h
 
@@ -213,57 +213,57 @@ module _ (c : DataType → DataType → Option DataType) (l r : DataType) where
           (keep (keep (keep (skip (list_none x) (keep (keep (keep (keep (skip (struct_none y) (skip (map_none z) done)))))))))))
 
   -- a number is no wrapper
-  numbers_bare : is_numeric l.shape.kind && is_numeric r.shape.kind ≡ true → (k : ℕ) → 17 < k → wrapper_coercion k c l r ≡ none
+  numbers_bare : is_numeric l.shape.kind && is_numeric r.shape.kind ≡ true → (k : ℕ) → 17 < k → wrapper_coercion k c l r ≡ None
   numbers_bare h k b =
       let p = kind_from 3 17 l.shape.kind (and_fst _ _ h) in
       let q = kind_from 3 17 r.shape.kind (and_snd (is_numeric l.shape.kind) (is_numeric r.shape.kind) h) in
       wrapper_none k c l r (ne_eqb l.shape.kind k (λ e. omega arith)) (ne_eqb r.shape.kind k (λ e. omega arith))
 
   -- either the rule for numbers is none, or those for wrappers are
-  numbers_apart : (as_type (binary_numeric_coercion (figures_of l) (figures_of r)) ≡ none) ⊎ ((wrapper_coercion 37 c l r ≡ none) × (wrapper_coercion 38 c l r ≡ none))
+  numbers_apart : (as_type (binary_numeric_coercion (figures_of l) (figures_of r)) ≡ None) ⊎ ((wrapper_coercion 37 c l r ≡ None) × (wrapper_coercion 38 c l r ≡ None))
   unfolding binary_numeric_coercion
   numbers_apart = go (is_numeric l.shape.kind && is_numeric r.shape.kind) refl
     where
       go : (b : Bool) → is_numeric l.shape.kind && is_numeric r.shape.kind ≡ b
-          → (as_type (binary_numeric_coercion (figures_of l) (figures_of r)) ≡ none) ⊎ ((wrapper_coercion 37 c l r ≡ none) × (wrapper_coercion 38 c l r ≡ none))
+          → (as_type (binary_numeric_coercion (figures_of l) (figures_of r)) ≡ None) ⊎ ((wrapper_coercion 37 c l r ≡ None) × (wrapper_coercion 38 c l r ≡ None))
       go true h = inr (numbers_bare h 37 (omega arith), numbers_bare h 38 (omega arith))
       go false h = inl (rw h)
 
   pair_turns : (q : Question) (mask : ℕ) → string_time q l r ≡ string_temporal_coercion l r → struct_rule q c l r ≡ struct_coercion c l r
-      → first_of (pair_rules (rules_for q mask) c l r) ≡ cond (alike l r) (some l) (unwrapped (rules_for q mask) c l r)
+      → first_of (pair_rules (rules_for q mask) c l r) ≡ cond (alike l r) (Some l) (unwrapped (rules_for q mask) c l r)
   unfolding first_of unwrapped
   pair_turns q mask t s =
-      ap (or_else (cond (alike l r) (some l) none))
+      ap (or_else (cond (alike l r) (Some l) None))
       (later _ numbers_apart ∙ ap (λ o. or_else (wrapper_coercion 37 c l r) (or_else (wrapper_coercion 38 c l r) o)) (pair_nested q mask t s))
       ∙ go (alike l r) (unwrapped (rules_for q mask) c l r)
     where
-      go : (b : Bool) (o : Option DataType) → or_else (cond b (some l) none) o ≡ cond b (some l) o
+      go : (b : Bool) (o : Option DataType) → or_else (cond b (Some l) None) o ≡ cond b (Some l) o
       go true o = refl
       go false o = refl
 
-  list_turns : (mask : ℕ) → resolution_coercion (rules_for list mask) c l r ≡ cond (equal l r) (some l) (resolved (rules_for list mask) c l r)
+  list_turns : (mask : ℕ) → resolution_coercion (rules_for list mask) c l r ≡ cond (equal l r) (Some l) (resolved (rules_for list mask) c l r)
   unfolding resolved either_wrapped
   list_turns mask =
-      ap (cond (equal l r) (some l))
+      ap (cond (equal l r) (Some l))
       (either (is_of 37 l) (is_of 37 r) _ _ _ _
       ∙ ap (cond (is_of 37 l || is_of 37 r) _) (either (is_of 38 l) (is_of 38 r) _ _ _ _ ∙ ap (cond (is_of 38 l || is_of 38 r) _) (list_nested mask)))
     where
       either : (a b : Bool) (x y z w : Option DataType)
-          → cond (a && b) x (cond a y (cond b z w)) ≡ cond (a || b) (cond a (cond b x y) (cond b z none)) w
+          → cond (a && b) x (cond a y (cond b z w)) ≡ cond (a || b) (cond a (cond b x y) (cond b z None)) w
       either true true x y z w = refl
       either true false x y z w = refl
       either false true x y z w = refl
       either false false x y z w = refl
 
   turns_for_lem : (q : Question) (mask : ℕ)
-      → ask q (rules_for q mask) c l r ≡ cond (same_type (is_list_question q) l r) (some l) (turns_for q (rules_for q mask) c l r)
+      → ask q (rules_for q mask) c l r ≡ cond (same_type (is_list_question q) l r) (Some l) (turns_for q (rules_for q mask) c l r)
   turns_for_lem list mask = list_turns mask
   turns_for_lem union mask = pair_turns union mask refl refl
   turns_for_lem compare mask = pair_turns compare mask refl refl
 
 -- what a question asks, in the merge's order
 pub ask_turns : (rules : Rules) (c : DataType → DataType → Option DataType) (l r : DataType)
-    → ask rules.question rules c l r ≡ cond (same_type (is_list_question rules.question) l r) (some l) (turns_of rules c l r)
+    → ask rules.question rules c l r ≡ cond (same_type (is_list_question rules.question) l r) (Some l) (turns_of rules c l r)
 ask_turns rules c l r = turns_for_lem c l r rules.question rules.mask
 
 -- two types that are no wrappers

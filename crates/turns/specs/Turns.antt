@@ -1,6 +1,6 @@
 -- The order in which the merge tries the rules of the source; proofs/Orders.antt says that it gives the source's answers. `coerce` is the source's `coerce_fn`.
 use Rattle.std.specs.Prelude.{ℕ, cond, ◌&&◌, ◌||◌, eqb}
-use Rattle.std.proofs.Math.Option.{Option, none, some}
+use Rattle.std.specs.Prelude.{Option, None, Some}
 use Rattle.sheet.specs.Kind as Kind
 use Rattle.coercion.specs.Data.{DataType, Rules, or_else, and_then}
 use Rattle.coercion.specs.Data as Data
@@ -33,7 +33,7 @@ map_rule coerce l r =
     and_then (entry_type l.parts)
     (λ a. and_then (entry_type r.parts)
     (λ b. and_then (struct_coercion coerce a b)
-    (λ t. some (record { shape = map_shape (l.shape.sorted && r.shape.sorted); parts = entry_of l.parts t }))))
+    (λ t. Some (record { shape = map_shape (l.shape.sorted && r.shape.sorted); parts = entry_of l.parts t }))))
 
 -- a wrapper of a kind about another value
 abbrev pub rewrap : ℕ → DataType → DataType → Option DataType
@@ -51,7 +51,7 @@ rewrapped k coerce l r = wrapped coerce l r (rewrap k)
 unfoldable pub either_wrapped : ℕ → (DataType → DataType → Option DataType) → DataType → DataType → Option DataType
 either_wrapped k coerce l r =
     cond (is_of k l) (cond (is_of k r) (both_parts coerce l l.parts r.parts) (wrapped coerce l r (rewrap k)))
-    (cond (is_of k r) (wrapped coerce r l (rewrap k)) none)
+    (cond (is_of k r) (wrapped coerce r l (rewrap k)) None)
 
 -- a list's types that are not the same
 unfoldable pub resolved : Rules → (DataType → DataType → Option DataType) → DataType → DataType → Option DataType

@@ -1,14 +1,16 @@
 -- A candidate that stays as it is, by its core. Assumes nothing.
 use mathlib.Core.Path.{◌≡◌, refl, ap, ap₂, sym, subst, ◌∙◌}
-use mathlib.Core.Bool.{Bool, true, false, cond, not, ◌&&◌, ◌||◌, or-false}
+use Rattle.std.proofs.lemmas.Option.{same_Some}
+use mathlib.Core.Bool.{Bool, true, false, cond, not, ◌&&◌, or-false}
 use mathlib.Core.List.{List, [], ◌∷◌}
 use mathlib.Core.Logic.{◌⊎◌, inl, inr}
-use mathlib.Core.Option.{Option, none, some, some_inj}
+use Rattle.std.specs.Prelude.{Option, None, Some}
 use Prim.Native.Nat.{ℕ, ◌<◌, ◌≤◌}
 use native.Mathlib.Omega.{arith}
 use borrow.Author.Tests.{not-true, eq-eqb, ne_eqb, eqb-true}
 use lib.Dec.{eqb}
-use Rattle.sheet.specs.Kind.{is_decimal, sized, last_unit, names_parts}
+use Rattle.std.proofs.lemmas.Bool.Decides.{nat_tests}
+use Rattle.sheet.specs.Kind.{is_kind, is_decimal, sized, last_unit, names_parts}
 use Rattle.sheet.specs.Tests.{between}
 use Rattle.sheet.specs.Types.{Zone, present, Shape, Fields, end, field, arity}
 use Rattle.sheet.specs.Refusals.{figure_right, size_right, figures_right}
@@ -20,7 +22,7 @@ use Rattle.sheet.proofs.Tests.{never, and_fst, and_snd, all_at}
 use Rattle.kinds.proofs.Chain.{first}
 use Rattle.coercion.specs.Data.{DataType, Rules, and_then, figures_of, of_unit, zoned}
 use Rattle.coercion.specs.Data as Data
-use Rattle.coercion.specs.Same.{equal, same_type}
+use Rattle.coercion.specs.Same.{equal}
 use Rattle.coercion.specs.Times.{timeunit_coercion, zone_coercion, temporal_coercion_nonstrict_timezone}
 use Rattle.coercion.specs.Wrappers.{value_in}
 use Rattle.coercion.specs.Answers.{coercion, ask, wrapped, keep_dictionary, run_ends_of}
@@ -42,8 +44,7 @@ use Rattle.wrappers.specs.Ways.{is_wrapper}
 use Rattle.wrappers.proofs.Cores.{missing, wrapper_is, two_parts}
 use Rattle.wrappers.proofs.Values.{Two, typed_two, value_of}
 use Rattle.values.specs.declared.value.Leaf.{Leaf}
-use Rattle.values.specs.declared.value.Joint.{Joint}
-use Rattle.values.specs.Value.{is_plain, leaf_of, leaf_type, Valued, JointIs, Joins}
+use Rattle.values.specs.Value.{is_plain, leaf_of, Valued}
 use Rattle.values.specs.Keeps.{core_of, with_core, CoreAlone, lays_view, CoreAt, stays_zoned}
 use Rattle.values.proofs.Valuing.{typed_right, no_parts, leaf_low, plain_valued, plain_coercion}
 
@@ -73,11 +74,11 @@ core_bare s end h = refl
 core_bare s (field n b s₁ p₁ end) h = refl
 core_bare s (field n b s₁ p₁ (field n₂ b₂ s₂ p₂ q)) h = rw h
 
-pub core_wrap : (s : Shape) (p : Fields) (v : DataType) → is_wrapper s.kind ≡ true → value_in p ≡ some v → core_of s p ≡ core_of v.shape v.parts
+pub core_wrap : (s : Shape) (p : Fields) (v : DataType) → is_wrapper s.kind ≡ true → value_in p ≡ Some v → core_of s p ≡ core_of v.shape v.parts
 unfolding core_of
 core_wrap s end v w e = missing e
 core_wrap s (field n b s₁ p₁ end) v w e = missing e
-core_wrap s (field n b s₁ p₁ (field n₂ b₂ s₂ p₂ q)) v w e = rw w (ap (λ (t : DataType). core_of t.shape t.parts) (some_inj.0 e))
+core_wrap s (field n b s₁ p₁ (field n₂ b₂ s₂ p₂ q)) v w e = rw w (ap (λ (t : DataType). core_of t.shape t.parts) (same_Some _ _ e))
 
 -- a type with another core
 pub with_bare : (s : Shape) (p : Fields) (t : DataType) → is_wrapper s.kind ≡ false → with_core s p t ≡ t
@@ -114,22 +115,35 @@ second_above {space} {s} {at} {link} {r} {o} {up} x a g e =
     let v = (held_next q g e).source.leads in
     omega (arith, q.source.leads.is, q.source.leads.above, v.is, v.above)
 
+-- a kind below the wrappers, and one that is not
+no_wrapper : (k : ℕ) → k < 37 → is_wrapper k ≡ false
+no_wrapper k h = rw (ne_eqb k 37 (λ e. omega arith), ne_eqb k 38 (λ e. omega arith)) refl
+
+a_wrapper : (k : ℕ) → 37 ≤ k → is_kind k ≡ true → is_wrapper k ≡ true
+unfolding is_kind between
+a_wrapper k h e = grind (arith, nat_tests)
+
 -- the walk down the wrappers
 module _ {space : Space} {s : List ℕ} {at : ℕ} where
   pub core_past : space.n ≤ at → CoreAt space s at at
   core_past h = record { is = λ t a. absurd (omega (arith, link_inside a.chain.held.source)) }
 
-  module _ (h : Head) (e : h ≡ head_at s at) {w : Bool} (ew : w ≡ (eqb h.kind 37 || eqb h.kind 38)) where
-    is_wrapper_lem : {t : DataType} → Typed space s at t → is_wrapper t.shape.kind ≡ w
-    is_wrapper_lem a = ap (λ (k : ℕ). is_wrapper k) (typed_reads a e).kind ∙ sym ew
+  module _ (h : Head) (e : h ≡ head_at s at) where
+    pub core_here : h.kind < 37 → CoreAt space s at at
+    core_here z =
+        record {
+          is =
+              λ t a. let k : t.shape.kind < 37 = omega (arith, (typed_reads a e).kind) in
+              subst (Typed space s at) (sym (core_bare t.shape t.parts (no_wrapper t.shape.kind k))) a;
+        }
 
-    pub core_here : w ≡ false → CoreAt space s at at
-    core_here z = record { is = λ t a. subst (Typed space s at) (sym (core_bare t.shape t.parts (is_wrapper_lem a ∙ z))) a }
+    module _ (z : 37 ≤ h.kind) (g : Head) (eg : g ≡ head_at s h.first) where
+      wraps : {t : DataType} → Typed space s at t → is_wrapper t.shape.kind ≡ true
+      wraps {t} a = let r = typed_reads a e in a_wrapper t.shape.kind (omega (arith, r.kind)) r.known
 
-    module _ (z : w ≡ true) (g : Head) (eg : g ≡ head_at s h.first) where
       -- the value stands behind its wrapper
       value_above : {t : DataType} → Typed space s at t → at < g.next
-      value_above a = second_above (typed_two (is_wrapper_lem a ∙ z) refl a) (held_first a.chain.held h e) g eg
+      value_above a = second_above (typed_two (wraps a) refl a) (held_first a.chain.held h e) g eg
 
       pub core_lost : g.next ≤ at → CoreAt space s at at
       core_lost h = record { is = λ t a. absurd (omega (arith, value_above a)) }
@@ -139,8 +153,8 @@ module _ {space : Space} {s : List ℕ} {at : ℕ} where
           record {
             is =
                 λ t a.
-                let v = value_of (is_wrapper_lem a ∙ z) refl (ap (λ (x : Head). x.next) eg ∙ ap (λ (x : Head). (head_at s x.first).next) e) a in
-                subst (Typed space s k) (sym (core_wrap t.shape t.parts v.type (is_wrapper_lem a ∙ z) v.is)) (c.is v.type v.typed);
+                let v = value_of (wraps a) refl (ap (λ (x : Head). x.next) eg ∙ ap (λ (x : Head). (head_at s x.first).next) e) a in
+                subst (Typed space s k) (sym (core_wrap t.shape t.parts v.type (wraps a) v.is)) (c.is v.type v.typed);
           }
 
 -- a Timestamp is its unit and its zone
@@ -160,31 +174,22 @@ module _ (t : DataType) (h : FieldRight 0 [] false t.shape t.parts) (e : t.shape
   own_figured = record { kind = refl; figure = refl; scale = refl; known = h.known; bare = λ q. never (sym q ∙ eq-eqb t.shape.kind 22 e) }
 
 -- a step that lays no Utf8View makes none of two other types
-step_view : (step : Step) (l r u : DataType) (b : Bool) → lays_view step ≡ false → (l.shape.kind ≡ 27 → ⊥) → (r.shape.kind ≡ 27 → ⊥) → cond b (some l) (step_of step l r) ≡ some u
+step_view : (step : Option Step) (l r u : DataType) (b : Bool) → lays_view step ≡ false → (l.shape.kind ≡ 27 → ⊥) → (r.shape.kind ≡ 27 → ⊥) → cond b (Some l) (step_of step l r) ≡ Some u
     → u.shape.kind ≡ 27 → ⊥
-step_view step l r u true h n m q e = n (ap (λ (t : DataType). t.shape.kind) (some_inj.0 q) ∙ e)
-step_view (Step.Lay f) l r u false h n m q e = never (sym h ∙ eq-eqb f.kind 27 (ap (λ (t : DataType). t.shape.kind) (some_inj.0 q) ∙ e))
-step_view (Step.Stamp unit) l r u false h n m q e = let k : ◌≡◌ {A = ℕ} 22 27 = ap (λ (t : DataType). t.shape.kind) (some_inj.0 q) ∙ e in omega (arith, k)
-step_view Step.Left l r u false h n m q e = n (ap (λ (t : DataType). t.shape.kind) (some_inj.0 q) ∙ e)
-step_view Step.Right l r u false h n m q e = m (ap (λ (t : DataType). t.shape.kind) (some_inj.0 q) ∙ e)
-step_view Step.Nothing l r u false h n m q e = missing q
+step_view step l r u true h n m q e = n (ap (λ (t : DataType). t.shape.kind) (same_Some _ _ q) ∙ e)
+step_view (Some (Step.Lay f)) l r u false h n m q e = never (sym h ∙ eq-eqb f.kind 27 (ap (λ (t : DataType). t.shape.kind) (same_Some _ _ q) ∙ e))
+step_view (Some (Step.Stamp unit)) l r u false h n m q e = let k : ◌≡◌ {A = ℕ} 22 27 = ap (λ (t : DataType). t.shape.kind) (same_Some _ _ q) ∙ e in omega (arith, k)
+step_view (Some Step.Left) l r u false h n m q e = n (ap (λ (t : DataType). t.shape.kind) (same_Some _ _ q) ∙ e)
+step_view (Some Step.Right) l r u false h n m q e = m (ap (λ (t : DataType). t.shape.kind) (same_Some _ _ q) ∙ e)
+step_view None l r u false h n m q e = missing q
 
 module _ (mask : ℕ) where
   abbrev rules : Rules
   rules = rules_of Question.List mask
 
   -- a type that is the candidate itself
-  pub equal_kept : (t c : DataType) → equal t c ≡ true → coercion rules t c ≡ some c
-  equal_kept t c e = coercion_asks rules t c ∙ rw e (ap (λ (y : DataType). some y) (equal_same t c e))
-
-  -- two types without parts whose common type is a third
-  pub common_is : {x y z c : Leaf} {b : Bool} {o : Joint} → o ≡ Joint.Of c → Joins (coercion rules) x y o → ((named : Bool) → b ≡ same_type named (leaf_type c) (leaf_type z)) → b ≡ true
-      → (l r t : DataType) → Valued x l → Valued y r → Valued z t → coercion rules l r ≡ some t
-  common_is {x} {y} {z} {c} eo j same e l r t p q k = go (coercion rules l r) (subst (λ (o : Joint). JointIs Valued o (coercion rules l r)) eo (j.means l r p q))
-    where
-      go : (m : Option DataType) → JointIs Valued (Joint.Of c) m → m ≡ some t
-      go none a = absurd a
-      go (some u) a = ap (λ (v : DataType). some v) (a.is ∙ equal_same (leaf_type c) (leaf_type z) (sym (same true) ∙ e) ∙ sym k.is)
+  pub equal_kept : (t c : DataType) → equal t c ≡ true → coercion rules t c ≡ Some c
+  equal_kept t c e = coercion_asks rules t c ∙ rw e (ap (λ (y : DataType). Some y) (equal_same t c e))
 
   -- a wrapper and a type that is none, whichever stands left
   module _ (x : DataType) (low : x.shape.kind < 32) where
@@ -195,15 +200,15 @@ module _ (mask : ℕ) where
     Both : DataType → Option DataType → Type 0
     Both d m = (coercion rules d x ≡ m) × (coercion rules x d ≡ m)
 
-    unequal : (l r : DataType) (m : Option DataType) → (l.shape.kind ≡ r.shape.kind → ⊥) → cond (equal l r) (some l) m ≡ m
+    unequal : (l r : DataType) (m : Option DataType) → (l.shape.kind ≡ r.shape.kind → ⊥) → cond (equal l r) (Some l) m ≡ m
     unequal l r m n = go (equal l r) refl
       where
-        go : (b : Bool) → equal l r ≡ b → cond b (some l) m ≡ m
+        go : (b : Bool) → equal l r ≡ b → cond b (Some l) m ≡ m
         go true h = absurd (n (ap (λ (t : DataType). t.shape.kind) (equal_same l r h)))
         go false h = refl
 
-    both_orders : (d : DataType) (m : Option DataType) → 32 ≤ d.shape.kind → ask Data.list rules (coercion rules) d x ≡ cond (equal d x) (some d) m
-        → ask Data.list rules (coercion rules) x d ≡ cond (equal x d) (some x) m → Both d m
+    both_orders : (d : DataType) (m : Option DataType) → 32 ≤ d.shape.kind → ask Data.list rules (coercion rules) d x ≡ cond (equal d x) (Some d) m
+        → ask Data.list rules (coercion rules) x d ≡ cond (equal x d) (Some x) m → Both d m
     unfolding Both
     both_orders d m h p q = (coercion_asks rules d x ∙ p ∙ unequal d x m (λ e. omega arith), coercion_asks rules x d ∙ q ∙ unequal x d m (λ e. omega arith))
 
@@ -221,14 +226,14 @@ module _ (mask : ℕ) where
 
     -- what is made of a core is no Utf8View
     NoView : Option DataType → Type 0
-    NoView m = (t : DataType) → m ≡ some t → t.shape.kind ≡ 27 → ⊥
+    NoView m = (t : DataType) → m ≡ Some t → t.shape.kind ≡ 27 → ⊥
 
     -- a wrapper around a value with another core
     wrapper_with : (up : ℕ) (name : List ℕ) (nullable : Bool) (shape : Shape) (n : List ℕ) (b : Bool) (s : Shape) (p : Fields) (n₂ : List ℕ) (b₂ : Bool) (s₂ : Shape) (p₂ q rest : Fields)
         → FieldsRight up (field name nullable shape (field n b s p (field n₂ b₂ s₂ p₂ q)) rest) → is_wrapper shape.kind ≡ true → (m : Option DataType) → NoView m
-        → coercion rules (type_of s₂ p₂) x ≡ and_then m (λ t. some (with_core s₂ p₂ t))
+        → coercion rules (type_of s₂ p₂) x ≡ and_then m (λ t. Some (with_core s₂ p₂ t))
         → Both (type_of shape (field n b s p (field n₂ b₂ s₂ p₂ q)))
-        (and_then m (λ t. some (type_of shape (field n b s p (field n₂ b₂ (with_core s₂ p₂ t).shape (with_core s₂ p₂ t).parts q)))))
+        (and_then m (λ t. Some (type_of shape (field n b s p (field n₂ b₂ (with_core s₂ p₂ t).shape (with_core s₂ p₂ t).parts q)))))
     unfolding arity names_parts between Both NoView
     wrapper_with up name nullable shape n b s p n₂ b₂ s₂ p₂ (field n₃ b₃ s₃ p₃ q) rest h w m v k = absurd (omega (arith, two_parts _ _ w h.0.filled))
     wrapper_with up name nullable shape n b s p n₂ b₂ s₂ p₂ end rest h w m v k = go (wrapper_is shape.kind w)
@@ -237,20 +242,20 @@ module _ (mask : ℕ) where
         d = type_of shape (field n b s p (field n₂ b₂ s₂ p₂ end))
 
         made : Option DataType
-        made = and_then m (λ t. some (type_of shape (field n b s p (field n₂ b₂ (with_core s₂ p₂ t).shape (with_core s₂ p₂ t).parts end))))
+        made = and_then m (λ t. Some (type_of shape (field n b s p (field n₂ b₂ (with_core s₂ p₂ t).shape (with_core s₂ p₂ t).parts end))))
 
-        kept : shape.kind ≡ 37 → (m : Option DataType) → NoView m → and_then (and_then m (λ t. some (with_core s₂ p₂ t))) (λ t. keep_dictionary d t)
-            ≡ and_then m (λ t. some (type_of shape (field n b s p (field n₂ b₂ (with_core s₂ p₂ t).shape (with_core s₂ p₂ t).parts end))))
-        kept e none v = refl
-        kept e (some t) v =
+        kept : shape.kind ≡ 37 → (m : Option DataType) → NoView m → and_then (and_then m (λ t. Some (with_core s₂ p₂ t))) (λ t. keep_dictionary d t)
+            ≡ and_then m (λ t. Some (type_of shape (field n b s p (field n₂ b₂ (with_core s₂ p₂ t).shape (with_core s₂ p₂ t).parts end))))
+        kept e None v = refl
+        kept e (Some t) v =
             rw (ne_eqb (with_core s₂ p₂ t).shape.kind 27 (with_view s₂ p₂ t (v t refl)))
-            (ap (λ (f : Fields). some (type_of shape (field n b s p f)))
+            (ap (λ (f : Fields). Some (type_of shape (field n b s p f)))
             (sym (plain_name n₂ b₂ (ap (λ (i : ℕ). names_parts i) e) h.1.0.1.1.0 (with_core s₂ p₂ t).shape (with_core s₂ p₂ t).parts)))
 
-        ends : (m : Option DataType) → and_then (and_then m (λ t. some (with_core s₂ p₂ t))) (λ t. run_ends_of d d.parts t)
-            ≡ and_then m (λ t. some (type_of shape (field n b s p (field n₂ b₂ (with_core s₂ p₂ t).shape (with_core s₂ p₂ t).parts end))))
-        ends none = refl
-        ends (some t) = refl
+        ends : (m : Option DataType) → and_then (and_then m (λ t. Some (with_core s₂ p₂ t))) (λ t. run_ends_of d d.parts t)
+            ≡ and_then m (λ t. Some (type_of shape (field n b s p (field n₂ b₂ (with_core s₂ p₂ t).shape (with_core s₂ p₂ t).parts end))))
+        ends None = refl
+        ends (Some t) = refl
 
         go : (shape.kind ≡ 37) ⊎ (shape.kind ≡ 38) → Both d made
         go (inl e) =
@@ -258,15 +263,15 @@ module _ (mask : ℕ) where
         go (inr e) =
             let a = run_ends_orders d e in let g = ap (λ (o : Option DataType). and_then o (λ t. run_ends_of d d.parts t)) k ∙ ends m in (a.0 ∙ g, a.1 ∙ g)
 
-    itself : (m : Option DataType) → m ≡ and_then m (λ t. some t)
-    itself none = refl
-    itself (some t) = refl
+    itself : (m : Option DataType) → m ≡ and_then m (λ t. Some t)
+    itself None = refl
+    itself (Some t) = refl
 
     -- so is a type whose core is made another
     core_with : (up : ℕ) (name : List ℕ) (nullable : Bool) (shape : Shape) (parts rest : Fields) → FieldsRight up (field name nullable shape parts rest)
         → NoView (coercion rules (core_of shape parts) x)
-        → (coercion rules (type_of shape parts) x ≡ and_then (coercion rules (core_of shape parts) x) (λ t. some (with_core shape parts t)))
-        × (is_wrapper shape.kind ≡ true → coercion rules x (type_of shape parts) ≡ and_then (coercion rules (core_of shape parts) x) (λ t. some (with_core shape parts t)))
+        → (coercion rules (type_of shape parts) x ≡ and_then (coercion rules (core_of shape parts) x) (λ t. Some (with_core shape parts t)))
+        × (is_wrapper shape.kind ≡ true → coercion rules x (type_of shape parts) ≡ and_then (coercion rules (core_of shape parts) x) (λ t. Some (with_core shape parts t)))
     unfolding core_of with_core arity Both NoView
     core_with up name nullable shape end rest h v = (itself _, λ w. absurd (omega (arith, two_parts _ _ w h.0.filled)))
     core_with up name nullable shape (field n b s p end) rest h v = (itself _, λ w. absurd (omega (arith, two_parts _ _ w h.0.filled)))
@@ -280,18 +285,18 @@ module _ (mask : ℕ) where
 
   -- a Timestamp with a zone keeps it, to the left of a Timestamp
   stamp_stays : (l r : DataType) (z : List ℕ) → FieldRight 0 [] false l.shape l.parts → FieldRight 0 [] false r.shape r.parts → l.shape.kind ≡ 22 → r.shape.kind ≡ 22
-      → l.shape.zone ≡ present z → timeunit_coercion l.shape.figure r.shape.figure ≡ l.shape.figure → coercion rules l r ≡ some l
+      → l.shape.zone ≡ present z → timeunit_coercion l.shape.figure r.shape.figure ≡ l.shape.figure → coercion rules l r ≡ Some l
   unfolding temporal_coercion_nonstrict_timezone between
   stamp_stays l r z p q el er ez eu =
       plain_coercion rules l r (omega (arith, el)) (omega (arith, er))
-      ∙ ap (cond (equal l r) (some l))
-      (sym (spoken rules l r (own_figured l p el) (own_figured r q er) 1 (ap₂ (λ (k j : ℕ). first 6 (turns k j)) el er) refl) ∙ told ∙ ap (λ (t : DataType). some t) (sym (stamp_is l p el)))
-      ∙ cond_self (equal l r) (some l)
+      ∙ ap (cond (equal l r) (Some l))
+      (sym (spoken rules l r (own_figured l p el) (own_figured r q er) 1 (ap₂ (λ (k j : ℕ). first 6 (turns k j)) el er) refl) ∙ told ∙ ap (λ (t : DataType). Some t) (sym (stamp_is l p el)))
+      ∙ cond_self (equal l r) (Some l)
     where
-      told : temporal_coercion_nonstrict_timezone l r ≡ some (zoned (of_unit 22 l.shape.figure) l.shape.zone)
+      told : temporal_coercion_nonstrict_timezone l r ≡ Some (zoned (of_unit 22 l.shape.figure) l.shape.zone)
       told =
           rw (eq-eqb l.shape.kind 22 el, eq-eqb r.shape.kind 22 er)
-          (ap₂ (λ (u : ℕ) (k : Zone). some (zoned (of_unit 22 u) k)) eu (ap (λ (k : Zone). zone_coercion k r.shape.zone) ez ∙ sym ez))
+          (ap₂ (λ (u : ℕ) (k : Zone). Some (zoned (of_unit 22 u) k)) eu (ap (λ (k : Zone). zone_coercion k r.shape.zone) ez ∙ sym ez))
 
   -- the types that stand at a link and at the front of the second half
   module _ {space : Space} {s u : List ℕ} {link core : ℕ} (x v h : Head) (ex : x ≡ head_at s link) (ev : v ≡ head_at u core) (eh : h ≡ head_at u 1)
@@ -303,7 +308,7 @@ module _ (mask : ℕ) where
     core_typed = at.is c d
 
     -- a wrapper whose core alone changes
-    core_changes : 32 ≤ h.kind → x.kind < 32 → v.kind < 32 → ((u : DataType) → coercion rules inner t ≡ some u → u.shape.kind ≡ 27 → ⊥) → CoreAlone rules t c
+    core_changes : 32 ≤ h.kind → x.kind < 32 → v.kind < 32 → ((u : DataType) → coercion rules inner t ≡ Some u → u.shape.kind ≡ 27 → ⊥) → CoreAlone rules t c
     unfolding NoView
     core_changes high low bare n =
         by_test (is_wrapper c.shape.kind)
@@ -317,24 +322,24 @@ module _ (mask : ℕ) where
         absurd (omega (arith, k, (typed_reads core_typed ev).kind, (typed_reads d eh).kind)))
 
     -- a wrapper whose core stays
-    keeps_core : 32 ≤ h.kind → x.kind < 32 → v.kind < 32 → (v.kind ≡ 27 → ⊥) → coercion rules inner t ≡ some inner → coercion rules t c ≡ some c
+    keeps_core : 32 ≤ h.kind → x.kind < 32 → v.kind < 32 → (v.kind ≡ 27 → ⊥) → coercion rules inner t ≡ Some inner → coercion rules t c ≡ Some c
     keeps_core high low bare n f =
-        (core_changes high low bare (λ u q e. n (sym (typed_reads core_typed ev).kind ∙ ap (λ (y : DataType). y.shape.kind) (some_inj.0 (sym f ∙ q)) ∙ e))).is
-        ∙ ap (λ (m : Option DataType). and_then m (λ u. some (with_core c.shape c.parts u))) f
-        ∙ ap (λ (u : DataType). some u) (with_own c.shape c.parts)
+        (core_changes high low bare (λ u q e. n (sym (typed_reads core_typed ev).kind ∙ ap (λ (y : DataType). y.shape.kind) (same_Some _ _ (sym f ∙ q)) ∙ e))).is
+        ∙ ap (λ (m : Option DataType). and_then m (λ u. Some (with_core c.shape c.parts u))) f
+        ∙ ap (λ (u : DataType). Some u) (with_own c.shape c.parts)
 
     -- one whose core takes a step
-    pub core_steps : 32 ≤ h.kind → x.kind < 32 → v.kind < 32 → (x.kind ≡ 27 → ⊥) → (v.kind ≡ 27 → ⊥) → (step : Step)
+    pub core_steps : 32 ≤ h.kind → x.kind < 32 → v.kind < 32 → (x.kind ≡ 27 → ⊥) → (v.kind ≡ 27 → ⊥) → (step : Option Step)
         → ((l r : DataType) → Reads v l → Reads x r → step_of step l r ≡ plain_rules rules l r) → lays_view step ≡ false → CoreAlone rules t c
     core_steps high low bare n m step f b =
         let rv = typed_reads core_typed ev in
         let rx = typed_reads a ex in
         core_changes high low bare
         (λ u q. step_view step inner t u (equal inner t) b (λ e. m (sym rv.kind ∙ e)) (λ e. n (sym rx.kind ∙ e))
-        (ap (cond (equal inner t) (some inner)) (f inner t rv rx) ∙ sym (plain_coercion rules inner t (omega (arith, rv.kind)) (omega (arith, rx.kind))) ∙ q))
+        (ap (cond (equal inner t) (Some inner)) (f inner t rv rx) ∙ sym (plain_coercion rules inner t (omega (arith, rv.kind)) (omega (arith, rx.kind))) ∙ q))
 
     -- around a Timestamp with a zone
-    pub keeps_zoned : 32 ≤ h.kind → stays_zoned v x ≡ true → coercion rules t c ≡ some c
+    pub keeps_zoned : 32 ≤ h.kind → stays_zoned v x ≡ true → coercion rules t c ≡ Some c
     keeps_zoned high b =
         let l = and_fst (eqb v.kind 22 && zoned_in v) _ b in
         let r = and_snd (eqb v.kind 22 && zoned_in v) _ b in
@@ -348,21 +353,21 @@ module _ (mask : ℕ) where
         keeps_core high (omega (arith, kx)) (omega (arith, kv)) (λ q. omega (arith, kv, q))
         (stamp_stays inner t _ (typed_right inner core_typed).0.0 (typed_right t a).0.0 (rv.kind ∙ kv) (rx.kind ∙ kx) zone unit)
 
-    module _ (b : is_plain x && is_plain v ≡ true) {new old : Leaf} (en : new ≡ leaf_of x) (eo : old ≡ leaf_of v) where
+    module _ (px : is_plain x ≡ true) (pv : is_plain v ≡ true) {new old : Leaf} (en : new ≡ leaf_of x) (eo : old ≡ leaf_of v) where
       new_valued : Valued new t
-      new_valued = plain_valued x (and_fst _ _ b) en ex a
+      new_valued = plain_valued x px en ex a
 
       core_valued : Valued old inner
-      core_valued = plain_valued v (and_snd (is_plain x) _ b) eo ev core_typed
+      core_valued = plain_valued v pv eo ev core_typed
 
       -- a candidate that is no wrapper
-      pub keeps_alone : h.kind < 32 → ((l r u : DataType) → Valued new l → Valued old r → Valued old u → coercion rules l r ≡ some u) → coercion rules t c ≡ some c
-      keeps_alone low f = subst (λ (k : DataType). coercion rules t k ≡ some k) (core_bare c.shape c.parts bare) (f t inner inner new_valued core_valued core_valued)
+      pub keeps_alone : h.kind < 32 → ((l r u : DataType) → Valued new l → Valued old r → Valued old u → coercion rules l r ≡ Some u) → coercion rules t c ≡ Some c
+      keeps_alone low f = subst (λ (k : DataType). coercion rules t k ≡ Some k) (core_bare c.shape c.parts bare) (f t inner inner new_valued core_valued core_valued)
         where
           bare : is_wrapper c.shape.kind ≡ false
-          bare = let e = (typed_reads d eh).kind in rw (ne_eqb c.shape.kind 37 (λ q. omega arith), ne_eqb c.shape.kind 38 (λ q. omega arith)) refl
+          bare = no_wrapper c.shape.kind (omega (arith, (typed_reads d eh).kind))
 
       -- one that is
-      pub keeps_under : 32 ≤ h.kind → (v.kind ≡ 27 → ⊥) → ((l r u : DataType) → Valued old l → Valued new r → Valued old u → coercion rules l r ≡ some u) → coercion rules t c ≡ some c
+      pub keeps_under : 32 ≤ h.kind → (v.kind ≡ 27 → ⊥) → ((l r u : DataType) → Valued old l → Valued new r → Valued old u → coercion rules l r ≡ Some u) → coercion rules t c ≡ Some c
       keeps_under high n f =
-          keeps_core high (leaf_low x (and_fst _ _ b) refl) (leaf_low v (and_snd (is_plain x) _ b) refl) n (f inner t inner core_valued new_valued core_valued)
+          keeps_core high (leaf_low x px refl) (leaf_low v pv refl) n (f inner t inner core_valued new_valued core_valued)

@@ -1,6 +1,6 @@
 -- The rules for types without parts say types of kinds without parts. Assumes nothing.
 use mathlib.Core.Bool.{Bool, true, false, cond, ◌&&◌, ◌||◌}
-use mathlib.Core.Option.{Option, none, some}
+use Rattle.std.specs.Prelude.{Option, None, Some}
 use Prim.Native.Nat.{ℕ, ◌+◌, ◌<◌, max}
 use native.Mathlib.Omega.{arith}
 use lib.Dec.{eqb, leb}
@@ -28,18 +28,18 @@ abbrev LowKind : ℕ → Type 0
 LowKind k = k < 32
 
 as_low : (o : Option Figures) → If LowFigures o → If Low (as_type o)
-as_low none h = tt
-as_low (some f) h = h
+as_low None h = tt
+as_low (Some f) h = h
 
 of_kind_low : (o : Option ℕ) → If LowKind o → If Low (of_kind_type o)
-of_kind_low none h = tt
-of_kind_low (some k) h = h
+of_kind_low None h = tt
+of_kind_low (Some k) h = h
 
 common_low : (d other : Figures) → LowFigures d → If LowFigures (get_common_decimal_type d other)
 unfolding get_common_decimal_type coerce_numeric_type_to_decimal get_wider_decimal_type
 common_low d other h = go (takes d.kind other.kind)
   where
-    go : (b : Bool) → If LowFigures (and_then (cond b (some (decimal d.kind (digits_of other.kind) (fraction_of other.kind + 128))) none) (λ o. some (get_wider_decimal_type d o)))
+    go : (b : Bool) → If LowFigures (and_then (cond b (Some (decimal d.kind (digits_of other.kind) (fraction_of other.kind + 128))) None) (λ o. Some (get_wider_decimal_type d o)))
     go true = h
     go false = tt
 
@@ -120,7 +120,7 @@ module _ (l r : DataType) (h : Low l) (g : Low r) where
       let P = If Low in
       cond_is P (is_null l) _ _ (cond_is P (may_become mask r.shape.kind) _ _ g tt) (cond_is P (is_null r) _ _ (cond_is P (may_become mask l.shape.kind) _ _ h tt) tt)
 
-  either_low : (a b : Bool) → If Low (cond a (some l) (cond b (some r) none))
+  either_low : (a b : Bool) → If Low (cond a (Some l) (cond b (Some r) None))
   either_low a b = cond_is (If Low) a _ _ h (cond_is (If Low) b _ _ g tt)
 
   number_low : (q : Question) → If Low (string_number q l r)

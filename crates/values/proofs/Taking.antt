@@ -1,32 +1,29 @@
 -- The types that are known to leave a candidate as it is. Assumes nothing.
 use mathlib.Core.Path.{◌≡◌, refl, ap, sym, subst, ◌∙◌}
 use mathlib.Core.Bool.{Bool, true, false, cond, ◌&&◌}
+use Rattle.std.specs.Prelude.{Some}
 use mathlib.Core.Logic.{◌⊎◌, inl, inr, ⊎_elim}
 use Prim.Native.Nat.{ℕ, ◌*◌, ◌/◌, ◌%◌, ◌^◌, ◌<◌, max}
 use native.Mathlib.Decide.{ℕ_discrete}
 use native.Mathlib.Nat.{zero-div}
 use native.Mathlib.Omega.{arith}
+use Rattle.std.proofs.lemmas.Nat.{pow_below}
 use lib.Bits.{bit_or, or_shr, or_step}
 use lib.Dec.{eqb}
 use borrow.Author.Tests.{eq-eqb, ne_eqb, eqb-true}
-use Rattle.sheet.proofs.Tests.{and_fst, and_snd, all_at}
+use Rattle.sheet.proofs.Tests.{and_fst, and_snd}
 use Rattle.coercion.specs.Data.{Rules, may_become}
 use Rattle.coercion.specs.Same.{same_type}
 use Rattle.coercion.specs.Answers.{coercion}
-use Rattle.coercion.proofs.Tables.{at, at2}
+use Rattle.coercion.proofs.Tables.{at2}
 use Rattle.values.specs.declared.value.Leaf.{Leaf}
-use Rattle.values.specs.declared.value.Joint.{Joint}
 use Rattle.values.specs.Value.{leaf_type, Joins}
 use Rattle.values.specs.Taken.{is_bare, taken_kinds}
-use Rattle.values.proofs.Valuing.{tests, same_tests}
+use Rattle.values.proofs.Valuing.{same_leaf_type}
 
 -- one bit, moved up
-moved : (k : ℕ) → Bool
-moved k = eqb (1 * 2 ^ k % 2 ^ 64) (2 ^ k)
-
 pub bit_moved : (k : ℕ) → k < 32 → 1 * 2 ^ k % 2 ^ 64 ≡ 2 ^ k
-unfolding moved
-bit_moved k h = eqb-true _ _ (at moved 32 refl k h)
+bit_moved k h = omega (arith, pow_below k 64 (omega arith))
 
 abbrev one_if : Bool → ℕ
 one_if b = cond b 1 0
@@ -66,31 +63,33 @@ bare_is x h =
 
 same_is : (x y : Leaf) → same_type true (leaf_type x) (leaf_type y) ≡ true → x ≡ y
 same_is x y h =
-    let t = sym (same_tests x y true) ∙ h in
-    let a = eqb-true x.kind y.kind (all_at (tests x y) 0 t) in
-    let b = eqb-true x.figure y.figure (all_at (tests x y) 1 t) in
-    let c = eqb-true x.scale y.scale (all_at (tests x y) 2 t) in
-    let d = eqb-true x.size y.size (all_at (tests x y) 3 t) in
+    let t = same_leaf_type x y true ∙ h in
+    let r = and_snd (eqb x.kind y.kind) _ t in
+    let q = and_snd (eqb x.figure y.figure) _ r in
+    let a = eqb-true x.kind y.kind (and_fst _ _ t) in
+    let b = eqb-true x.figure y.figure (and_fst _ _ r) in
+    let c = eqb-true x.scale y.scale (and_fst _ _ q) in
+    let d = eqb-true x.size y.size (and_snd (eqb x.scale y.scale) _ q) in
     λ i. record { kind = a i; figure = b i; scale = c i; size = d i }
 
 -- the types of a set's kinds leave a candidate as it is
 abbrev pub Absorbs : Rules → ℕ → Leaf → Type 0
-Absorbs rules kinds c = (k : ℕ) → k < 32 → may_become kinds k ≡ true → Joins (coercion rules) (bare_leaf k) c (Joint.Of c)
+Absorbs rules kinds c = (k : ℕ) → k < 32 → may_become kinds k ≡ true → Joins (coercion rules) (bare_leaf k) c (Some c)
 
 pub absorbs_none : (rules : Rules) (c : Leaf) → Absorbs rules 0 c
 absorbs_none rules c k h e = let z = eqb-true (0 / 2 ^ k % 2) 1 e in absurd (omega (arith, z, ap (λ (x : ℕ). x % 2) (zero-div (2 ^ k))))
 
-module _ (rules : Rules) (kinds : ℕ) (x last next : Leaf) (low : x.kind < 32) (a : Absorbs rules kinds last) (j : Joins (coercion rules) x last (Joint.Of next)) where
+module _ (rules : Rules) (kinds : ℕ) (x last next : Leaf) (low : x.kind < 32) (a : Absorbs rules kinds last) (j : Joins (coercion rules) x last (Some next)) where
   one_absorbed : last ≡ next → is_bare x ≡ true → Absorbs rules (bit_or kinds (2 ^ x.kind)) next
   one_absorbed e b k h m = ⊎_elim here there (one_more kinds x.kind k low h m)
     where
-      here : k ≡ x.kind → Joins (coercion rules) (bare_leaf k) next (Joint.Of next)
+      here : k ≡ x.kind → Joins (coercion rules) (bare_leaf k) next (Some next)
       here q =
-          subst (λ (c : Leaf). Joins (coercion rules) (bare_leaf k) c (Joint.Of next)) e
-          (subst (λ (z : Leaf). Joins (coercion rules) z last (Joint.Of next)) (bare_is x b ∙ ap bare_leaf (sym q)) j)
+          subst (λ (c : Leaf). Joins (coercion rules) (bare_leaf k) c (Some next)) e
+          (subst (λ (z : Leaf). Joins (coercion rules) z last (Some next)) (bare_is x b ∙ ap bare_leaf (sym q)) j)
 
-      there : may_become kinds k ≡ true → Joins (coercion rules) (bare_leaf k) next (Joint.Of next)
-      there q = subst (λ (c : Leaf). Joins (coercion rules) (bare_leaf k) c (Joint.Of c)) e (a k h q)
+      there : may_become kinds k ≡ true → Joins (coercion rules) (bare_leaf k) next (Some next)
+      there q = subst (λ (c : Leaf). Joins (coercion rules) (bare_leaf k) c (Some c)) e (a k h q)
 
   pub absorbs_next : {r : ℕ} → r ≡ taken_kinds kinds x last next → Absorbs rules r next
   absorbs_next er = subst (λ (r : ℕ). Absorbs rules r next) (sym er) (go (same_type true (leaf_type last) (leaf_type next)) refl (is_bare x) refl)

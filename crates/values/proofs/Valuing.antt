@@ -1,13 +1,12 @@
 -- Types without parts, zone or order, by value. Assumes nothing.
 use mathlib.Core.Path.{◌≡◌, refl, ap, sym, subst, ◌∙◌}
-use mathlib.Core.Bool.{Bool, true, false, cond, and-true}
-use mathlib.Core.List.{List, [], ◌∷◌}
-use mathlib.Core.Option.{Option, none, some}
+use mathlib.Core.Bool.{Bool, true, false, cond, ◌&&◌, and-true}
+use mathlib.Core.List.{List}
+use Rattle.std.specs.Prelude.{Option, None, Some}
 use Prim.Native.Nat.{ℕ, ◌/◌, ◌%◌, ◌<◌}
 use native.Mathlib.Omega.{arith}
-use lib.ListN.{get_or}
 use lib.Dec.{ltb, eqb}
-use borrow.Author.Tests.{ltb-true, eqb-true, eq-eqb, ne_eqb, lt-leb}
+use borrow.Author.Tests.{ltb-true, eqb-true, ne_eqb, lt-leb}
 use Rattle.sheet.specs.Types.{Fields, end, arity}
 use Rattle.sheet.specs.Names.{names_differ}
 use Rattle.sheet.specs.Kind.{parts_right}
@@ -16,7 +15,7 @@ use Rattle.sheet.specs.Head.{head_at}
 use Rattle.sheet.specs.Read.{shape_of}
 use Rattle.sheet.specs.Carried.{FieldsRight}
 use Rattle.sheet.specs.declared.Head.{Head}
-use Rattle.sheet.proofs.Tests.{and_fst, and_snd, all_not}
+use Rattle.sheet.proofs.Tests.{and_fst, and_snd}
 use Rattle.coercion.specs.Data.{DataType, Rules, single}
 use Rattle.coercion.specs.Same.{same_zone, same_shape, same_fields, same_type}
 use Rattle.coercion.specs.Answers.{coercion}
@@ -35,7 +34,6 @@ use Rattle.turns.proofs.Orders.{ask_turns, plain_turns}
 use Rattle.merge.proofs.Merging.{typed_kind, type_differ}
 use Rattle.merge.proofs.Rewrapping.{end_is}
 use Rattle.values.specs.declared.value.Leaf.{Leaf}
-use Rattle.values.specs.declared.value.Joint.{Joint}
 use Rattle.values.specs.Value.{is_plain, leaf_of, leaf_type, figures_in, Valued, JointIs, Says, Joins}
 use Rattle.values.proofs.Low.{Low, plain_low}
 
@@ -94,83 +92,65 @@ valued_right {x} v = (v.right, subst (λ (t : DataType). names_differ (single t)
 valued_low : {x : Leaf} {t : DataType} → Valued x t → Low t
 valued_low v = omega (arith, v.low, ap (λ (x : DataType). x.shape.kind) v.is)
 
--- whether two values are the same type
-module _ (x y : Leaf) where
-  abbrev pub tests : List Bool
-  tests = eqb x.kind y.kind ∷ eqb x.figure y.figure ∷ eqb x.scale y.scale ∷ eqb x.size y.size ∷ []
+-- whether two values are the same, as their derived `==` says, which is whether their types are
+abbrev pub same_leaf : Leaf → Leaf → Bool
+same_leaf x y = eqb x.kind y.kind && (eqb x.figure y.figure && (eqb x.scale y.scale && eqb x.size y.size))
 
-  pub same_tests : (named : Bool) → same_type named (leaf_type x) (leaf_type y) ≡ all_of tests
-  unfolding same_type same_shape same_fields same_zone all_of
-  same_tests named = and-true (all_of tests)
-
-  pub same_differ : (i : ℕ) → get_or tests i true ≡ false → (named : Bool) → false ≡ same_type named (leaf_type x) (leaf_type y)
-  same_differ i e named = sym (same_tests named ∙ all_not tests i e)
-
-  pub same_last : x.kind ≡ y.kind → x.figure ≡ y.figure → x.scale ≡ y.scale → (named : Bool) → eqb x.size y.size ≡ same_type named (leaf_type x) (leaf_type y)
-  unfolding all_of
-  same_last a b c named = sym (same_tests named ∙ rw (eq-eqb x.kind y.kind a, eq-eqb x.figure y.figure b, eq-eqb x.scale y.scale c) (and-true (eqb x.size y.size)))
-
--- what a step says of two values
-module _ {step : Step} {x y : Leaf} where
-  pub says_lay : {f : Figures} → step ≡ Step.Lay f → Says step x y (Joint.Of (record { kind = f.kind; figure = f.figure; scale = f.scale; size = 0 }))
-  says_lay {f} e =
-      subst (λ (k : Step). Says k x y (Joint.Of (record { kind = f.kind; figure = f.figure; scale = f.scale; size = 0 }))) (sym e)
-      (record { holdable = omega arith; means = refl })
-
-  pub says_stamp : {unit : ℕ} → step ≡ Step.Stamp unit → Says step x y (Joint.Of (record { kind = 22; figure = unit; scale = 0; size = 0 }))
-  says_stamp {unit} e =
-      subst (λ (k : Step). Says k x y (Joint.Of (record { kind = 22; figure = unit; scale = 0; size = 0 }))) (sym e) (record { holdable = omega arith; means = refl })
-
-  pub says_left : step ≡ Step.Left → x.size < 4294967296 → Says step x y (Joint.Of x)
-  says_left e b = subst (λ (k : Step). Says k x y (Joint.Of x)) (sym e) (record { holdable = b; means = refl })
-
-  pub says_right : step ≡ Step.Right → y.size < 4294967296 → Says step x y (Joint.Of y)
-  says_right e b = subst (λ (k : Step). Says k x y (Joint.Of y)) (sym e) (record { holdable = b; means = refl })
-
-  pub says_nothing : step ≡ Step.Nothing → Says step x y Joint.Nothing
-  says_nothing e = subst (λ (k : Step). Says k x y Joint.Nothing) (sym e) (record { holdable = tt; means = tt })
+pub same_leaf_type : (x y : Leaf) (named : Bool) → same_leaf x y ≡ same_type named (leaf_type x) (leaf_type y)
+unfolding same_type same_shape same_fields same_zone all_of
+same_leaf_type x y named = simp and-true
 
 -- the common type of two types without parts: the test for sameness, and then their rules
 pub plain_coercion : (rules : Rules) (l r : DataType) → Low l → Low r
-    → coercion rules l r ≡ cond (same_type (is_list_question rules.question) l r) (some l) (plain_rules rules l r)
+    → coercion rules l r ≡ cond (same_type (is_list_question rules.question) l r) (Some l) (plain_rules rules l r)
 plain_coercion rules l r h g =
     coercion_asks rules l r ∙ ask_turns rules (coercion rules) l r
-    ∙ ap (cond (same_type (is_list_question rules.question) l r) (some l)) (sym (plain_turns rules (coercion rules) l r h g))
+    ∙ ap (cond (same_type (is_list_question rules.question) l r) (Some l)) (sym (plain_turns rules (coercion rules) l r h g))
 
 -- a type that may stand in a sheet, and whose value is known
-settled : (o : Joint) (m : Option DataType) → ((t : DataType) → m ≡ some t → Low t × FieldsRight 0 (single t)) → JointIs (λ x t. t ≡ leaf_type x) o m → JointIs Valued o m
-settled (Joint.Of x) none f a = a
-settled (Joint.Of x) (some t) f a = record { is = a; low = omega (arith, (f t refl).0, ap (λ (u : DataType). u.shape.kind) a); right = (f t refl).1 }
-settled Joint.Nothing none f a = tt
-settled Joint.Nothing (some t) f a = a
+settled : (o : Option Leaf) (m : Option DataType) → ((t : DataType) → m ≡ Some t → Low t × FieldsRight 0 (single t)) → JointIs (λ x t. t ≡ leaf_type x) o m → JointIs Valued o m
+settled (Some x) None f a = a
+settled (Some x) (Some t) f a = record { is = a; low = omega (arith, (f t refl).0, ap (λ (u : DataType). u.shape.kind) a); right = (f t refl).1 }
+settled None None f a = tt
+settled None (Some t) f a = a
 
-module _ (rules : Rules) (x y : Leaf) {b : Bool} (same : (named : Bool) → b ≡ same_type named (leaf_type x) (leaf_type y)) where
-  by_test : (l r : DataType) → Valued x l → Valued y r → coercion rules l r ≡ cond b (some l) (plain_rules rules l r)
+module _ (rules : Rules) (x y : Leaf) {b : Bool} (same : b ≡ same_leaf x y) where
+  by_test : (l r : DataType) → Valued x l → Valued y r → coercion rules l r ≡ cond b (Some l) (plain_rules rules l r)
   by_test l r v u =
       plain_coercion rules l r (valued_low v) (valued_low u)
-      ∙ ap (λ (k : Bool). cond k (some l) (plain_rules rules l r)) (ap (λ (k : DataType). same_type named k r) v.is ∙ ap (same_type named (leaf_type x)) u.is ∙ sym (same named))
+      ∙ ap (λ (k : Bool). cond k (Some l) (plain_rules rules l r)) (ap (λ (k : DataType). same_type named k r) v.is ∙ ap (same_type named (leaf_type x)) u.is ∙ sym (same ∙ same_leaf_type x y named))
     where
       named : Bool
       named = is_list_question rules.question
 
-  pub joins_same : b ≡ true → x.size < 4294967296 → Joins (coercion rules) x y (Joint.Of x)
+  pub joins_same : b ≡ true → x.size < 4294967296 → Joins (coercion rules) x y (Some x)
   joins_same e h =
       record {
         holdable = h;
-        means = λ l r v u. subst (JointIs Valued (Joint.Of x)) (sym (by_test l r v u ∙ ap (λ (k : Bool). cond k (some l) (plain_rules rules l r)) e)) v;
+        means = λ l r v u. subst (JointIs Valued (Some x)) (sym (by_test l r v u ∙ ap (λ (k : Bool). cond k (Some l) (plain_rules rules l r)) e)) v;
       }
 
-  pub joins_rule : {step : Step} {f g : Figures} (o : Joint) → b ≡ false → f ≡ figures_in x → g ≡ figures_in y
-      → ((l r : DataType) → Figured f l → Figured g r → step_of step l r ≡ plain_rules rules l r) → Says step x y o → Joins (coercion rules) x y o
-  joins_rule {step} {f} {g} o e ef eg rule s = record { holdable = s.holdable; means = go }
-    where
-      go : (l r : DataType) → Valued x l → Valued y r → JointIs Valued o (coercion rules l r)
-      go l r v u =
-          let plain : coercion rules l r ≡ plain_rules rules l r = by_test l r v u ∙ ap (λ (k : Bool). cond k (some l) (plain_rules rules l r)) e in
-          let told : step_of step (leaf_type x) (leaf_type y) ≡ coercion rules l r =
-          ap (λ (k : DataType). step_of step k (leaf_type y)) (sym v.is) ∙ ap (step_of step l) (sym u.is) ∙ rule l r (subst (λ (k : Figures). Figured k l) (sym ef) (valued_figured v)) (subst (λ (k : Figures). Figured k r) (sym eg) (valued_figured u)) ∙ sym plain in
-          settled o (coercion rules l r)
-          (λ t q. (
-            if_some Low (plain_rules rules l r) t (plain_low rules l r (valued_low v) (valued_low u)) (sym plain ∙ q),
-            (coercion_right rules l r t (valued_right v) (valued_right u) q).0,
-          )) (subst (JointIs (λ x t. t ≡ leaf_type x) o) told s.means)
+  -- where the values differ, their rules say the type
+  module _ (e : b ≡ false) {f g : Figures} (ef : f ≡ figures_in x) (eg : g ≡ figures_in y) where
+    joins_rule : {step : Option Step} (o : Option Leaf) → ((l r : DataType) → Figured f l → Figured g r → step_of step l r ≡ plain_rules rules l r) → Says step x y o
+        → Joins (coercion rules) x y o
+    joins_rule {step} o rule s = record { holdable = s.holdable; means = go }
+      where
+        go : (l r : DataType) → Valued x l → Valued y r → JointIs Valued o (coercion rules l r)
+        go l r v u =
+            let plain : coercion rules l r ≡ plain_rules rules l r = by_test l r v u ∙ ap (λ (k : Bool). cond k (Some l) (plain_rules rules l r)) e in
+            let told : step_of step (leaf_type x) (leaf_type y) ≡ coercion rules l r =
+            ap (λ (k : DataType). step_of step k (leaf_type y)) (sym v.is) ∙ ap (step_of step l) (sym u.is) ∙ rule l r (subst (λ (k : Figures). Figured k l) (sym ef) (valued_figured v)) (subst (λ (k : Figures). Figured k r) (sym eg) (valued_figured u)) ∙ sym plain in
+            settled o (coercion rules l r)
+            (λ t q. (
+              if_some Low (plain_rules rules l r) t (plain_low rules l r (valued_low v) (valued_low u)) (sym plain ∙ q),
+              (coercion_right rules l r t (valued_right v) (valued_right u) q).0,
+            )) (subst (JointIs (λ x t. t ≡ leaf_type x) o) told s.means)
+
+    pub joins_said : {step : Option Step} {k : Step} {z : Leaf} → step ≡ Some k → ((l r : DataType) → Figured f l → Figured g r → step_of step l r ≡ plain_rules rules l r)
+        → Says (Some k) x y (Some z) → Joins (coercion rules) x y (Some z)
+    joins_said {z = z} q rule s = joins_rule (Some z) rule (subst (λ (o : Option Step). Says o x y (Some z)) (sym q) s)
+
+    pub joins_none : {step : Option Step} {o : Option Leaf} → step ≡ None → o ≡ None → ((l r : DataType) → Figured f l → Figured g r → step_of step l r ≡ plain_rules rules l r)
+        → Joins (coercion rules) x y o
+    joins_none {step} {o} q p rule = joins_rule o rule (subst (λ (o : Option Leaf). Says step x y o) (sym p) (subst (λ (k : Option Step). Says k x y None) (sym q) (record { holdable = tt; means = tt })))

@@ -1,6 +1,6 @@
 -- The core of a candidate, and when it alone changes or stays as it is.
 use Rattle.std.specs.Prelude.{◌≡◌, ℕ, ◌<◌, Bool, false, cond, ◌&&◌, List, eqb}
-use Rattle.std.proofs.Math.Option.{some}
+use Rattle.std.specs.Prelude.{Option, None, Some}
 use Rattle.sheet.specs.Kind as Kind
 use Rattle.sheet.specs.Types.{Shape, Fields, end, field}
 use Rattle.sheet.specs.Head.{zoned_in}
@@ -31,23 +31,24 @@ with_core shape (field n b s p (field n₂ b₂ s₂ p₂ rest)) t =
 -- a type x changes only the core of a type c, and that core has no parts
 pub record CoreAlone (rules : Rules) (x c : DataType) : Type 0 where
   pub low : (core_of c.shape c.parts).shape.kind < 32
-  pub is : coercion rules x c ≡ and_then (coercion rules (core_of c.shape c.parts) x) (λ t. some (with_core c.shape c.parts t))
+  pub is : coercion rules x c ≡ and_then (coercion rules (core_of c.shape c.parts) x) (λ t. Some (with_core c.shape c.parts t))
 
 -- whether a step lays Utf8View
-abbrev pub lays_view : Step → Bool
-lays_view (Step.Lay f) = eqb f.kind Kind.utf8_view
-lays_view (Step.Stamp unit) = false
-lays_view Step.Left = false
-lays_view Step.Right = false
-lays_view Step.Nothing = false
+abbrev pub lays_view : Option Step → Bool
+lays_view (Some (Step.Lay f)) = eqb f.kind Kind.utf8_view
+lays_view (Some (Step.Stamp unit)) = false
+lays_view (Some Step.Left) = false
+lays_view (Some Step.Right) = false
+lays_view None = false
 
 -- the core of the type of record r stands at record k, whatever type that is
 pub record CoreAt (space : Space) (s : List ℕ) (r k : ℕ) : Type 0 where
   pub is : (t : DataType) → Typed space s r t → Typed space s k (core_of t.shape t.parts)
 
--- so does the core of the type of record 1, where k is not 0
-abbrev pub CoreIf : Space → List ℕ → ℕ → Type 0
-CoreIf space s k = ¬ (k ≡ 0) → CoreAt space s 1 k
+-- so does the core of the type of record 1, where its record is known
+abbrev pub CoreIf : Space → List ℕ → Option ℕ → Type 0
+CoreIf space s (Some k) = CoreAt space s 1 k
+CoreIf space s None = Unit
 
 -- whether a Timestamp with a zone stays as it is to the left of a Timestamp
 abbrev pub stays_zoned : Head → Head → Bool

@@ -1,6 +1,6 @@
 -- Types without parts, zone or order, by value.
 use Rattle.std.specs.Prelude.{◌≡◌, ◌<◌, Bool, false, ◌&&◌, ltb}
-use Rattle.std.proofs.Math.Option.{Option, none, some}
+use Rattle.std.specs.Prelude.{Option, None, Some}
 use Rattle.sheet.specs.Types.{end}
 use Rattle.sheet.specs.Carried.{FieldsRight}
 use Rattle.sheet.specs.declared.Head.{Head}
@@ -10,7 +10,6 @@ use Rattle.buffers.specs.Steps.{step_of}
 use Rattle.buffers.specs.declared.Step.{Step}
 use Rattle.coercion.specs.declared.Figures.{Figures}
 use Rattle.values.specs.declared.value.Leaf.{Leaf}
-use Rattle.values.specs.declared.value.Joint.{Joint}
 
 -- a head of a kind without parts that is neither sorted nor zoned
 abbrev pub is_plain : Head → Bool
@@ -34,23 +33,23 @@ pub record Valued (x : Leaf) (t : DataType) : Type 0 where
   pub right : FieldsRight 0 (single t)
 
 -- an answer fits a record
-abbrev pub Holdable : Joint → Type 0
-Holdable (Joint.Of x) = x.size < 4294967296
-Holdable Joint.Nothing = Unit
+abbrev pub Holdable : Option Leaf → Type 0
+Holdable (Some x) = x.size < 4294967296
+Holdable None = Unit
 
 -- an answer is the type, if there is one
-abbrev pub JointIs : (Leaf → DataType → Type 0) → Joint → Option DataType → Type 0
-JointIs Is (Joint.Of x) none = ⊥
-JointIs Is (Joint.Of x) (some t) = Is x t
-JointIs Is Joint.Nothing none = Unit
-JointIs Is Joint.Nothing (some t) = ⊥
+abbrev pub JointIs : (Leaf → DataType → Type 0) → Option Leaf → Option DataType → Type 0
+JointIs Is (Some x) None = ⊥
+JointIs Is (Some x) (Some t) = Is x t
+JointIs Is None None = Unit
+JointIs Is None (Some t) = ⊥
 
 -- what a step says of two values
-pub record Says (step : Step) (x y : Leaf) (o : Joint) : Type 0 where
+pub record Says (step : Option Step) (x y : Leaf) (o : Option Leaf) : Type 0 where
   pub holdable : Holdable o
   pub means : JointIs (λ z t. t ≡ leaf_type z) o (step_of step (leaf_type x) (leaf_type y))
 
 -- what a rule says of two types, whatever types two values are
-pub record Joins (coerce : DataType → DataType → Option DataType) (x y : Leaf) (o : Joint) : Type 0 where
+pub record Joins (coerce : DataType → DataType → Option DataType) (x y : Leaf) (o : Option Leaf) : Type 0 where
   pub holdable : Holdable o
   pub means : (l r : DataType) → Valued x l → Valued y r → JointIs Valued o (coerce l r)

@@ -1,10 +1,9 @@
 // Types without parts, zone or order, by value.
-ghost use Rattle.std.specs.Prelude.{◌≡◌, Bool, ◌<◌};
+ghost use Rattle.std.specs.Prelude.{◌≡◌, ◌<◌, Some};
 ghost use Rattle.sheet.specs.Bounds.{Bounded};
-ghost use Rattle.coercion.specs.Same.{same_type};
 ghost use Rattle.coercion.specs.Answers.{coercion};
 ghost use Rattle.buffers.specs.Plain.{rules_of};
-ghost use Rattle.values.specs.Value.{is_plain, leaf_of, leaf_type, figures_in, Says, Joins};
+ghost use Rattle.values.specs.Value.{is_plain, leaf_of, figures_in, Says, Joins};
 
 use buffers::plain::plain_step;
 use buffers::{Question, Step};
@@ -12,7 +11,7 @@ use coercion::Figures;
 use sheet::Head;
 
 // A type without parts, zone or order.
-#[derive(Clone, Copy)]
+#[derive(Clone, Copy, PartialEq)]
 pub struct Leaf {
     pub kind: u8,
     pub figure: u8,
@@ -20,18 +19,23 @@ pub struct Leaf {
     pub size: usize,
 }
 
-// The common type of two such types, or none.
-#[derive(Clone, Copy)]
-pub enum Joint {
-    Of(Leaf),
-    Nothing,
+impl From<Leaf> for Figures {
+    ghost from_gives = { λ x f. f ≡ figures_in x };
+
+    fn from(x: Leaf) -> Figures {
+        Figures {
+            kind: x.kind,
+            figure: x.figure,
+            scale: x.scale,
+        }
+    }
 }
 
 // Whether a head is that of such a type. The lowest flag is the field's: whether it is nullable.
 pub fn is_plain(h: Head) -> bool
     ensures { result ≡ is_plain h }
 {
-    if h.kind < 32 { h.flags < 2 } else { false }
+    h.kind < 32 && h.flags < 2
 }
 
 // The type of such a head.
@@ -47,67 +51,37 @@ pub fn leaf_of(h: Head) -> Leaf
     }
 }
 
-fn figures_of(x: Leaf) -> Figures
-    ensures { result ≡ figures_in x }
-{
-    Figures {
-        kind: x.kind,
-        figure: x.figure,
-        scale: x.scale,
-    }
-}
-
-// Whether two such types are the same.
-pub fn is_same(x: Leaf, y: Leaf) -> bool
-    ensures { (named : Bool) → result ≡ same_type named (leaf_type x) (leaf_type y) }
-{
-    if x.kind != y.kind {
-        return false;
-    }
-    if x.figure != y.figure {
-        return false;
-    }
-    if x.scale != y.scale {
-        return false;
-    }
-    x.size == y.size
-}
-
-// What a step says of two such types. As neither has a zone, a Timestamp has none.
-fn joint_of(step: Step, x: Leaf, y: Leaf) -> Joint
+// The type that a step says of two such types. As neither has a zone, a Timestamp has none.
+fn said_by(step: Step, x: Leaf, y: Leaf) -> Leaf
     requires { (x.size < 4294967296) × (y.size < 4294967296) }
-    ensures { Says step x y result }
+    ensures { Says (Some step) x y (Some result) }
 {
     match step {
-        Step::Lay(f) => Joint::Of(Leaf {
+        Step::Lay(f) => Leaf {
             kind: f.kind,
             figure: f.figure,
             scale: f.scale,
             size: 0,
-        }),
-        Step::Stamp(unit) => Joint::Of(Leaf {
+        },
+        Step::Stamp(unit) => Leaf {
             kind: 22,
             figure: unit,
             scale: 0,
             size: 0,
-        }),
-        Step::Left => Joint::Of(x),
-        Step::Right => Joint::Of(y),
-        Step::Nothing => Joint::Nothing,
+        },
+        Step::Left => x,
+        Step::Right => y,
     }
 }
 
 // The common type of two such types.
-pub fn common_type(question: Question, mask: u64, x: Leaf, y: Leaf) -> Joint
+pub fn common_type(question: Question, mask: u64, x: Leaf, y: Leaf) -> Option<Leaf>
     requires { (x.size < 4294967296) × (y.size < 4294967296) }
     ensures { Joins (coercion (rules_of question mask)) x y result }
 {
-    if is_same(x, y) {
-        return Joint::Of(x);
+    if x == y {
+        return Some(x);
     }
-    joint_of(
-        plain_step(question, mask, figures_of(x), figures_of(y)),
-        x,
-        y,
-    )
+    let step = plain_step(question, mask, Figures::from(x), Figures::from(y))?;
+    Some(said_by(step, x, y))
 }

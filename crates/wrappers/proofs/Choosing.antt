@@ -3,7 +3,7 @@ use mathlib.Core.Path.{◌≡◌, refl, ap, sym, ◌∙◌}
 use mathlib.Core.Bool.{Bool, true, false, cond, ◌||◌}
 use mathlib.Core.List.{List}
 use mathlib.Core.Logic.{inl, inr}
-use mathlib.Core.Option.{Option, none}
+use Rattle.std.specs.Prelude.{Option, None}
 use Prim.Native.Nat.{ℕ}
 use native.Mathlib.Omega.{arith}
 use borrow.Author.Tests.{eqb-true}
@@ -27,11 +27,11 @@ pub typed_whole : {space : Space} {s : List ℕ} {link : ℕ} {t : DataType} →
 typed_whole {t = t} a = whole a.chain.up a.name a.nullable t.shape t.parts a.rest a.chain.held.source.right
 
 -- a Dictionary and run ends have no rule of kind 0
-crossed_none : (coerce : DataType → DataType → Option DataType) (l r : DataType) → Crossed l r → wrapper_coercion 0 coerce l r ≡ none
+crossed_none : (coerce : DataType → DataType → Option DataType) (l r : DataType) → Crossed l r → wrapper_coercion 0 coerce l r ≡ None
 crossed_none coerce l r (inl h) = wrapper_none 0 coerce l r (rw (eqb-true l.shape.kind 37 h.0) refl) (rw (eqb-true r.shape.kind 38 h.1) refl)
 crossed_none coerce l r (inr h) = wrapper_none 0 coerce l r (rw (eqb-true l.shape.kind 38 h.0) refl) (rw (eqb-true r.shape.kind 37 h.1) refl)
 
-pub way_none : (mask : ℕ) (coerce : DataType → DataType → Option DataType) (l r : DataType) → way_of mask l r ≡ 0 → wrapper_coercion (way_of mask l r) coerce l r ≡ none
+pub way_none : (mask : ℕ) (coerce : DataType → DataType → Option DataType) (l r : DataType) → way_of mask l r ≡ 0 → wrapper_coercion (way_of mask l r) coerce l r ≡ None
 unfolding way_of
 way_none mask coerce l r e = ap (λ (k : ℕ). wrapper_coercion k coerce l r) e ∙ crossed_none coerce l r (crossed l r (crossing e))
   where

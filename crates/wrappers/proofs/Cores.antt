@@ -1,9 +1,10 @@
 -- Types whose wrappers have their values, and the cores below. Assumes nothing.
 use mathlib.Core.Path.{◌≡◌, refl, ap, sym, subst, ◌∙◌}
+use Rattle.std.proofs.lemmas.Option.{same_Some, none-some}
 use mathlib.Core.Bool.{Bool, true, false, cond, beq}
 use mathlib.Core.List.{List, [], ◌∷◌}
 use mathlib.Core.Logic.{◌⊎◌, inl, inr}
-use mathlib.Core.Option.{none, some, some_inj, some-ne-none}
+use Rattle.std.specs.Prelude.{None, Some}
 use Prim.Native.Nat.{ℕ, ◌+◌}
 use native.Mathlib.Omega.{arith}
 use lib.Dec.{eqb, leb}
@@ -21,8 +22,8 @@ use Rattle.coercion.specs.Wrappers.{value_in}
 use Rattle.buffers.specs.Goal.{type_of}
 use Rattle.wrappers.specs.Ways.{is_wrapper, wrappers_of, core_kind}
 
-pub missing : {A : Type 0} {t : DataType} → none ≡ some t → A
-missing {t} e = absurd (some-ne-none t (sym e))
+pub missing : {A : Type 0} {t : DataType} → None ≡ Some t → A
+missing {t} e = absurd (none-some t e)
 
 -- what a test rules out
 pub implies_no : (b : Bool) → implies b false ≡ true → b ≡ false
@@ -36,7 +37,7 @@ absent_is (present z) e = never (sym e)
 -- each wrapper on the way down has a value, and a Null at the end is the one that a sheet may carry
 pub data Whole : Shape → Fields → Type 0 where
   bare : {s : Shape} {p : Fields} → is_wrapper s.kind ≡ false → (s.kind ≡ Kind.null → type_of s p ≡ plain (of_kind Kind.null)) → Whole s p
-  wrap : {s : Shape} {p : Fields} (v : DataType) → is_wrapper s.kind ≡ true → value_in p ≡ some v → Whole v.shape v.parts → Whole s p
+  wrap : {s : Shape} {p : Fields} (v : DataType) → is_wrapper s.kind ≡ true → value_in p ≡ Some v → Whole v.shape v.parts → Whole s p
 
 -- the core
 unfoldable pub core_in : {s : Shape} {p : Fields} → Whole s p → DataType
@@ -121,20 +122,20 @@ whole up name nullable shape (field n b s₁ p₁ (field n₂ b₂ s₂ p₂ q))
     whole_if up name nullable shape (field n b s₁ p₁ (field n₂ b₂ s₂ p₂ q)) h.0 (λ e a. wrap (type_of s₂ p₂) e refl (whole shape.kind n₂ b₂ s₂ p₂ q h.1.0.1.1))
 
 -- a wrapper stands about its value's wrappers, and has its value's core
-pub wrap_wrappers : (s : Shape) (p : Fields) (v : DataType) → is_wrapper s.kind ≡ true → value_in p ≡ some v → wrappers_of s p ≡ s.kind ∷ wrappers_of v.shape v.parts
+pub wrap_wrappers : (s : Shape) (p : Fields) (v : DataType) → is_wrapper s.kind ≡ true → value_in p ≡ Some v → wrappers_of s p ≡ s.kind ∷ wrappers_of v.shape v.parts
 unfolding wrappers_of
 wrap_wrappers s end v w e = missing e
 wrap_wrappers s (field n b s₁ p₁ end) v w e = missing e
-wrap_wrappers s (field n b s₁ p₁ (field n₂ b₂ s₂ p₂ q)) v w e = rw w (ap (λ (t : DataType). s.kind ∷ wrappers_of t.shape t.parts) (some_inj.0 e))
+wrap_wrappers s (field n b s₁ p₁ (field n₂ b₂ s₂ p₂ q)) v w e = rw w (ap (λ (t : DataType). s.kind ∷ wrappers_of t.shape t.parts) (same_Some _ _ e))
 
-pub wrap_core : (s : Shape) (p : Fields) (v : DataType) → is_wrapper s.kind ≡ true → value_in p ≡ some v → core_kind s p ≡ core_kind v.shape v.parts
+pub wrap_core : (s : Shape) (p : Fields) (v : DataType) → is_wrapper s.kind ≡ true → value_in p ≡ Some v → core_kind s p ≡ core_kind v.shape v.parts
 unfolding core_kind
 wrap_core s end v w e = missing e
 wrap_core s (field n b s₁ p₁ end) v w e = missing e
-wrap_core s (field n b s₁ p₁ (field n₂ b₂ s₂ p₂ q)) v w e = rw w (ap (λ (t : DataType). core_kind t.shape t.parts) (some_inj.0 e))
+wrap_core s (field n b s₁ p₁ (field n₂ b₂ s₂ p₂ q)) v w e = rw w (ap (λ (t : DataType). core_kind t.shape t.parts) (same_Some _ _ e))
 
 -- the values of alike types are alike
-fields_values : (p q : Fields) (v w : DataType) → value_in p ≡ some v → value_in q ≡ some w → same_fields false p q ≡ true → alike v w ≡ true
+fields_values : (p q : Fields) (v w : DataType) → value_in p ≡ Some v → value_in q ≡ Some w → same_fields false p q ≡ true → alike v w ≡ true
 unfolding same_type same_fields
 fields_values end q v w ev ew h = missing ev
 fields_values (field n b s₁ p₁ end) q v w ev ew h = missing ev
@@ -144,9 +145,9 @@ fields_values (field n b s₁ p₁ (field n₂ b₂ s₂ p₂ p)) (field m c t�
     let own = true ∷ beq b c ∷ same_shape s₁ t₁ ∷ same_fields false p₁ q₁ ∷ same_fields false (field n₂ b₂ s₂ p₂ p) (field m₂ c₂ t₂ q₂ q) ∷ [] in
     let second = true ∷ beq b₂ c₂ ∷ same_shape s₂ t₂ ∷ same_fields false p₂ q₂ ∷ same_fields false p q ∷ [] in
     let e = all_at own 4 h in
-    rw (sym (some_inj.0 ev), sym (some_inj.0 ew), all_at second 2 e) (all_at second 3 e)
+    rw (sym (same_Some _ _ ev), sym (same_Some _ _ ew), all_at second 2 e) (all_at second 3 e)
 
-pub alike_values : (l r v w : DataType) → value_in l.parts ≡ some v → value_in r.parts ≡ some w → alike l r ≡ true → alike v w ≡ true
+pub alike_values : (l r v w : DataType) → value_in l.parts ≡ Some v → value_in r.parts ≡ Some w → alike l r ≡ true → alike v w ≡ true
 unfolding same_type
 alike_values l r v w ev ew h = fields_values l.parts r.parts v w ev ew (and_snd (same_shape l.shape r.shape) _ h)
 
@@ -158,7 +159,7 @@ core_kind_lem (wrap {s} {p} v w e x) = wrap_core s p v w e ∙ core_kind_lem x
 -- the value of a wrapper, which has its core
 pub record Inner {s : Shape} {p : Fields} (x : Whole s p) : Type 0 where
   pub value : DataType
-  pub is : value_in p ≡ some value
+  pub is : value_in p ≡ Some value
   pub whole : Whole value.shape value.parts
   pub core : core_in whole ≡ core_in x
 

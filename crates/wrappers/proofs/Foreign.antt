@@ -3,7 +3,7 @@ use mathlib.Core.Path.{◌≡◌, refl, ap, sym, ◌∙◌}
 use mathlib.Core.Bool.{Bool, true, false, cond, ◌&&◌, ◌||◌, and-false, and_assoc}
 use mathlib.Core.List.{[], ◌∷◌}
 use mathlib.Core.Logic.{◌⊎◌, inl, inr, ⊎_swap}
-use mathlib.Core.Option.{Option, none, some}
+use Rattle.std.specs.Prelude.{Option, None, Some}
 use Prim.Native.Nat.{ℕ}
 use lib.Dec.{eqb}
 use Rattle.sheet.specs.Kind as Kind
@@ -54,11 +54,11 @@ module _ (l r : DataType) (one : Foreign l.shape.kind ⊎ Foreign r.shape.kind) 
   abbrev j : ℕ
   j = r.shape.kind
 
-  numeric : as_type (binary_numeric_coercion (figures_of l) (figures_of r)) ≡ none
+  numeric : as_type (binary_numeric_coercion (figures_of l) (figures_of r)) ≡ None
   unfolding binary_numeric_coercion between
   numeric = rw (both_fail k j one is_numeric is_numeric refl refl)
 
-  temporal : temporal_coercion_nonstrict_timezone l r ≡ none
+  temporal : temporal_coercion_nonstrict_timezone l r ≡ None
   unfolding temporal_coercion_nonstrict_timezone temporal_coercion between
   temporal =
       rw (
@@ -72,24 +72,24 @@ module _ (l r : DataType) (one : Foreign l.shape.kind ⊎ Foreign r.shape.kind) 
         with_fails k j one 22 is_date refl refl,
       )
 
-  string : of_kind_type (string_coercion k j) ≡ none
+  string : of_kind_type (string_coercion k j) ≡ None
   unfolding string_coercion between
   string = rw (both_fail k j one is_string is_string refl refl)
 
-  lists : (c : DataType → DataType → Option DataType) → list_coercion c l r ≡ none
+  lists : (c : DataType → DataType → Option DataType) → list_coercion c l r ≡ None
   unfolding list_coercion between
   lists c = rw (both_fail k j one is_list is_list refl refl)
 
-  number : (q : Question) → string_number q l r ≡ none
+  number : (q : Question) → string_number q l r ≡ None
   unfolding string_numeric_coercion string_numeric_union_coercion between
   number q = go q (both_fail k j one is_numeric is_string refl refl) (both_fail k j one is_string is_numeric refl refl)
     where
-      go : (q : Question) → is_numeric k && is_string j ≡ false → is_string k && is_numeric j ≡ false → string_number q l r ≡ none
+      go : (q : Question) → is_numeric k && is_string j ≡ false → is_string k && is_numeric j ≡ false → string_number q l r ≡ None
       go list n s = rw (n, s)
       go union n s = rw (s, n)
       go compare n s = rw (n, s)
 
-  binary : of_kind_type (binary_coercion k j) ≡ none
+  binary : of_kind_type (binary_coercion k j) ≡ None
   unfolding binary_coercion between
   binary =
       rw (
@@ -104,35 +104,35 @@ module _ (l r : DataType) (one : Foreign l.shape.kind ⊎ Foreign r.shape.kind) 
         with_fails k j one 30 (λ i. eqb i 31) refl refl,
       )
 
-  structs : (c : DataType → DataType → Option DataType) → struct_coercion c l r ≡ none
+  structs : (c : DataType → DataType → Option DataType) → struct_coercion c l r ≡ None
   unfolding struct_coercion
   structs c =
       rw (sym (and_assoc (eqb k 35) (eqb j 35) (eqb (arity l.parts) (arity r.parts))), both_fail k j one (λ i. eqb i 35) (λ i. eqb i 35) refl refl)
 
-  maps : (c : DataType → DataType → Option DataType) → map_coercion c l r ≡ none
+  maps : (c : DataType → DataType → Option DataType) → map_coercion c l r ≡ None
   unfolding map_coercion
   maps c = rw (both_fail k j one (λ i. eqb i 36) (λ i. eqb i 36) refl refl)
 
 -- a string is no foreign kind, and neither is a time
-match_none : (l r : DataType) → Foreign l.shape.kind ⊎ Foreign r.shape.kind → match_rule l r ≡ none
+match_none : (l r : DataType) → Foreign l.shape.kind ⊎ Foreign r.shape.kind → match_rule l r ≡ None
 unfolding between
 match_none l r (inl h) = rw (blind_at is_string refl l.shape.kind h)
 match_none l r (inr h) =
     rw (blind_at is_date refl r.shape.kind h, blind_at is_time refl r.shape.kind h, blind_at (λ i. eqb i 22) refl r.shape.kind h)
     (go (is_string l.shape.kind))
   where
-    go : (b : Bool) → cond {A = Option DataType} b none none ≡ none
+    go : (b : Bool) → cond {A = Option DataType} b None None ≡ None
     go true = refl
     go false = refl
 
-time : (l r : DataType) → Foreign l.shape.kind ⊎ Foreign r.shape.kind → string_temporal_coercion l r ≡ none
+time : (l r : DataType) → Foreign l.shape.kind ⊎ Foreign r.shape.kind → string_temporal_coercion l r ≡ None
 unfolding string_temporal_coercion
 time l r one = rw (match_none l r one) (match_none r l (⊎_swap one))
 
 -- so of the rules those for alike types, wrappers and Nulls are left
 pub foreign_asks : (rules : Rules) → is_list_question rules.question ≡ false → (l r : DataType) → Foreign l.shape.kind ⊎ Foreign r.shape.kind
     → coercion rules l r
-    ≡ or_else (cond (alike l r) (some l) none)
+    ≡ or_else (cond (alike l r) (Some l) None)
     (or_else (wrapper_coercion Kind.dictionary (coercion rules) l r)
     (or_else (wrapper_coercion Kind.run_end_encoded (coercion rules) l r) (null_coercion rules.mask l r)))
 unfolding first_of
@@ -144,11 +144,11 @@ foreign_asks rules pairs l r one = coercion_asks rules l r ∙ asked rules.quest
     asked compare h = refl
 
     left : first_of (pair_rules rules (coercion rules) l r)
-        ≡ or_else (cond (alike l r) (some l) none)
+        ≡ or_else (cond (alike l r) (Some l) None)
         (or_else (wrapper_coercion 37 (coercion rules) l r) (or_else (wrapper_coercion 38 (coercion rules) l r) (null_coercion rules.mask l r)))
     left =
         (λ i. first_of
-        (cond (alike l r) (some l) none
+        (cond (alike l r) (Some l) None
         ∷ numeric l r one i
         ∷ wrapper_coercion 37 (coercion rules) l r
         ∷ wrapper_coercion 38 (coercion rules) l r
@@ -162,5 +162,5 @@ foreign_asks rules pairs l r one = coercion_asks rules l r ∙ asked rules.quest
         ∷ structs l r one (coercion rules) i
         ∷ maps l r one (coercion rules) i
         ∷ []))
-        ∙ ap (λ (o : Option DataType). or_else (cond (alike l r) (some l) none) (or_else (wrapper_coercion 37 (coercion rules) l r) (or_else (wrapper_coercion 38 (coercion rules) l r) o)))
+        ∙ ap (λ (o : Option DataType). or_else (cond (alike l r) (Some l) None) (or_else (wrapper_coercion 37 (coercion rules) l r) (or_else (wrapper_coercion 38 (coercion rules) l r) o)))
         (or_none (null_coercion rules.mask l r))

@@ -1,7 +1,7 @@
 -- What the cores of two types leave to be asked of their wrappers, and that it stays so as wrappers come off. Assumes nothing.
 use mathlib.Core.Path.{◌≡◌, refl, ap, ap₂, sym, subst, ◌∙◌}
 use mathlib.Core.Bool.{Bool, true, false, cond, ◌||◌}
-use mathlib.Core.Option.{Option, none, some}
+use Rattle.std.specs.Prelude.{Option, None, Some}
 use Prim.Native.Nat.{ℕ}
 use native.Mathlib.Omega.{arith}
 use lib.Dec.{eqb}
@@ -68,7 +68,7 @@ module _ (mask : ℕ) (l r : DataType) where
 
 -- two wrappers
 module _ (mask : ℕ) (l r v w : DataType) (wl : is_wrapper l.shape.kind ≡ true) (wr : is_wrapper r.shape.kind ≡ true)
-    (ev : value_in l.parts ≡ some v) (ew : value_in r.parts ≡ some w) where
+    (ev : value_in l.parts ≡ Some v) (ew : value_in r.parts ≡ Some w) where
   abbrev told : DataType → DataType → Bool
   told x y = judged mask true (core x) (wrappers_of x.shape x.parts) (core y) (wrappers_of y.shape y.parts)
 
@@ -109,8 +109,8 @@ module _ (mask : ℕ) (l r v w : DataType) (wl : is_wrapper l.shape.kind ≡ tru
 
 -- a type less a wrapper has its core
 value_core : (t : DataType) (o : Option DataType) → is_wrapper t.shape.kind ≡ true → value_in t.parts ≡ o → core (value_else t o) ≡ core t
-value_core t none w e = refl
-value_core t (some v) w e = sym (wrap_core t.shape t.parts v w e)
+value_core t None w e = refl
+value_core t (Some v) w e = sym (wrap_core t.shape t.parts v w e)
 
 without_core : (k : ℕ) → is_wrapper k ≡ true → (t : DataType) → core (without k t) ≡ core t
 without_core k w t = go (is_of k t) refl
@@ -119,7 +119,7 @@ without_core k w t = go (is_of k t) refl
     go true e = value_core t (value_in t.parts) (ap (λ (i : ℕ). is_wrapper i) (eqb-true t.shape.kind k e) ∙ w) refl
     go false e = refl
 
-pub without_value : (k : ℕ) (t v : DataType) → is_of k t ≡ true → value_in t.parts ≡ some v → without k t ≡ v
+pub without_value : (k : ℕ) (t v : DataType) → is_of k t ≡ true → value_in t.parts ≡ Some v → without k t ≡ v
 without_value k t v e h = rw (e, h) refl
 
 pub without_self : (k : ℕ) (t : DataType) → is_of k t ≡ false → without k t ≡ t
@@ -143,7 +143,7 @@ crossed_apart : (l r : DataType) → is_of Kind.dictionary l ≡ true → is_of 
 crossed_apart l r el er = rw (eqb-true l.shape.kind 37 el, eqb-true r.shape.kind 38 er) refl
 
 -- the wrapper that comes off where a Dictionary on the left meets run ends
-off_may : (mask : ℕ) (l r v w : DataType) → is_of Kind.dictionary l ≡ true → is_of Kind.run_end_encoded r ≡ true → value_in l.parts ≡ some v → value_in r.parts ≡ some w → (b : Bool)
+off_may : (mask : ℕ) (l r v w : DataType) → is_of Kind.dictionary l ≡ true → is_of Kind.run_end_encoded r ≡ true → value_in l.parts ≡ Some v → value_in r.parts ≡ Some w → (b : Bool)
     → b ≡ may_merge mask v r → may_merge mask l r ≡ true → may_merge mask (without (cond b Kind.dictionary Kind.run_end_encoded) l) (without (cond b Kind.dictionary Kind.run_end_encoded) r) ≡ true
 off_may mask l r v w el er ev ew true e h = rw (el, ev, runs_only r er) (sym e)
 off_may mask l r v w el er ev ew false e h =
@@ -181,7 +181,7 @@ module _ (mask : ℕ) (l r : DataType) {h : ℕ} (eh : h ≡ cond (may_merge mas
         go true e n = rw (ne_eqb h 0 n) (hint_off mask h l r (cond b 37 38) (one_of_two b) (told_hint e) (c.on e))
         go false e n = absurd (n (eh ∙ rw e refl))
 
-  module _ (v w : DataType) (ev : value_in l.parts ≡ some v) (ew : value_in r.parts ≡ some w) {b : Bool} where
+  module _ (v w : DataType) (ev : value_in l.parts ≡ Some v) (ew : value_in r.parts ≡ Some w) {b : Bool} where
     -- a Dictionary on the left
     pub left_crossing : is_of Kind.dictionary l ≡ true → is_of Kind.run_end_encoded r ≡ true → b ≡ cond (eqb h 2) (met mask v r) true → Crossing mask l r b
     unfolding dictionary_may
@@ -209,7 +209,7 @@ module _ (mask : ℕ) (l r : DataType) {h : ℕ} (eh : h ≡ cond (may_merge mas
             ∙ sym (left_may mask r l w v (dictionary_wraps r er) (runs_wrap l el) ew ev (crossed_apart r l er el) (may_turned mask r l ∙ m))
 
 -- two types of a kind stay so
-pub same_on : (mask hint : ℕ) (l r v w : DataType) (k : ℕ) → is_wrapper k ≡ true → is_of k l ≡ true → is_of k r ≡ true → value_in l.parts ≡ some v → value_in r.parts ≡ some w
+pub same_on : (mask hint : ℕ) (l r v w : DataType) (k : ℕ) → is_wrapper k ≡ true → is_of k l ≡ true → is_of k r ≡ true → value_in l.parts ≡ Some v → value_in r.parts ≡ Some w
     → Hint hint mask l r → Hint hint mask (without k l) (without k r)
 same_on mask hint l r v w k is el er ev ew f n =
     let a = eqb-true l.shape.kind k el in

@@ -2,7 +2,7 @@
 use mathlib.Core.Path.{◌≡◌, refl, ap, sym, subst, ◌∙◌}
 use mathlib.Core.Bool.{Bool, true, false, cond, ◌&&◌, ◌||◌, or_comm, or-false}
 use mathlib.Core.Logic.{◌⊎◌, inl, inr}
-use mathlib.Core.Option.{Option, none, some}
+use Rattle.std.specs.Prelude.{Option, None, Some}
 use Prim.Native.Nat.{ℕ}
 use lib.Dec.{eqb}
 use borrow.Author.Tests.{eqb-true, eqb-false, eq-eqb}
@@ -22,26 +22,26 @@ use Rattle.wrappers.proofs.Foreign.{Foreign, foreign_asks}
 
 -- whether there is an answer
 abbrev pub given : Option DataType → Bool
-given none = false
-given (some t) = true
+given None = false
+given (Some t) = true
 
-pub given_none : (o : Option DataType) → given o ≡ false → o ≡ none
-given_none none h = refl
-given_none (some t) h = never (sym h)
+pub given_none : (o : Option DataType) → given o ≡ false → o ≡ None
+given_none None h = refl
+given_none (Some t) h = never (sym h)
 
 -- one of several answers
-given_sums : (b : Bool) (t : DataType) (x y z : Option DataType) → given (or_else (cond b (some t) none) (or_else x (or_else y z))) ≡ b || ((given x || given y) || given z)
+given_sums : (b : Bool) (t : DataType) (x y z : Option DataType) → given (or_else (cond b (Some t) None) (or_else x (or_else y z))) ≡ b || ((given x || given y) || given z)
 given_sums true t x y z = refl
-given_sums false t (some u) y z = refl
-given_sums false t none (some u) z = refl
-given_sums false t none none z = refl
+given_sums false t (Some u) y z = refl
+given_sums false t None (Some u) z = refl
+given_sums false t None None z = refl
 
-given_cond : (b : Bool) (t : DataType) → given (cond b (some t) none) ≡ b
+given_cond : (b : Bool) (t : DataType) → given (cond b (Some t) None) ≡ b
 given_cond true t = refl
 given_cond false t = refl
 
 -- the rule for a kind, where neither is of it
-pub wrapper_none : (k : ℕ) (c : DataType → DataType → Option DataType) (l r : DataType) → is_of k l ≡ false → is_of k r ≡ false → wrapper_coercion k c l r ≡ none
+pub wrapper_none : (k : ℕ) (c : DataType → DataType → Option DataType) (l r : DataType) → is_of k l ≡ false → is_of k r ≡ false → wrapper_coercion k c l r ≡ None
 unfolding wrapper_coercion
 wrapper_none k c l r x y = rw (x, y)
 
@@ -51,7 +51,7 @@ module _ (mask : ℕ) (l r : DataType) where
   unfolding null_coercion
   null_left h = rw h (go (is_null l))
     where
-      go : (b : Bool) → given (cond b (cond (may_become mask r.shape.kind) (some r) none) none) ≡ b && may_become mask r.shape.kind
+      go : (b : Bool) → given (cond b (cond (may_become mask r.shape.kind) (Some r) None) None) ≡ b && may_become mask r.shape.kind
       go true = given_cond (may_become mask r.shape.kind) r
       go false = refl
 
@@ -59,7 +59,7 @@ module _ (mask : ℕ) (l r : DataType) where
   unfolding null_coercion
   null_right h = rw h (go (is_null r))
     where
-      go : (b : Bool) → given (cond b (cond (may_become mask l.shape.kind) (some l) none) none) ≡ b && may_become mask l.shape.kind
+      go : (b : Bool) → given (cond b (cond (may_become mask l.shape.kind) (Some l) None) None) ≡ b && may_become mask l.shape.kind
       go true = given_cond (may_become mask l.shape.kind) l
       go false = refl
 
@@ -114,24 +114,24 @@ module _ (rules : Rules) (pairs : is_list_question rules.question ≡ false) whe
   equal_has l r h = ap given (equal_left rules l r h)
 
   module _ (k : ℕ) (l r : DataType) where
-    way_both : (v w : DataType) → is_of k l ≡ true → is_of k r ≡ true → value_in l.parts ≡ some v → value_in r.parts ≡ some w → way k l r ≡ coercion rules v w
+    way_both : (v w : DataType) → is_of k l ≡ true → is_of k r ≡ true → value_in l.parts ≡ Some v → value_in r.parts ≡ Some w → way k l r ≡ coercion rules v w
     unfolding wrapper_coercion
     way_both v w x y ev ew = rw (x, y, ev, ew)
 
     -- the value with the other type, and where it is the other type, there is an answer as well
-    pub way_left : (v : DataType) → is_of k l ≡ true → is_of k r ≡ false → value_in l.parts ≡ some v → given (way k l r) ≡ has v r
+    pub way_left : (v : DataType) → is_of k l ≡ true → is_of k r ≡ false → value_in l.parts ≡ Some v → given (way k l r) ≡ has v r
     unfolding wrapper_coercion
     way_left v x y ev = rw (x, y, ev) (go (equal v r) refl)
       where
-        go : (b : Bool) → equal v r ≡ b → given (cond b (some l) (coercion rules v r)) ≡ has v r
+        go : (b : Bool) → equal v r ≡ b → given (cond b (Some l) (coercion rules v r)) ≡ has v r
         go true e = sym (equal_has v r e)
         go false e = refl
 
-    pub way_right : (w : DataType) → is_of k l ≡ false → is_of k r ≡ true → value_in r.parts ≡ some w → given (way k l r) ≡ has l w
+    pub way_right : (w : DataType) → is_of k l ≡ false → is_of k r ≡ true → value_in r.parts ≡ Some w → given (way k l r) ≡ has l w
     unfolding wrapper_coercion
     way_right w x y ew = rw (x, y, ew) (go (equal w l) refl)
       where
-        go : (b : Bool) → equal w l ≡ b → given (cond b (some r) (coercion rules l w)) ≡ has l w
+        go : (b : Bool) → equal w l ≡ b → given (cond b (Some r) (coercion rules l w)) ≡ has l w
         go true e = sym (equal_has l w (subst (λ (t : DataType). equal t w ≡ true) (equal_same w l e) (equal_self w)))
         go false e = refl
 
@@ -157,7 +157,7 @@ module _ (rules : Rules) (pairs : is_list_question rules.question ≡ false) whe
     foreign t e = subst Foreign (sym e) (kinds_foreign kinds)
 
     -- two wrappers of a kind
-    pub both_has : (v w : DataType) → l.shape.kind ≡ k → r.shape.kind ≡ k → value_in l.parts ≡ some v → value_in r.parts ≡ some w → has l r ≡ has v w
+    pub both_has : (v w : DataType) → l.shape.kind ≡ k → r.shape.kind ≡ k → value_in l.parts ≡ Some v → value_in r.parts ≡ Some w → has l r ≡ has v w
     both_has v w el er ev ew =
         asks kinds l r (inl (foreign l el))
         ∙ rw
@@ -169,7 +169,7 @@ module _ (rules : Rules) (pairs : is_list_question rules.question ≡ false) whe
         go false e = or-false (has v w || false) ∙ or-false (has v w)
 
     -- two of both kinds
-    pub cross_has : (v w : DataType) → l.shape.kind ≡ k → r.shape.kind ≡ j → value_in l.parts ≡ some v → value_in r.parts ≡ some w → has l r ≡ has v r || has l w
+    pub cross_has : (v w : DataType) → l.shape.kind ≡ k → r.shape.kind ≡ j → value_in l.parts ≡ Some v → value_in r.parts ≡ Some w → has l r ≡ has v r || has l w
     cross_has v w el er ev ew =
         let apart : is_of k r ≡ false = ap (λ (i : ℕ). eqb i k) er ∙ kinds_apart (kinds_turned kinds) in
         asks kinds l r (inl (foreign l el))
@@ -179,14 +179,14 @@ module _ (rules : Rules) (pairs : is_list_question rules.question ≡ false) whe
 
     -- a wrapper and a core
     module _ (v : DataType) where
-      pub left_has : l.shape.kind ≡ k → is_wrapper r.shape.kind ≡ false → value_in l.parts ≡ some v → has l r ≡ has v r || (is_null r && may_become rules.mask k)
+      pub left_has : l.shape.kind ≡ k → is_wrapper r.shape.kind ≡ false → value_in l.parts ≡ Some v → has l r ≡ has v r || (is_null r && may_become rules.mask k)
       left_has el n ev =
           asks kinds l r (inl (foreign l el))
           ∙ rw
           (alike_apart l r (λ e. eqb-false r.shape.kind k (kinds_bare kinds r.shape.kind n) (sym e ∙ el)), way_left k l r v (is l el) (kinds_bare kinds r.shape.kind n) ev, wrapper_none j (coercion rules) l r (other l el) (kinds_bare (kinds_turned kinds) r.shape.kind n), null_right rules.mask l r (not_null l el), el)
           (ap (λ (b : Bool). b || (is_null r && may_become rules.mask k)) (or-false (has v r)))
 
-      pub right_has : r.shape.kind ≡ k → is_wrapper l.shape.kind ≡ false → value_in r.parts ≡ some v → has l r ≡ has l v || (is_null l && may_become rules.mask k)
+      pub right_has : r.shape.kind ≡ k → is_wrapper l.shape.kind ≡ false → value_in r.parts ≡ Some v → has l r ≡ has l v || (is_null l && may_become rules.mask k)
       right_has er n ev =
           asks kinds l r (inr (foreign r er))
           ∙ rw
@@ -195,7 +195,7 @@ module _ (rules : Rules) (pairs : is_list_question rules.question ≡ false) whe
 
   -- two cores of which one is Null
   module _ (l r : DataType) (nl : is_wrapper l.shape.kind ≡ false) (nr : is_wrapper r.shape.kind ≡ false) where
-    no_way : {k j : ℕ} → Kinds k j → way k l r ≡ none
+    no_way : {k j : ℕ} → Kinds k j → way k l r ≡ None
     no_way {k} kinds = wrapper_none k (coercion rules) l r (kinds_bare kinds l.shape.kind nl) (kinds_bare kinds r.shape.kind nr)
 
     pub null_left_has : is_null l ≡ true → is_null r ≡ false → has l r ≡ may_become rules.mask r.shape.kind

@@ -2,7 +2,7 @@
 use mathlib.Core.Path.{◌≡◌, refl, ap, sym, subst, ◌∙◌}
 use mathlib.Core.Bool.{Bool, true, false, not}
 use mathlib.Core.List.{List}
-use mathlib.Core.Option.{some}
+use Rattle.std.specs.Prelude.{Some}
 use Prim.Native.Nat.{ℕ, ◌<◌, ◌≤◌}
 use native.Mathlib.Omega.{arith}
 use lib.ListN.{length, length-append}
@@ -69,7 +69,7 @@ typed_two {t = t} w e a = two_of t.parts (two_parts _ _ w (subst (λ (i : ℕ). 
 pub record Value (space : Space) (s : List ℕ) (link : ℕ) (t : DataType) : Type 0 where
   pub type : DataType
   pub typed : Typed space s link type
-  pub is : value_in t.parts ≡ some type
+  pub is : value_in t.parts ≡ Some type
   pub smaller : size type < size t
   pub shorter : letters type ≤ letters t
 

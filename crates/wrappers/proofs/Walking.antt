@@ -16,7 +16,8 @@ use Rattle.buffers.specs.declared.Space.{Space}
 use Rattle.buffers.proofs.Steps.{kind_low, reads_figured}
 use Rattle.buffers.proofs.Fielding.{typed_reads}
 use Rattle.wrappers.specs.Ways.{is_wrapper, wrappers_of, core_kind, allows, meets, may_merge, hint_of, wrappers_may, Hint, without}
-use Rattle.wrappers.specs.Walks.{Core, Tells, TellsBoth, Learns, way_of, Way}
+use Rattle.std.specs.Prelude.{Option, None, IfSome}
+use Rattle.wrappers.specs.Walks.{Core, Tells, TellsBoth, Learns, way_of, kind_in, hint_in, Way}
 use Rattle.wrappers.specs.declared.walk.Turn.{Turn}
 use Rattle.wrappers.proofs.Cores.{wrapper_is, one_of_two, bare_wrappers, bare_core, wrap_wrappers, wrap_core}
 use Rattle.wrappers.proofs.Values.{side_twice, kind_of_lem, kind_is, Value, value_of}
@@ -169,18 +170,23 @@ module _ (mask left : ℕ) (swap : Bool) (s w : List ℕ) (l r : ℕ) where
       pub learns_none : b ≡ false → Learns hint mask (left + 1) swap s w l r 0
       learns_none e = record { is = λ space x y a d q f. rw (told a d q ∙ e) refl }
 
+-- what is known below a wrapper of one kind, on either side or on both
+module _ (hint mask left : ℕ) (swap : Bool) (s w : List ℕ) (l r : ℕ) {k j : ℕ} (ek : k ≡ (head_at (side swap s w) l).kind) (ej : j ≡ (head_at (side (not swap) s w) r).kind) where
+  module _ {space : Space} {x y : DataType} (a : Typed space (side swap s w) l x) (d : Typed space (side (not swap) s w) r y) (f : Hint hint mask x y) where
+    on : (i : ℕ) → is_wrapper i ≡ true → (z : Bool) → eqb k j ≡ z → (o : Bool) → eqb k i ≡ o → Hint (cond z hint 0) mask (without i x) (without i y)
+    on i wi true e true p =
+        let q = sym (eqb-true k j e) ∙ eqb-true k i p in
+        let u = value_of wi (kind_of_lem ek a ∙ eqb-true k i p) refl a in
+        let v = value_of wi (kind_of_lem ej d ∙ q) refl d in
+        same_on mask hint x y u.type v.type i wi (kind_is ek i a ∙ p) (kind_is ej i d ∙ eq-eqb j i q) u.is v.is f
+    on i wi true e false p = rw (kind_is ek i a ∙ p, kind_is ej i d ∙ ap (λ (n : ℕ). eqb n i) (sym (eqb-true k j e)) ∙ p) f
+    on i wi false e o p = λ n. absurd (n refl)
+
 -- the wrapper whose rule is asked
 module _ (hint mask left : ℕ) (swap : Bool) (s w : List ℕ) (l r : ℕ) {k j : ℕ} (ek : k ≡ (head_at (side swap s w) l).kind) (ej : j ≡ (head_at (side (not swap) s w) r).kind)
-    (b : Bool) {t : Turn} where
+    (b : Bool) {t : Option Turn} where
   -- a Dictionary and run ends
-  module _ {h : ℕ} (g : (t.kind ≡ cond (eqb h 0) 0 (cond b 37 38)) × (t.hint ≡ h)) (c : Learns hint mask (left + 1) swap s w l r h) where
-    wraps : ¬ (t.kind ≡ 0) → is_wrapper t.kind ≡ true
-    wraps n = ap (λ (i : ℕ). is_wrapper i) g.0 ∙ go (eqb h 0) refl
-      where
-        go : (z : Bool) → eqb h 0 ≡ z → is_wrapper (cond z 0 (cond b 37 38)) ≡ true
-        go true e = absurd (n (g.0 ∙ rw e refl))
-        go false e = one_of_two b
-
+  module _ {h : ℕ} (g : (kind_in t ≡ cond (eqb h 0) 0 (cond b 37 38)) × (hint_in t ≡ h)) (wraps : IfSome t (λ u. is_wrapper u.kind ≡ true)) (c : Learns hint mask (left + 1) swap s w l r h) where
     crossed : ((space : Space) (x y : DataType) → Typed space (side swap s w) l x → Typed space (side (not swap) s w) r y → size x + size y ≤ left + 1
         → h ≡ cond (may_merge mask x y) (hint_of mask (core_kind x.shape x.parts) (core_kind y.shape y.parts)) 0 → Crossing mask x y b)
         → Way hint mask (left + 1) swap s w l r t
@@ -216,26 +222,36 @@ module _ (hint mask left : ℕ) (swap : Bool) (s w : List ℕ) (l r : ℕ) {k j 
         (m.is space o.type x o.typed (subst (λ (v : List ℕ). Typed space v l x) (sym (side_twice swap s w)) a) (omega (arith, o.smaller))))
 
   -- all other pairs
-  module _ (ei : t.kind ≡ cond b 37 38) (eh : t.hint ≡ cond (eqb k j) hint 0) where
-    module _ {space : Space} {x y : DataType} (a : Typed space (side swap s w) l x) (d : Typed space (side (not swap) s w) r y) (f : Hint hint mask x y) where
-      on : (i : ℕ) → is_wrapper i ≡ true → (z : Bool) → eqb k j ≡ z → (o : Bool) → eqb k i ≡ o → Hint (cond z hint 0) mask (without i x) (without i y)
-      on i wi true e true p =
-          let q = sym (eqb-true k j e) ∙ eqb-true k i p in
-          let u = value_of wi (kind_of_lem ek a ∙ eqb-true k i p) refl a in
-          let v = value_of wi (kind_of_lem ej d ∙ q) refl d in
-          same_on mask hint x y u.type v.type i wi (kind_is ek i a ∙ p) (kind_is ej i d ∙ eq-eqb j i q) u.is v.is f
-      on i wi true e false p = rw (kind_is ek i a ∙ p, kind_is ej i d ∙ ap (λ (n : ℕ). eqb n i) (sym (eqb-true k j e)) ∙ p) f
-      on i wi false e o p = λ n. absurd (n refl)
-
-    pub way_straight : (eqb k 37 && eqb j 38) ≡ false → (eqb k 38 && eqb j 37) ≡ false → b ≡ (eqb k 37 || eqb j 37) → Way hint mask (left + 1) swap s w l r t
+  module _ (ei : kind_in t ≡ cond b 37 38) (eh : hint_in t ≡ cond (eqb k j) hint 0) where
+    pub way_straight : IfSome t (λ u. is_wrapper u.kind ≡ true) → (eqb k 37 && eqb j 38) ≡ false → (eqb k 38 && eqb j 37) ≡ false → b ≡ (eqb k 37 || eqb j 37) → Way hint mask (left + 1) swap s w l r t
     unfolding way_of
-    way_straight z n e =
+    way_straight wraps z n e =
         record {
           is =
               λ space x y a d q f.
               ei
               ∙ rw (ap₂ ◌||◌ (ap₂ ◌&&◌ (kind_is ek 37 a) (kind_is ej 38 d) ∙ z) (ap₂ ◌&&◌ (kind_is ek 38 a) (kind_is ej 37 d) ∙ n))
               (rw (ap₂ ◌||◌ (kind_is ek 37 a) (kind_is ej 37 d) ∙ sym e) refl);
-          on = λ space x y a d q f. rw (ei, eh) (on a d f (cond b 37 38) (one_of_two b) (eqb k j) refl (eqb k (cond b 37 38)) refl);
-          wrapper = λ m. ap (λ (i : ℕ). is_wrapper i) ei ∙ one_of_two b;
+          on = λ space x y a d q f. rw (ei, eh) (on hint mask left swap s w l r ek ej a d f (cond b 37 38) (one_of_two b) (eqb k j) refl (eqb k (cond b 37 38)) refl);
+          wrapper = wraps;
         }
+
+-- a Dictionary and run ends that can have no common type
+module _ (hint mask left : ℕ) (swap : Bool) (s w : List ℕ) (l r : ℕ) {k j : ℕ} (ek : k ≡ (head_at (side swap s w) l).kind) (ej : j ≡ (head_at (side (not swap) s w) r).kind)
+    {t : Option Turn} (e : t ≡ None) (c : Learns hint mask (left + 1) swap s w l r 0) where
+  pub none_left : (eqb k 37 && eqb j 38) ≡ true → Way hint mask (left + 1) swap s w l r t
+  none_left z =
+      subst (λ (o : Option Turn). Way hint mask (left + 1) swap s w l r o) (sym e)
+      (way_left hint mask left swap s w l r ek ej true {t = None} (refl, refl) tt c z refl (meets_spared mask left swap s w _ r refl))
+
+  pub none_right : (eqb k 38 && eqb j 37) ≡ true → Way hint mask (left + 1) swap s w l r t
+  none_right z =
+      subst (λ (o : Option Turn). Way hint mask (left + 1) swap s w l r o) (sym e)
+      (way_right hint mask left swap s w l r ek ej true {t = None} (refl, refl) tt c z refl (meets_spared mask left (not swap) s w _ l refl))
+
+-- the wrapper that is asked
+pub asked_turn : (h i : ℕ) (b : Bool) → 0 < h → i ≡ cond b 37 38 → i ≡ cond (eqb h 0) 0 (cond b 37 38)
+asked_turn h i b lt e = rw (ne_eqb h 0 (λ z. omega (arith, z))) e
+
+pub is_asked : {i : ℕ} (b : Bool) → i ≡ cond b 37 38 → is_wrapper i ≡ true
+is_asked b e = ap (λ (k : ℕ). is_wrapper k) e ∙ one_of_two b

@@ -3,7 +3,7 @@ use mathlib.Core.Path.{◌≡◌, refl, ap, ap₂, sym, subst, ◌∙◌}
 use mathlib.Core.Bool.{Bool, true, false, cond, ◌&&◌, ◌||◌, or-false, and-true}
 use mathlib.Core.List.{List, []}
 use mathlib.Core.Logic.{◌⊎◌, inl, inr}
-use mathlib.Core.Option.{Option, none, some}
+use Rattle.std.specs.Prelude.{Option, None, Some}
 use Prim.Native.Nat.{ℕ}
 use lib.Dec.{eqb}
 use borrow.Author.Tests.{eqb-true, eqb-false}
@@ -85,11 +85,11 @@ module _ (rules : Rules) (pairs : is_list_question rules.question ≡ false) whe
       (sym (judged_core rules.mask (has rules pairs (type_of s p) (core_in y)) s.kind (core_kind u.shape u.parts) (wrappers_of u.shape u.parts) t.kind))
 
   -- a wrapper on the left, with what is known of its value
-  module _ (s : Shape) (p : Fields) (v : DataType) (w : is_wrapper s.kind ≡ true) (ev : value_in p ≡ some v) (x : Whole v.shape v.parts)
+  module _ (s : Shape) (p : Fields) (v : DataType) (w : is_wrapper s.kind ≡ true) (ev : value_in p ≡ Some v) (x : Whole v.shape v.parts)
       (below : (t : Shape) (q : Fields) (y : Whole t q) → Told x y)
     where
       -- two wrappers
-      told_both : (t : Shape) (q : Fields) (u : DataType) (w' : is_wrapper t.kind ≡ true) (eu : value_in q ≡ some u) (y : Whole u.shape u.parts)
+      told_both : (t : Shape) (q : Fields) (u : DataType) (w' : is_wrapper t.kind ≡ true) (eu : value_in q ≡ Some u) (y : Whole u.shape u.parts)
           → Told (wrap {s = s} {p = p} v w ev x) y → Told (wrap {s = s} {p = p} v w ev x) (wrap {s = t} {p = q} u w' eu y)
       unfolding core_in
       told_both t q u w' eu y beside = go (eqb s.kind t.kind) refl
@@ -161,8 +161,8 @@ chosen : (f : ℕ → Option DataType) (m : Bool) → (m ≡ false → given (f 
 chosen f true h g = go (f 37) refl
   where
     go : (o : Option DataType) → f 37 ≡ o → or_else o (f 38) ≡ o
-    go none e = given_none (f 38) (g refl (ap given e))
-    go (some t) e = refl
+    go None e = given_none (f 38) (g refl (ap given e))
+    go (Some t) e = refl
 chosen f false h g = rw (given_none (f 37) (h refl))
 
 -- a Dictionary and run ends, in either order

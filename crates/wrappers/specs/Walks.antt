@@ -1,5 +1,6 @@
 -- What a walk down the wrappers says, whatever types stand at its links, where no more than `left` records are left in them.
 use Rattle.std.specs.Prelude.{◌≡◌, ℕ, ◌+◌, ◌<◌, ◌≤◌, Bool, true, not, cond, ◌&&◌, ◌||◌, List}
+use Rattle.std.specs.Prelude.{Option, None, Some, IfSome}
 use Rattle.sheet.specs.Kind as Kind
 use Rattle.coercion.specs.Data.{DataType, size}
 use Rattle.coercion.specs.Wrappers.{is_of}
@@ -38,10 +39,19 @@ way_of mask l r =
     cond (crosses l r) (cond (may_merge mask l r) (cond (dictionary_may mask l r) Kind.dictionary Kind.run_end_encoded) 0)
     (cond (is_of Kind.dictionary l || is_of Kind.dictionary r) Kind.dictionary Kind.run_end_encoded)
 
+-- the kind of a wrapper whose rule is asked, 0 for none, and what is known of the types that the rule goes on with
+abbrev pub kind_in : Option Turn → ℕ
+kind_in None = 0
+kind_in (Some t) = t.kind
+
+abbrev pub hint_in : Option Turn → ℕ
+hint_in None = 0
+hint_in (Some t) = t.hint
+
 -- that wrapper, and what is known of the types that its rule goes on with
-pub record Way (hint mask left : ℕ) (swap : Bool) (s w : List ℕ) (l r : ℕ) (t : Turn) : Type 0 where
+pub record Way (hint mask left : ℕ) (swap : Bool) (s w : List ℕ) (l r : ℕ) (t : Option Turn) : Type 0 where
   pub is : (space : Space) (x y : DataType) → Typed space (side swap s w) l x → Typed space (side (not swap) s w) r y → size x + size y ≤ left → Hint hint mask x y
-      → t.kind ≡ way_of mask x y
+      → kind_in t ≡ way_of mask x y
   pub on : (space : Space) (x y : DataType) → Typed space (side swap s w) l x → Typed space (side (not swap) s w) r y → size x + size y ≤ left → Hint hint mask x y
-      → Hint t.hint mask (without t.kind x) (without t.kind y)
-  pub wrapper : ¬ (t.kind ≡ 0) → is_wrapper t.kind ≡ true
+      → Hint (hint_in t) mask (without (kind_in t) x) (without (kind_in t) y)
+  pub wrapper : IfSome t (λ u. is_wrapper u.kind ≡ true)

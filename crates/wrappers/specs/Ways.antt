@@ -1,6 +1,6 @@
 -- Wrappers, the core below them, and which of two rules can give an answer where a Dictionary meets run ends.
 use Rattle.std.specs.Prelude.{◌≡◌, ℕ, Bool, true, false, cond, ◌||◌, List, [], ◌∷◌, eqb}
-use Rattle.std.proofs.Math.Option.{Option, none, some}
+use Rattle.std.specs.Prelude.{Option, None, Some}
 use Rattle.sheet.specs.Kind as Kind
 use Rattle.sheet.specs.Types.{Shape, Fields, end, field}
 use Rattle.coercion.specs.Data.{DataType, may_become}
@@ -47,8 +47,8 @@ unfoldable pub may_merge : ℕ → DataType → DataType → Bool
 may_merge mask l r = cond (is_null_core l) (cond (is_null_core r) true (null_may mask r l)) (cond (is_null_core r) (null_may mask l r) true)
 
 abbrev pub value_may : Option DataType → (DataType → Bool) → Bool
-value_may none f = false
-value_may (some v) f = f v
+value_may None f = false
+value_may (Some v) f = f v
 
 -- a Dictionary and run ends: whether the rule for Dictionaries can give an answer
 unfoldable pub dictionary_may : ℕ → DataType → DataType → Bool
@@ -71,8 +71,8 @@ abbrev pub Hint : ℕ → ℕ → DataType → DataType → Type 0
 Hint hint mask l r = ¬ (hint ≡ 0) → (hint ≡ hint_of mask (core_kind l.shape l.parts) (core_kind r.shape r.parts)) × (may_merge mask l r ≡ true)
 
 abbrev pub value_else : DataType → Option DataType → DataType
-value_else t none = t
-value_else t (some v) = v
+value_else t None = t
+value_else t (Some v) = v
 
 -- a type less its wrapper of a kind, or the type where it is none
 abbrev pub without : ℕ → DataType → DataType

@@ -8,11 +8,5 @@ returns-in-List c =
     rw c.in-List.is
 
 pub returns-in-Union : goal.returns-in-Union
-unfolding bad_pair
 returns-in-Union c =
-    rw c.in-Union.is (pair_asked _ c.args.space (λ i. (c.type_inv.sheet i).fits) c.requires c.is_pair.ensures)
-
-pub returns-in-Compare : goal.returns-in-Compare
-unfolding bad_pair
-returns-in-Compare c =
-    rw c.in-Compare.is (pair_asked _ c.args.space (λ i. (c.type_inv.sheet i).fits) c.requires c.is_pair-in-Compare.ensures)
+    pair_asked _ c.args.space (λ i. (c.type_inv.sheet i).fits) c.requires c.args.question c.in-Union.is c.is_pair.ensures

@@ -1,50 +1,25 @@
 use native.Mathlib.Omega.{arith}
 use Rattle.buffers.proofs.Sameness.{fields_none, fields_longer, fields_past, fields_short, fields_own, fields_parts, fields_rest, fields_plain}
 use Rattle.buffers.proofs.alike.+differ_fields.Goals as goal
-
-pub loop-low-init : goal.loop-low-init
-loop-low-init t c =
-    (omega arith, λ v f. f)
+use Rattle.buffers.proofs.alike.+differ_fields.Goals.{then-n-x-via-then-n-x, then-n-x-via-else-n-x+then-y-eq0}
 
 pub returns-then-n-x : goal.returns-then-n-x
-returns-then-n-x t c =
-    c.loop-low.invariant.1 _ (fields_past _ _ _ _ _ _ _ _ _ _ (c.loop-low-test.true) (c.if-n-x.true))
-
-pub returns-then-y-eq0 : goal.returns-then-y-eq0
-returns-then-y-eq0 t c =
-    c.loop-low.invariant.1 _ (fields_short _ _ _ _ _ _ _ _ _ (c.loop-low-test.true) (c.if-y-eq0.true))
-
-pub same_record-requires : goal.same_record-requires
-same_record-requires t c =
-    (c.requires, (c.head_at-g.ensures.1, c.head_at-h.ensures.1))
+returns-then-n-x t c = elim c.then-n-x.branch [
+  | then-n-x-via-then-n-x w ↦ c.loop-low.invariant.1 _ (fields_past _ _ _ _ _ _ _ _ _ _ (c.loop-low-test.true) (w.if-n-x.true))
+  | then-n-x-via-else-n-x+then-y-eq0 w ↦ c.loop-low.invariant.1 _ (fields_short _ _ _ _ _ _ _ _ _ (c.loop-low-test.true) (w.if-y-eq0.true))
+]
 
 pub returns-then-not-same_record : goal.returns-then-not-same_record
 returns-then-not-same_record t c =
     c.loop-low.invariant.1 _ (fields_own _ _ _ _ _ _ _ _ _ (c.loop-low-test.true) (c.if-y-eq0.false) _ _ (c.head_at-g.ensures.0) (c.head_at-h.ensures.0) (c.same_record.ensures) c.if-not-same_record.true)
 
-pub overflow_add-g : goal.overflow_add-g
-overflow_add-g t c =
-    omega (arith, c.head_at-g.ensures.1.first, c.head_at-h.ensures.1.first)
-
-pub loop-low-smaller-then-g-h-eq0 : goal.loop-low-smaller-then-g-h-eq0
-loop-low-smaller-then-g-h-eq0 t c =
-    omega (arith, c.loop-low-test.true, c.if-n-x.false)
-
 pub loop-low-preserved-then-g-h-eq0 : goal.loop-low-preserved-then-g-h-eq0
 loop-low-preserved-then-g-h-eq0 t c =
     (omega (arith, c.loop-low.invariant.0, c.loop-low-test.true), λ v f. c.loop-low.invariant.1 v (fields_plain _ _ _ _ _ _ _ _ _ (c.loop-low-test.true) (c.if-y-eq0.false) _ _ (c.head_at-g.ensures.0) (c.head_at-h.ensures.0) (c.same_record.ensures) c.if-not-same_record.false (c.if-g-h-eq0.true) f))
 
-pub differ_fields-d-requires : goal.differ_fields-d-requires
-differ_fields-d-requires t c =
-    (omega (arith, c.decreases, c.loop-low.invariant.0, c.loop-low-test.true, c.if-n-x.false), c.requires)
-
 pub returns-then-d-ne0 : goal.returns-then-d-ne0
 returns-then-d-ne0 t c =
     c.loop-low.invariant.1 _ (fields_parts _ _ _ _ _ _ _ _ _ (c.loop-low-test.true) (c.if-y-eq0.false) _ _ (c.head_at-g.ensures.0) (c.head_at-h.ensures.0) (c.same_record.ensures) c.if-not-same_record.false (c.differ_fields-d.ensures) c.if-d-ne0.true)
-
-pub loop-low-smaller : goal.loop-low-smaller
-loop-low-smaller t c =
-    omega (arith, c.loop-low-test.true, c.if-n-x.false)
 
 pub loop-low-preserved : goal.loop-low-preserved
 loop-low-preserved t c =

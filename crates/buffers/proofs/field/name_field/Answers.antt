@@ -1,10 +1,6 @@
-use Rattle.buffers.proofs.Fielding.{name_full, name_put}
+use Rattle.buffers.proofs.Fielding.{name_put}
 use Rattle.buffers.proofs.field.name_field.Goals as goal
-
-pub returns-then-space-label : goal.returns-then-space-label
-returns-then-space-label c =
-    name_full c.args.space c.args.sheet.now c.args.work.now c.args.swap c.args.h c.args.to c.if-space-label.true
 
 pub returns : goal.returns
 returns c =
-    name_put c.args.space c.args.sheet.now c.args.work.now c.args.swap c.args.h c.args.to _ c.requires.1.0 c.if-space-label.false c.put_label.ensures
+    name_put c.args.space c.args.sheet.now c.args.work.now c.args.swap c.args.h c.args.to _ c.requires.1.0 c.if-space-to.false c.put_label.ensures

@@ -1,11 +1,7 @@
 use mathlib.Core.Path.{sym, ◌∙◌}
 use Rattle.buffers.specs.Plain.{asked}
-use Rattle.buffers.proofs.Steps.{string_zone, time_listed, time_paired}
+use Rattle.buffers.proofs.Steps.{string_zone, time_paired}
 use Rattle.buffers.proofs.plain.string_time.Goals as goal
-
-pub returns-then-is_list_question : goal.returns-then-is_list_question
-returns-then-is_list_question c =
-    λ l r p q. sym (time_listed (asked c.args.question) l r (sym c.is_list_question.ensures ∙ c.if-is_list_question.true))
 
 pub returns : goal.returns
 returns c =

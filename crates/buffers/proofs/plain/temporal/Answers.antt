@@ -1,14 +1,15 @@
 use mathlib.Core.Path.{sym, ◌∙◌, ap}
+use native.Mathlib.Omega.{arith}
 use Rattle.buffers.proofs.Steps.{times_read}
 use Rattle.coercion.specs.Times.{temporal_coercion_nonstrict_timezone}
 use Rattle.coercion.specs.Data.{as_type}
 use Rattle.buffers.proofs.plain.temporal.Goals as goal
 
-pub returns-then-both : goal.returns-then-both
+pub returns-then-y-eq22 : goal.returns-then-y-eq22
 unfolding temporal_coercion_nonstrict_timezone
-returns-then-both c =
-    λ l r p q. rw (p.kind, q.kind, p.figure, q.figure, sym c.both.ensures ∙ c.if-both.true, c.timeunit_coercion.ensures)
+returns-then-y-eq22 c =
+    λ l r p q. rw (p.kind, q.kind, p.figure, q.figure, c.if-x-eq22.true, c.if-y-eq22.true, c.timeunit_coercion.ensures)
 
 pub returns : goal.returns
 returns c =
-    λ l r p q. c.of_common.ensures l r ∙ ap as_type c.temporal_coercion.ensures ∙ sym (times_read l r p.kind q.kind (sym c.both.ensures ∙ c.if-both.false))
+    λ l r p q. c.of_common.ensures l r ∙ ap as_type c.temporal_coercion.ensures ∙ sym (times_read l r p.kind q.kind (grind arith))

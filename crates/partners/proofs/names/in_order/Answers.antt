@@ -1,10 +1,6 @@
 use mathlib.Core.Path.{refl}
 use Rattle.partners.proofs.names.in_order.Goals as goal
 
-pub returns-then-swap : goal.returns-then-swap
-returns-then-swap c =
-    rw c.if-swap.true (c.are_in_order.ensures _ refl)
-
-pub returns-else-swap : goal.returns-else-swap
-returns-else-swap c =
-    rw c.if-swap.false (c.are_in_order-else-swap.ensures _ refl)
+pub returns : goal.returns
+returns c =
+    rw (← c.sides.ensures.0, ← c.sides.ensures.1) (c.are_in_order.ensures _ refl)

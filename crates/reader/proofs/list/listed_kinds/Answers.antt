@@ -2,13 +2,14 @@ use Rattle.refusals.proofs.Verdicts.{checked_number}
 use Rattle.reader.proofs.Laying.{listing_refused, listing_types}
 use Rattle.reader.proofs.list.listed_kinds.Goals as goal
 
-pub list_kinds-types-requires : goal.list_kinds-types-requires
-list_kinds-types-requires c =
-    checked_number _ _ _ _ c.in-Accepted.ensures
+pub returns-in_err-check : goal.returns-in_err-check
+returns-in_err-check c =
+    listing_refused _ _ _ _ c.in_err-check.ensures c.from_residual.ensures.1
 
-pub returns-in-Refused : goal.returns-in-Refused
-returns-in-Refused c = listing_refused _ _ _ c.in-Refused.ensures
+pub list_kinds-requires : goal.list_kinds-requires
+list_kinds-requires c =
+    checked_number _ _ _ _ c.in_ok-check.ensures
 
-pub returns-in-Accepted : goal.returns-in-Accepted
-returns-in-Accepted c =
-    listing_types _ _ (checked_number _ _ _ _ c.in-Accepted.ensures) c.list_kinds-types.ensures.0 c.list_kinds-types.ensures.1
+pub returns : goal.returns
+returns c =
+    listing_types _ _ (checked_number _ _ _ _ c.in_ok-check.ensures) c.list_kinds.ensures.0 c.list_kinds.ensures.1

@@ -3,28 +3,15 @@ use mathlib.Core.Bool.{Bool, cond}
 use Prim.Native.Nat.{ℕ, ◌/◌, ◌%◌}
 use native.Mathlib.Omega.{arith}
 use borrow.Author.Tests.{ne_eqb}
-use Rattle.refusals.proofs.Light.{passes_open}
 use Rattle.refusals.proofs.Stamps.{stamp_passes}
 use Rattle.refusals.proofs.pass.zone_labels.Goals as goal
 
 pub returns-then-at-eq0 : goal.returns-then-at-eq0
 returns-then-at-eq0 c =
-    λ h up s e. stamp_passes h up s (c.args.found % 4294967296) 0 (omega (arith, e, c.if-len-eq0.true)) (omega (arith, e, c.if-at-eq0.true))
-
-pub returns-then-len-eq0 : goal.returns-then-len-eq0
-returns-then-len-eq0 c =
-    λ h up s e. passes_open h up _
+    λ h up s e. stamp_passes h up s c.args.next 0 (omega (arith, e)) (omega (arith, e))
 
 pub returns-then-len-lt256 : goal.returns-then-len-lt256
 returns-then-len-lt256 c =
     λ h up s e.
-    stamp_passes h up s (c.args.found % 4294967296) (c.args.quad / 65536) (ap (λ (x : ℕ). x / 65536) (sym e))
-    (ap (λ (x : ℕ). x % 65536) e ∙ c.if-at-found.true ∙ sym (ap (λ (b : Bool). cond b 0 (c.args.found % 4294967296)) (ne_eqb (c.args.quad / 65536) 0 c.if-len-eq0.false)))
-
-pub returns-else-len-lt256 : goal.returns-else-len-lt256
-returns-else-len-lt256 c =
-    λ h up s e. passes_open h up _
-
-pub returns-else-at-found : goal.returns-else-at-found
-returns-else-at-found c =
-    λ h up s e. passes_open h up _
+    stamp_passes h up s c.args.next (c.args.quad / 65536) (ap (λ (x : ℕ). x / 65536) (sym e))
+    (ap (λ (x : ℕ). x % 65536) e ∙ c.if-at-next.true ∙ sym (ap (λ (b : Bool). cond b 0 c.args.next) (ne_eqb (c.args.quad / 65536) 0 c.if-len-eq0.false)))

@@ -1,13 +1,13 @@
--- `replay::spaces::fill` puts its mark into each byte.
-use Rattle.replay.proofs.Marks.{filling_none, filling_next, filling_all}
+use Rattle.std.proofs.Common.{arith}
+use Rattle.std.proofs.lemmas.List.Edits.{fill_by_more}
+use Rattle.std.proofs.lemmas.List.FromFn.{fill_by_all}
+use Rattle.replay.specs.Spaces.{mark_at}
 use Rattle.replay.proofs.spaces.fill.Goals as goal
-
-pub loop-i-init : goal.loop-i-init
-loop-i-init c = filling_none _
 
 pub loop-i-preserved : goal.loop-i-preserved
 loop-i-preserved c =
-    filling_next _ c.loop-i.i _ _ c.loop-i-test.true c.mark.ensures c.loop-i.invariant
+    rw c.mark.ensures (fill_by_more mark_at c.loop-i.place c.loop-i.i 0 (omega (arith, c.loop-i.auto.place, c.loop-i-test.true)) c.loop-i.invariant)
 
 pub returns : goal.returns
-returns c = filling_all _ c.loop-i.i _ c.loop-i-test.false c.loop-i.invariant
+returns c =
+    fill_by_all mark_at c.loop-i.place _ 0 c.loop-i.auto.place (λ k h. c.loop-i.invariant k (omega (arith, c.loop-i-test.false)))

@@ -1,11 +1,6 @@
--- `replay::spaces::fill` ends. The first bytes are filled.
-use Prim.Native.Nat.{◌-◌}
-use lib.ListN.{length}
-use Rattle.replay.proofs.Marks.{Filling}
+use Rattle.std.proofs.Common.{◌≡◌, ℕ, ◌<◌, get_or}
+use Rattle.replay.specs.Spaces.{mark_at}
 use Rattle.replay.proofs.spaces.fill.Given as goal
 
 abbrev pub invariant-loop-i : goal.invariant-loop-i
-invariant-loop-i l = Filling (length l.initial.place) l.i l.place
-
-abbrev pub decreases-loop-i : goal.decreases-loop-i
-decreases-loop-i l = length l.initial.place - l.i
+invariant-loop-i l = (k : ℕ) → k < l.i → get_or l.place k 0 ≡ mark_at k

@@ -1,22 +1,14 @@
--- `replay::spaces::is_filled` tells whether each byte from there on is still its mark.
-use Rattle.replay.proofs.Marks.{marked_next, marked_not, marked_done}
+use Rattle.std.proofs.Common.{rules, tests, ◌∙◌, ◌+◌, eqb}
+use Rattle.std.proofs.lemmas.Iterator.{YieldsList-from_slice}
+use Rattle.std.proofs.lemmas.Iterator.Consumers.{YieldsList-from_enumerate}
+use Rattle.std.proofs.lemmas.Iterator.Search.{all_from_yields_List}
+use Rattle.replay.specs.Spaces.{mark_at}
+use Rattle.replay.proofs.Marks.{marked}
 use Rattle.replay.proofs.spaces.is_filled.Goals as goal
 
-pub returns-then-place-i : goal.returns-then-place-i
-returns-then-place-i c =
-    marked_not _ c.loop-i.i _ _
-    c.loop-i-test.true
-    c.mark.ensures
-    c.if-place-i.true
-    c.loop-i.invariant
-
-pub loop-i-preserved : goal.loop-i-preserved
-loop-i-preserved c =
-    marked_next _ c.loop-i.i _ _
-    c.loop-i-test.true
-    c.mark.ensures
-    c.if-place-i.false
-    c.loop-i.invariant
-
 pub returns : goal.returns
-returns c = marked_done _ c.loop-i.i _ c.loop-i-test.false c.loop-i.invariant
+returns c =
+    all_from_yields_List (λ p. eqb p.1 (mark_at (c.args.from + p.0))) _ _ _ c.all.ensures.ran
+    (YieldsList-from_enumerate (YieldsList-from_slice c.args.rest.now (cc)) (cc))
+    (λ x b q k. search (rules, tests))
+    ∙ marked c.args.from c.args.rest.now

@@ -1,14 +1,10 @@
--- `replay::spaces::is_zero` tells whether each byte is zero.
-use Rattle.replay.proofs.Zeros.{zero_next, zero_not, zero_done}
+use Rattle.std.proofs.Common.{rules, tests, ◌∙◌}
+use Rattle.std.proofs.lemmas.Iterator.{YieldsList-from_slice}
+use Rattle.std.proofs.lemmas.Iterator.Search.{all_from_yields_List}
+use Rattle.replay.proofs.Marks.{zeros}
 use Rattle.replay.proofs.spaces.is_zero.Goals as goal
 
-pub returns-then-place-i-ne0 : goal.returns-then-place-i-ne0
-returns-then-place-i-ne0 c =
-    zero_not _ c.loop-i.i c.loop-i-test.true c.if-place-i-ne0.true c.loop-i.invariant
-
-pub loop-i-preserved : goal.loop-i-preserved
-loop-i-preserved c =
-    zero_next _ c.loop-i.i c.loop-i-test.true c.if-place-i-ne0.false c.loop-i.invariant
-
 pub returns : goal.returns
-returns c = zero_done _ c.loop-i.i c.loop-i-test.false c.loop-i.invariant
+returns c =
+    all_from_yields_List _ _ _ _ c.all.ensures.ran (YieldsList-from_slice c.args.place.now cc) (λ x b q k. search (rules, tests))
+    ∙ zeros c.args.place.now

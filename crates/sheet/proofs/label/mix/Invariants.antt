@@ -1,13 +1,13 @@
-use mathlib.Core.Path.{◌≡◌}
-use Prim.Native.Nat.{◌-◌, ◌<◌, ◌≤◌}
-use lib.ListN.{length, drop}
-use Rattle.sheet.specs.Names.{mixed}
+use Rattle.std.proofs.Common.{◌≡◌, take, length}
+use Prim.Native.Nat.{◌/◌}
+use Rattle.std.specs.List.{fold}
+use Rattle.std.specs.Simd.{first_chunks}
+use Rattle.sheet.specs.Names.{stir}
+use Rattle.sheet.proofs.Mixing.{stir_all}
 use Rattle.sheet.proofs.label.mix.Given as goal
 
-abbrev pub invariant-loop-i : goal.invariant-loop-i
-invariant-loop-i l =
-    (l.i ≤ length l.name) × ((l.k < 4294967296) × (mixed l.k (drop l.i l.name) ≡ mixed 0 l.name))
+abbrev pub invariant-loop-quad : goal.invariant-loop-quad
+invariant-loop-quad l = l.k ≡ stir_all 0 (take l.quad-index l.quads)
 
-abbrev pub decreases-loop-i : goal.decreases-loop-i
-decreases-loop-i l =
-    length l.name - l.i
+abbrev pub invariant-loop-byte : goal.invariant-loop-byte
+invariant-loop-byte l = l.k ≡ fold stir (stir_all 0 (first_chunks 4 (length l.name / 4) l.name)) (take l.byte-index l.rest)

@@ -1,33 +1,30 @@
-use mathlib.Core.Path.{ap, sym, ◌∙◌}
+use mathlib.Core.Path.{refl, sym, ◌∙◌, ap₂}
+use mathlib.Core.List.{List}
 use Prim.Native.Nat.{ℕ, ◌-◌}
-use lib.ListN.{get_or}
 use native.Mathlib.Omega.{arith}
-use Rattle.sheet.proofs.Bytewise.{parts_lengths, parts_empty, parts_apart, last_inside, last_within, last_at}
+use lib.ListN.{length, get_or}
+use borrow.Author.Tests.{eq-eqb}
+use Rattle.sheet.specs.Names.{same_bytes}
+use Rattle.sheet.proofs.Tests.{never}
+use Rattle.sheet.proofs.Bytewise.{same_lengths, same_done}
+use Rattle.sheet.proofs.Agreeing.{same_unlike, unlike}
 use Rattle.sheet.proofs.label.same_label.Goals as goal
+use Rattle.sheet.proofs.label.same_label.Goals.{then-x-i+then-i-eq1, then-x-i+else-i-eq1, else-x-i}
 
-pub returns-then-i-reach : goal.returns-then-i-reach
-returns-then-i-reach c =
-    parts_lengths c.args.s.now c.args.t.now c.args.a c.args.m c.args.b c.args.n (λ e. c.if-i-reach.true (omega arith))
+pub returns-then-i-y : goal.returns-then-i-y
+returns-then-i-y c =
+    sym (same_lengths _ _ c.if-i-y.true) ∙ ap₂ same_bytes c.part-x.ensures c.part-y.ensures
 
 pub returns-then-i-eq0 : goal.returns-then-i-eq0
 returns-then-i-eq0 c =
-    parts_empty c.args.s.now c.args.t.now c.args.a c.args.m c.args.b c.args.n (omega arith) (omega arith)
+    sym (same_done c.part-x.result.now c.part-y.result.now 0 (omega arith) (omega arith)) ∙ ap₂ same_bytes c.part-x.ensures c.part-y.ensures
 
-pub returns-then-s-a : goal.returns-then-s-a
-returns-then-s-a c =
-    parts_apart c.args.s.now c.args.t.now c.args.a c.args.m c.args.b c.args.n (c.reach-i.result - 1) (omega arith) (omega arith) c.if-s-a.true
-
-pub bounds-s-a-then-k-gt0 : goal.bounds-s-a-then-k-gt0
-bounds-s-a-then-k-gt0 c =
-    last_inside _ _ _ _ c.reach-i.ensures c.if-k-gt0.true
-
-pub bounds-t-b-then-k-gt0 : goal.bounds-t-b-then-k-gt0
-bounds-t-b-then-k-gt0 c =
-    last_inside _ _ _ _ (c.if-i-reach.false ∙ c.reach.ensures) c.if-k-gt0.true
-
-pub returns-then-s-a-2 : goal.returns-then-s-a-2
-returns-then-s-a-2 c =
-    parts_apart c.args.s.now c.args.t.now c.args.a c.args.m c.args.b c.args.n (c.reach-i.result - 2)
-    (last_within _ _ _ _ c.reach-i.ensures c.if-k-gt0.true)
-    (last_within _ _ _ _ (c.if-i-reach.false ∙ c.reach.ensures) c.if-k-gt0.true)
-    (λ e. c.if-s-a-2.true (ap (λ (x : ℕ). get_or c.args.s.now x 0) (last_at c.args.a c.reach-i.result c.if-k-gt0.true) ∙ e ∙ sym (ap (λ (x : ℕ). get_or c.args.t.now x 0) (last_at c.args.b c.reach-i.result c.if-k-gt0.true))))
+pub returns-else-x-i-2 : goal.returns-else-x-i-2
+returns-else-x-i-2 c =
+    c.if-x-i-2.false
+    ∙ elim c.if-x-i.branch [
+      | then-x-i+then-i-eq1 w ↦ never (sym c.if-x-i-2.false ∙ w.value-is ∙ eq-eqb _ _ w.if-i-eq1.true)
+      | then-x-i+else-i-eq1 w ↦ unlike (λ (l : List ℕ). get_or l (length c.part-x.result.now - 2) 0) c.part-x.result.now c.part-y.result.now refl refl (sym w.value-is ∙ c.if-x-i-2.false)
+      | else-x-i w ↦ same_unlike (λ (l : List ℕ). get_or l (length c.part-x.result.now - 1) 0) c.part-x.result.now c.part-y.result.now w.if-x-i.false
+    ]
+    ∙ ap₂ same_bytes c.part-x.ensures c.part-y.ensures

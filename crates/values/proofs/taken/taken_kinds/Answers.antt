@@ -1,15 +1,18 @@
-use mathlib.Core.Path.{sym, ◌∙◌}
-use mathlib.Core.Bool.{true}
+use Rattle.std.proofs.Common.{sym, ap, ◌∙◌, true, ℕ}
+use Rattle.std.specs.Int.Bits.{bit_or}
+use Rattle.values.proofs.Valuing.{same_leaf_type}
+use Rattle.values.proofs.Taking.{bit_moved}
 use Rattle.values.proofs.taken.taken_kinds.Goals as goal
-
-pub returns-then-not-is_same : goal.returns-then-not-is_same
-returns-then-not-is_same c =
-    rw (sym (c.is_same.ensures true) ∙ c.if-not-is_same.true)
 
 pub returns-then-is_bare : goal.returns-then-is_bare
 returns-then-is_bare c =
-    rw (sym (c.is_same.ensures true) ∙ c.if-not-is_same.false, sym c.is_bare.ensures ∙ c.if-is_bare.true) c.with_kind.ensures
+    rw (sym (c.if-eq.ensures ∙ same_leaf_type c.args.last c.args.next true), sym c.if-is_bare.ensures)
+    (ap (λ (b : ℕ). bit_or c.args.kinds b) (bit_moved c.args.x.kind c.requires))
 
-pub returns : goal.returns
-returns c =
-    rw (sym (c.is_same.ensures true) ∙ c.if-not-is_same.false, sym c.is_bare.ensures ∙ c.if-is_bare.false)
+pub returns-else-is_bare : goal.returns-else-is_bare
+returns-else-is_bare c =
+    rw (sym (c.if-eq.ensures ∙ same_leaf_type c.args.last c.args.next true), sym c.if-is_bare.ensures)
+
+pub returns-else-eq : goal.returns-else-eq
+returns-else-eq c =
+    rw (sym (c.if-eq.ensures ∙ same_leaf_type c.args.last c.args.next true))

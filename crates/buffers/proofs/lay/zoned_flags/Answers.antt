@@ -1,9 +1,0 @@
-use Rattle.buffers.proofs.lay.zoned_flags.Goals as goal
-
-pub returns-then-nullable : goal.returns-then-nullable
-returns-then-nullable c =
-    rw c.if-nullable.true
-
-pub returns-else-nullable : goal.returns-else-nullable
-returns-else-nullable c =
-    rw c.if-nullable.false

@@ -1,5 +1,0 @@
-use Rattle.numeric.proofs.numbers.create_decimal_type.Goals as goal
-
-pub returns : goal.returns
-returns c =
-    (cc)

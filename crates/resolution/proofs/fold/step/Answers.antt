@@ -1,6 +1,0 @@
-use Rattle.resolution.proofs.Folding.{stepped}
-use Rattle.resolution.proofs.fold.step.Goals as goal
-
-pub returns : goal.returns
-returns c =
-    stepped _ _ c.requires.room.0 c.requires.room.1.0 c.requires.compared c.shift.ensures c.coerce.ensures

@@ -1,0 +1,52 @@
+use Rattle.std.proofs.Common.{◌∙◌}
+use Rattle.std.proofs.lemmas.Result.{err_from_is_err_and}
+use Rattle.buffers.specs.Plain.{rules_of}
+use Rattle.buffers.specs.declared.Question.TheVariants as Question
+use Rattle.resolution.proofs.Shifting.{core_second, on_candidate}
+use Rattle.resolution.proofs.Folding.{candidate_right, room_within, folds_end, folds_lost, folds_null, folds_kept, folds_on, folds_failed}
+use Rattle.resolution.proofs.resolver.Resolver.fold_from.Goals as goal
+
+pub returns-then-self-at : goal.returns-then-self-at
+returns-then-self-at c =
+    c.loop-last.invariant.onward _ _ (folds_lost (rules_of Question.List _) _ _ c.loop-last-test.true c.if-self-at.true)
+
+pub returns-in_err-end : goal.returns-in_err-end
+returns-in_err-end c =
+    let p = err_from_is_err_and c.from_residual.result c.from_residual.ensures.1 in
+    rw (p.1, p.2) (c.loop-last.invariant.onward _ _ (folds_failed (rules_of Question.List _) _ _ c.loop-last-test.true _ c.head_at-h.ensures.0 c.if-h-ne1.true _ c.in_err-end.ensures))
+
+pub loop-last-preserved-then-keeps : goal.loop-last-preserved-then-keeps
+loop-last-preserved-then-keeps c =
+    let core = core_second c.args.self.now.space c.loop-last.work c.loop-last.known c.core_of-core.ensures c.loop-last.invariant.core in
+    record {
+      room = c.loop-last.invariant.room;
+      inside = c.loop-last.invariant.inside;
+      long = c.loop-last.invariant.long;
+      core = core;
+      onward = λ v o g. c.loop-last.invariant.onward v o (folds_kept (rules_of Question.List _) _ _ c.loop-last-test.true _ c.head_at-h.ensures.0 o c.if-h-ne1.true (on_candidate c.args.self.now.space c.loop-last.work c.loop-last.invariant.room c.loop-last.invariant.inside core (c.keeps.ensures c.if-keeps.true)) g);
+    }
+
+pub loop-last-preserved-in_ok-end : goal.loop-last-preserved-in_ok-end
+loop-last-preserved-in_ok-end c =
+    let m = c.in_ok-end.ensures in
+    record {
+      room = room_within m.within c.loop-last.invariant.room;
+      long = m.within.long ∙ c.loop-last.invariant.long;
+      inside = m.inside;
+      core = tt;
+      onward = λ v o g. c.loop-last.invariant.onward v o (folds_on (rules_of Question.List _) _ _ c.loop-last-test.true _ c.head_at-h.ensures.0 c.if-h-ne1.true candidate_right o m g);
+    }
+
+pub loop-last-preserved : goal.loop-last-preserved
+loop-last-preserved c =
+    record {
+      room = c.loop-last.invariant.room;
+      inside = c.loop-last.invariant.inside;
+      long = c.loop-last.invariant.long;
+      core = c.loop-last.invariant.core;
+      onward = λ v o g. c.loop-last.invariant.onward v o (folds_null (rules_of Question.List _) _ _ c.loop-last-test.true _ c.head_at-h.ensures.0 o c.if-h-ne1.false g);
+    }
+
+pub returns : goal.returns
+returns c =
+    c.loop-last.invariant.onward _ _ (folds_end (rules_of Question.List _) _ c.loop-last-test.false)

@@ -1,0 +1,6 @@
+use Rattle.resolution.proofs.Folding.{stepped}
+use Rattle.resolution.proofs.resolver.Resolver.step.Goals as goal
+
+pub returns : goal.returns
+returns c =
+    stepped _ _ c.requires.room.0 c.requires.room.1 c.requires.compared c.shift.ensures c.merger-merger.ensures c.coerce.ensures

@@ -1,4 +1,0 @@
-use Rattle.wrappers.proofs.walk.+core_kind.Given as goal
-
-abbrev pub decreases-core_kind : goal.decreases-core_kind
-decreases-core_kind l = l.left

@@ -1,4 +1,0 @@
-use Rattle.wrappers.proofs.walk.+meets.Given as goal
-
-abbrev pub decreases-meets : goal.decreases-meets
-decreases-meets l = l.left
