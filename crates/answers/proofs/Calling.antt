@@ -33,7 +33,7 @@ use Rattle.std.specs.Prelude.{Ok, Err}
 use Rattle.buffers.specs.declared.Failure.{Failure}
 use Rattle.buffers.specs.declared.Failure.TheVariants.{NoType, Full}
 use Rattle.resolution.specs.Reached.{front, Listed, Fits, AnswerIs, Reached}
-use Rattle.answers.specs.Call.{Call, bad_mask, bad_pair, refusal, Reply, refused, nothing, written, Outcome, cleared, at_front, settled, answer, outcome}
+use Rattle.answers.specs.Call.{Call, bad_mask, bad_pair, refusal, refused, nothing, written, Outcome, cleared, settled, outcome}
 use Rattle.answers.specs.declared.Refusal as Own
 use Rattle.answers.specs.Code as Code
 use Rattle.answers.specs.Code.{call_of, Measured, Spared, is_short, later_refusal, Emits}

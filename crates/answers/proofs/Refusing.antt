@@ -1,7 +1,6 @@
 -- The refusals of a call: the sheet's own, and 6 to 8. Assumes nothing.
 use mathlib.Core.Path.{◌≡◌, refl, ap, sym, subst, ◌∙◌}
 use mathlib.Core.Bool.{Bool, true, false, cond, not}
-use mathlib.Core.Logic.{◌⊎◌, inl, inr}
 use mathlib.Core.List.{List, [], ◌∷◌, ◌++◌}
 use Prim.Native.Nat.{ℕ, suc, ◌+◌, ◌*◌, ◌%◌, ◌<◌, ◌≤◌}
 use native.Mathlib.Omega.{arith}
@@ -20,8 +19,7 @@ use Rattle.refusals.proofs.Verdicts.{checked_number, verdict_is}
 use Rattle.sheet.proofs.Reading.{start_leads}
 use Rattle.sheet.proofs.Accepted.{accepted_holds, accepted_carried, accepted_n, accepted_m, accepted_length}
 use Rattle.coercion.specs.Data.{Question}
-use Rattle.buffers.specs.Plain.{asked}
-use Rattle.buffers.specs.declared.Question as Asked
+use Rattle.buffers.specs.Plain.{is_list_question}
 use Rattle.buffers.specs.declared.Space.{Space}
 use Rattle.answers.specs.Call.{Call, bad_mask, bad_pair, bad_space, refusal}
 use Rattle.answers.specs.Code.{is_short, later_refusal, Measured}
@@ -56,6 +54,13 @@ pair_two s n h g some e nz f (field name nullable shape parts (field name₂ nul
     pair_end g.next (1 + 1 + count parts + 1 + count parts₂) rest (omega arith)
     (ap (λ (x : Head). x.next) (f ∙ ap (head_at s) k ∙ l.holds.1.1.0.head))
 
+-- a list asks for no number of types
+pub list_asked : (s : List ℕ) (q : Question) {b : Bool} → b ≡ true → b ≡ is_list_question q → not b ≡ bad_pair q s
+unfolding bad_pair
+list_asked s Question.list t e = ap not t
+list_asked s Question.union t e = ap not t ∙ ap (λ (x : Bool). cond x false (not (eqb (arity (read s)) 2))) (sym t ∙ e)
+list_asked s Question.compare t e = ap not t ∙ ap (λ (x : Bool). cond x false (not (eqb (arity (read s)) 2))) (sym t ∙ e)
+
 -- what is known of an accepted sheet
 module _ (s : List ℕ) (space : Space) (plain : Plain s) (measured : Measured s space) where
   pub measured_n : space.n ≡ 1 + count (read s)
@@ -87,11 +92,12 @@ module _ (s : List ℕ) (space : Space) (plain : Plain s) (measured : Measured s
   measured_low = omega (arith, measured_half, measured_few, measured_short)
 
   -- a union or a comparison wants two types
-  pub pair_asked : (q : Asked.Question) {b : Bool} → (q ≡ Asked.Question.Union) ⊎ (q ≡ Asked.Question.Compare)
-      → ((t : Fields) → Leads s space.n 0 (start space.n) 1 0 t → b ≡ eqb (arity t) 2) → not b ≡ bad_pair (asked q) s
+  pub pair_asked : (q : Question) {b p : Bool} → b ≡ false → b ≡ is_list_question q
+      → ((t : Fields) → Leads s space.n 0 (start space.n) 1 0 t → p ≡ eqb (arity t) 2) → not p ≡ bad_pair q s
   unfolding bad_pair
-  pair_asked q (inl e) h = rw e (ap not (h (read s) measured_leads))
-  pair_asked q (inr e) h = rw e (ap not (h (read s) measured_leads))
+  pair_asked Question.list {p = p} t e h = ap (λ (x : Bool). cond x false (not p)) (sym t ∙ e)
+  pair_asked Question.union t e h = ap not (h (read s) measured_leads)
+  pair_asked Question.compare t e h = ap not (h (read s) measured_leads)
 
 -- a condition that is not met leaves the others
 pass : (b : Bool) (n x y z : ℕ) → cond b (suc n) x ≡ 0 → (x ≡ 0 → y ≡ z) → cond b (suc n) y ≡ z

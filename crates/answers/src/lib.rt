@@ -53,7 +53,7 @@ impl From<Refusal> for u8 {
 // What a call reports where it is not refused: no type, or the byte length of the one-type sheet, which is at the front of the output.
 pub type Answer = Result<Option<usize>, Refusal>;
 
-// The common type of any number of listed types.
+// The common type of any number of listed types. The three calls are three functions, as the C interface has a name for each question.
 pub fn type_union_resolution(sheet: &[u8], mask: u64, output: &mut [u8], work: &mut [u8]) -> Answer
     ensures { record { reply = reply_of result; output = output.new; work = work.new } ≡ outcome (record { question = Data.list; sheet = sheet.now; mask = mask; output = output.old; work = work.old }) }
 {

@@ -8,6 +8,7 @@ ghost use Rattle.answers.specs.Call.{bad_mask, bad_pair};
 ghost use Rattle.answers.specs.Code.{number_met, is_short, Measured, later_refusal};
 
 use crate::Refusal;
+use buffers::plain::is_list_question;
 use buffers::{Question, Space};
 use sheet::record::head_at;
 
@@ -35,10 +36,7 @@ fn is_bad_pair(question: Question, sheet: &[u8], space: Space) -> bool
     requires { Measured sheet.now space }
     ensures { result ≡ bad_pair (asked question) sheet.now }
 {
-    match question {
-        Question::List => false,
-        Question::Union | Question::Compare => !is_pair(sheet, space.n),
-    }
+    !is_list_question(question) && !is_pair(sheet, space.n)
 }
 
 // Whether an output or a work space is too short for a sheet.

@@ -1,9 +1,10 @@
 // Where two chains of fields, or two types, first differ, with the names of their fields or without, and whether they are the same. A link of the first is
-// followed only to a record past floor, so that each comparison ends.
+// followed only to a record past floor, so that each comparison ends. Each buffer stands with its number of records and no struct for the two: `differ_sides`
+// has one number for both buffers, and would make two structs at each call.
 ghost use Rattle.std.specs.Prelude.{◌≡◌, not, ◌∷◌, [], ◌/◌, ◌%◌, ◌<◌};
 ghost use Rattle.std.specs.Bool.{beq};
 ghost use Rattle.sheet.specs.Tests.{all_of, implies};
-ghost use Rattle.sheet.specs.Head.{zoned_in, nullable_in};
+ghost use Rattle.sheet.specs.Head.{nullable_in};
 ghost use Rattle.sheet.specs.Read.{label_at, shape_of};
 ghost use Rattle.sheet.specs.Names.{same_bytes};
 ghost use Rattle.sheet.specs.Bounds.{Bounded};
@@ -17,12 +18,6 @@ use crate::write::sides;
 use sheet::Head;
 use sheet::label::{label_at, same, same_name};
 use sheet::record::head_at;
-
-pub(crate) fn is_zoned(h: Head) -> bool
-    ensures { result ≡ zoned_in h }
-{
-    h.flags / 4 % 2 == 1
-}
 
 // Whether the zones that bytes 4 to 7 of two records place are the same.
 fn same_zone(a: &[u8], n: usize, p: usize, b: &[u8], m: usize, q: usize) -> bool
@@ -40,14 +35,15 @@ fn same_content(a: &[u8], n: usize, g: Head, b: &[u8], m: usize, h: Head) -> boo
     requires { (n < 65536) × (m < 65536) }
     ensures { result ≡ same_content a.now n g b.now m h }
 {
-    if is_zoned(g) {
+    if g.zoned() {
         same_zone(a, n, g.quad, b, m, h.quad)
     } else {
         g.quad == h.quad
     }
 }
 
-// Whether bytes 0, 2 and 3 and the bits for sorted and for a zone of two records are the same.
+// Whether bytes 0, 2 and 3 and the bits for sorted and for a zone of two records are the same. No derived `==`: of the flags two bits count here, and bytes 4
+// to 7 are compared apart.
 #[tactic(auto, unfolding(sheet::specs::Tests::all_of))]
 fn same_figures(g: Head, h: Head) -> bool
     ensures { result ≡ same_figures g h }

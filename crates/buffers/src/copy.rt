@@ -6,7 +6,6 @@ ghost use Rattle.sheet.specs.Bounds.{Bounded};
 ghost use Rattle.buffers.specs.Writes.{side};
 ghost use Rattle.buffers.specs.Region.{Room, Inside, Ready, moved_link, moved_label, goal_head, CopiedHead, CopiedBare, CopiedRecord, CopiedChain};
 
-use crate::alike::is_zoned;
 use crate::field::name_goal;
 use crate::write::{look, put_head, put_label};
 use crate::{Failure, Goal, Out, Space, Spot};
@@ -29,11 +28,11 @@ pub(crate) fn moved_label(o: usize, len: usize) -> usize
     if len == 0 { 0 } else { o }
 }
 
-// The length of a record's zone, 0 where it has none.
+// The length of a record's zone; 0 where it has none, and no Option, as so many bytes are copied.
 fn zone_bytes(h: Head) -> usize
     ensures { (result ≡ cond (zoned_in h) (zone_len h) 0) × (result < 256) }
 {
-    if is_zoned(h) { h.quad / 65536 % 256 } else { 0 }
+    if h.zoned() { h.zone_len() } else { 0 }
 }
 
 // Bytes 4 to 7 of a record whose zone belongs at a place.
@@ -41,8 +40,8 @@ fn moved_quad(h: Head, label: usize) -> usize
     requires { (label < 65536) × Bounded h }
     ensures { (result ≡ cond (zoned_in h) (moved_label label (zone_len h) + 65536 * zone_len h) h.quad) × (result < 4294967296) }
 {
-    if is_zoned(h) {
-        let len = h.quad / 65536 % 256;
+    if h.zoned() {
+        let len = h.zone_len();
         moved_label(label, len) + 65536 * len
     } else {
         h.quad
@@ -87,7 +86,7 @@ pub fn copy_head(
         sheet,
         work,
         swap,
-        16 * space.n + h.quad % 65536,
+        16 * space.n + h.zone_at(),
         zlen,
         space.half + 16 * space.n + label,
     );
@@ -95,7 +94,8 @@ pub fn copy_head(
     Ok(g.past(zlen))
 }
 
-// Copies the head of record `link`, which has no zone, to a goal, as the last of its chain.
+// Copies the head of record `link`, which has no zone, to a goal, as the last of its chain. Unlike `copy_head` it needs no sheet, asks for no room for a zone
+// and cannot fail.
 pub(crate) fn copy_bare(work: &mut [u8], space: Space, h: Head, link: usize, g: Goal) -> Out
     requires { (Room work.old space × Ready space g) × ((g.at < space.n) × (Bounded h × (zoned_in h ≡ false))) }
     ensures { CopiedBare space work.old work.new h link g result }
@@ -104,7 +104,8 @@ pub(crate) fn copy_bare(work: &mut [u8], space: Space, h: Head, link: usize, g: 
     Ok(g.past(0))
 }
 
-// The same for a record of a side that may have a zone, as that of a wrapper has not.
+// The same for a record of a side that may have a zone. Of one that has none, as that of a wrapper, the head alone is written; `copy_head` would measure its
+// zone, ask for room and put no bytes.
 pub fn copy_parent(
     sheet: &[u8],
     work: &mut [u8],
@@ -117,7 +118,7 @@ pub fn copy_parent(
     requires { (Room work.old space × Ready space g) × ((g.at < space.n) × Bounded h) }
     ensures { CopiedHead space (side swap sheet.now work.old) work.old work.new h link g 0 result }
 {
-    if is_zoned(h) {
+    if h.zoned() {
         return copy_head(sheet, work, space, swap, h, link, g, 0);
     }
     copy_bare(work, space, h, link, g)
@@ -126,7 +127,7 @@ pub fn copy_parent(
 pub fn is_nullable(h: Head) -> bool
     ensures { result ≡ nullable_in h }
 {
-    h.flags % 2 == 1
+    h.nullable()
 }
 
 // Copies record `link` of a side, with its labels, and without its parts.

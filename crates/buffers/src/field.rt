@@ -1,4 +1,5 @@
 // Writing the fields of a chain, one by one.
+// A kind is the byte of a record: public functions take any byte, of which an enum of 38 kinds would ask more.
 ghost use Rattle.std.specs.Prelude.{◌≡◌, Bool, cond, ◌+◌, ◌≤◌, ◌<◌, eqb, Ok, Err};
 ghost use Rattle.buffers.specs.declared.Failure.{Failure};
 ghost use Rattle.sheet.specs.Bounds.{Bounded};
@@ -6,12 +7,11 @@ ghost use Rattle.buffers.specs.Writes.{side};
 ghost use Rattle.buffers.specs.Region.{Room, Inside, Ready};
 ghost use Rattle.buffers.specs.Typed.{NamedAt, NamedGoal, CopiedField, Viewed};
 
-use crate::alike::is_zoned;
 use crate::copy::{copy_bare, is_nullable};
 use crate::lay::{copy_type, lay_plain};
-use crate::plain::of_kind;
 use crate::write::{look, put_label};
 use crate::{Failure, Goal, Out, Space, Spot};
+use coercion::Figures;
 use sheet::Head;
 use sheet::record::head_at;
 
@@ -37,7 +37,7 @@ pub fn row_end(p: usize, to: Spot) -> Out
     if p == 0 { Ok(to) } else { Err(Failure::NoType) }
 }
 
-// Writes the name of a record of a side at a place, where there is room for it.
+// Writes the name of a record of a side at a place, where there is room for it. Whether it fitted is all that is told: `name_goal` makes a Result of it.
 pub fn name_field(
     sheet: &[u8],
     work: &mut [u8],
@@ -100,7 +100,8 @@ pub fn copy_field(
     copy_type(sheet, work, space, swap, link, g)
 }
 
-// The same, quicker where the field has neither parts nor a zone, as the indices of a wrapper.
+// The same, where the field most often has neither parts nor a zone, as the indices of a wrapper: such a field's head is read once, and twice by `copy_field`,
+// which then looks for a zone and for parts.
 pub fn copy_index(
     sheet: &[u8],
     work: &mut [u8],
@@ -113,7 +114,7 @@ pub fn copy_index(
     ensures { CopiedField space (side swap sheet.now work.old) work.old work.new link to result }
 {
     let h = look(sheet, &*work, swap, link);
-    if is_zoned(h) || h.first != 0 {
+    if h.zoned() || h.first != 0 {
         return copy_field(sheet, work, space, swap, link, to);
     }
     if space.n <= to.at {
@@ -129,7 +130,7 @@ pub fn keep_wrapper(work: &mut [u8], space: Space, kind: u8, i: usize, g: Goal, 
     ensures { Viewed space work.old work.new kind i g e result }
 {
     if kind == 37 && head_at(&work[space.half..], i).kind == 27 {
-        return lay_plain(work, space, g, of_kind(27));
+        return lay_plain(work, space, g, Figures::of_kind(27));
     }
     Ok(e)
 }

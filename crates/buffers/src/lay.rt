@@ -1,4 +1,5 @@
 // Writing a type at a goal.
+// A kind is the byte of a record: public functions take any byte, of which an enum of 38 kinds would ask more.
 ghost use Rattle.std.specs.Prelude.{◌≡◌, Bool, true, false, cond, ◌+◌, ◌*◌, ◌≤◌, ◌<◌, length};
 ghost use Rattle.sheet.specs.Encode.{bit};
 ghost use Rattle.buffers.specs.Writes.{side};
@@ -43,14 +44,7 @@ pub(crate) fn lay_plain(work: &mut [u8], space: Space, g: Goal, f: Figures) -> O
     if space.n <= g.at {
         return Err(Failure::Full);
     }
-    let shape = Shape {
-        kind: f.kind,
-        figure: f.figure,
-        scale: f.scale,
-        size: 0,
-        sorted: false,
-    };
-    lay(work, space, g, shape, 0);
+    lay(work, space, g, Shape::from(f), 0);
     Ok(g.past(0))
 }
 

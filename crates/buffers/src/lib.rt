@@ -1,7 +1,7 @@
 // Types in lent buffers: whether two are the same, how one is copied or laid, and the rules for types without parts.
 #![tactic(auto)]
 
-ghost use Rattle.std.specs.Prelude.{◌≡◌, ◌+◌, ◌*◌, ◌<◌};
+ghost use Rattle.std.specs.Prelude.{◌≡◌, false, ◌+◌, ◌*◌, ◌<◌};
 ghost use Rattle.buffers.specs.Goal.{past};
 ghost use Rattle.buffers.specs.Typed.{goal_at};
 
@@ -36,6 +36,8 @@ impl fmt::Display for Question {
 
 // The sizes that all functions share: the sheet's records and label bytes, and the length of half of the work space, which is the sheet's. The buffers are
 // passed beside it: a struct that held them and the fact `Room` would need a clause in each contract that the sheet and the sizes stay, so it is no plainer.
+// Sheet and side stand beside it too: the side changes from call to call, so a struct of them would be made at each. That n is at most 1,024 is a part of
+// `Room`, so no ghost field says it again; what only reads asks for it alone.
 #[derive(Clone, Copy)]
 pub struct Space {
     pub n: usize,
@@ -60,7 +62,8 @@ pub enum Failure {
 // The place before which what was written ends.
 pub type Out = Result<Spot, Failure>;
 
-// A place in the destination for a type under a name. The name's bytes stand there already, nlen of them from label on.
+// A place in the destination for a type under a name. The name's bytes stand there already, nlen of them from label on. That it lies in the room of a Space
+// says `Ready`, and no ghost field, as it has no Space: each Goal and Spot would carry the sizes that all share.
 #[derive(Clone, Copy)]
 pub struct Goal {
     pub at: usize,
@@ -96,7 +99,7 @@ impl Goal {
     }
 }
 
-// The shape of a type without a zone.
+// The shape of a type without a zone: figures, and what a record says besides. With Figures as a field each use would name it.
 #[derive(Clone, Copy)]
 pub struct Shape {
     pub kind: u8,
@@ -104,6 +107,21 @@ pub struct Shape {
     pub scale: u8,
     pub size: usize,
     pub sorted: bool,
+}
+
+impl From<Figures> for Shape {
+    ghost from_gives = { λ f s. s ≡ record { kind = f.kind; figure = f.figure; scale = f.scale; size = 0; sorted = false } };
+
+    // Of a type that has only figures.
+    fn from(f: Figures) -> Shape {
+        Shape {
+            kind: f.kind,
+            figure: f.figure,
+            scale: f.scale,
+            size: 0,
+            sorted: false,
+        }
+    }
 }
 
 // Which field of the right chain gives a field of the left its type, and which chain its nullability: the one at its place for both; its place's type and

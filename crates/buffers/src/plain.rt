@@ -1,4 +1,5 @@
 // The rules for types without parts, from their figures, and the shape of two lists' common list, from the heads of two records.
+// A kind is the byte of a record: public functions take any byte, of which an enum of 38 kinds would ask more.
 ghost use Rattle.std.specs.Prelude.{◌≡◌, ◌<◌};
 ghost use Rattle.sheet.specs.Bounds.{Bounded};
 ghost use Rattle.coercion.specs.Data.{DataType, figures_of, as_type};
@@ -28,7 +29,7 @@ pub fn is_list_question(question: Question) -> bool
     matches!(question, Question::List)
 }
 
-// The kind of two lists' common list.
+// The kind of two lists' common list. The kind and the size are two functions, as they are two definitions.
 pub fn list_kind(x: Head, y: Head) -> u8
     ensures { result ≡ list_kind x y }
 {
@@ -41,7 +42,7 @@ pub fn list_kind(x: Head, y: Head) -> u8
     }
 }
 
-// Its size, 0 where it has none.
+// Its size; 0 where it has none, which is what the record of such a list holds there.
 pub fn list_size(x: Head, y: Head) -> usize
     requires { Bounded y }
     ensures { (result ≡ list_size x y) × (result < 4294967296) }
@@ -50,17 +51,6 @@ pub fn list_size(x: Head, y: Head) -> usize
         y.quad
     } else {
         0
-    }
-}
-
-// The figures of a type that has none but its kind.
-pub(crate) fn of_kind(kind: u8) -> Figures
-    ensures { result ≡ record { kind = kind; figure = 0; scale = 0 } }
-{
-    Figures {
-        kind,
-        figure: 0,
-        scale: 0,
     }
 }
 
@@ -73,7 +63,7 @@ fn of_common(c: Option<Figures>) -> Option<Step>
 fn of_found(f: Option<u8>) -> Option<Step>
     ensures { (l r : DataType) → step_of result l r ≡ of_kind_type f }
 {
-    f.map(|kind| Step::Lay(of_kind(kind)))
+    f.map(|kind| Step::Lay(Figures::of_kind(kind)))
 }
 
 fn of_side(s: Option<Side>) -> Option<Step>
@@ -120,6 +110,7 @@ fn null(mask: u64, x: Figures, y: Figures) -> Option<Step>
     of_side(null_coercion(mask, x.kind, y.kind))
 }
 
+// The question is data of the call: a closure in its place would be handed down through all rules to be called here.
 fn string_number(question: Question, x: Figures, y: Figures) -> Option<Step>
     ensures { (l r : DataType) → Figured x l → Figured y r → step_of result l r ≡ string_number (asked question) l r }
 {
@@ -171,6 +162,7 @@ pub fn plain_step(question: Question, mask: u64, x: Figures, y: Figures) -> Opti
     of_found(binary_coercion(k, j))
 }
 
+// No From, since neither type is this crate's.
 fn figures(h: Head) -> Figures
     ensures { result ≡ record { kind = h.kind; figure = h.figure; scale = h.scale } }
 {

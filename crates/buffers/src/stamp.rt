@@ -9,7 +9,6 @@ ghost use Rattle.buffers.specs.Plain.{rules_of, plain_rules};
 ghost use Rattle.buffers.specs.Steps.{step_of, place_of, either_zone};
 ghost use Rattle.buffers.specs.Typed.{Merges};
 
-use crate::alike::is_zoned;
 use crate::lay::{copy_type, lay_plain, lay_zoned};
 use crate::plain::plain;
 use crate::write::{look, sides};
@@ -24,11 +23,11 @@ fn zone_place(h: Head, n: usize, length: usize) -> Place
     requires { n ≤ 1024 }
     ensures { result ≡ place_of h n length }
 {
-    let from = (16 * n + h.quad % 65536).min(length);
+    let from = (16 * n + h.zone_at()).min(length);
     Place {
-        present: is_zoned(h),
+        present: h.zoned(),
         from,
-        upto: (from + h.quad / 65536 % 256).min(length),
+        upto: (from + h.zone_len()).min(length),
     }
 }
 
@@ -66,6 +65,7 @@ fn stamp_zoned(
     requires { Room work.old space × Ready space g }
     ensures { LaidZoned space work.old work.new g 22 unit (either_zone (side swap sheet.now work.old) (side (not swap) sheet.now work.old) space.n x y) result }
 {
+    // No heap: the zone is held here, as it may stand in what is then written.
     let mut buf = [0u8; 255];
     let k = zone_into(sheet, &*work, space.n, swap, x, y, &mut buf);
     lay_zoned(work, space, g, 22, unit, &buf[..k])
@@ -87,18 +87,13 @@ fn stamp(
 {
     let x = look(sheet, &*work, swap, l);
     let y = look(sheet, &*work, !swap, r);
-    if is_zoned(x) || is_zoned(y) {
+    if x.zoned() || y.zoned() {
         return stamp_zoned(sheet, work, space, swap, unit, x, y, g);
     }
-    let f = Figures {
-        kind: 22,
-        figure: unit,
-        scale: 0,
-    };
-    lay_plain(work, space, g, f)
+    lay_plain(work, space, g, Figures::of_unit(22, unit))
 }
 
-// Writes what a step says of the types at two links.
+// Writes what a step says of the types at two links. A step is a value and no closure, as `values::lays_view` asks which one it is, and it is laid or valued.
 fn lay_step(
     sheet: &[u8],
     work: &mut [u8],

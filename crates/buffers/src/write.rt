@@ -8,7 +8,7 @@ use sheet::Head;
 use sheet::label::label_at;
 use sheet::record::head_at;
 
-// The buffer that a side is read from, and that of the other side.
+// The buffer that a side is read from, and that of the other side. In this crate all but `put_label` choose here.
 pub fn sides<'a>(sheet: &'a [u8], work: &'a [u8], swap: bool) -> (&'a [u8], &'a [u8])
     ensures { (result.0.now ≡ side swap sheet.now work.now) × (result.1.now ≡ side (not swap) sheet.now work.now) }
 {
@@ -101,6 +101,7 @@ pub(crate) fn put_label(
     if len == 0 {
         return;
     }
+    // In the work space the two places may overlap, so its bytes are moved within it.
     if swap {
         return put_own(work, from, len, at);
     }

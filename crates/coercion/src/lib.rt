@@ -1,4 +1,5 @@
 // The types that the plain rules of the source take and give. The rules themselves stand in crates of their own, their definitions in specs/.
+// A kind is the byte of a record: public functions take any byte, of which an enum of 38 kinds would ask more.
 #![tactic(auto)]
 
 ghost use Rattle.std.specs.Prelude.{◌≡◌};

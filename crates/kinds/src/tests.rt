@@ -1,9 +1,11 @@
 // Tests on kinds.
-ghost use Rattle.std.specs.Prelude.{◌≡◌};
+// A kind is the byte of a record: public functions take any byte, of which an enum of 38 kinds would ask more.
+ghost use Rattle.std.specs.Prelude.{◌≡◌, ◌||◌, eqb};
 ghost use Rattle.coercion.specs.Kinds.{is_numeric, is_integer, is_signed, is_string, is_date, is_time, is_span, is_list, one_is};
 
 use sheet::figure::within;
 
+// By a name, as the source's rules and their definition ask it in one form (`one_is`).
 pub fn one_is(x: u8, k: u8, j: u8) -> bool
     ensures { result ≡ one_is x k j }
 {
@@ -56,4 +58,11 @@ pub fn is_list(k: u8) -> bool
     ensures { result ≡ is_list k }
 {
     within(32, 34, k)
+}
+
+// A Dictionary or run ends.
+pub fn is_wrapper(k: u8) -> bool
+    ensures { result ≡ (eqb k 37 || eqb k 38) }
+{
+    k == 37 || k == 38
 }

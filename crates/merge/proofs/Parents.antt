@@ -1,6 +1,6 @@
 -- A record that was written at a goal, and its parts after it. Assumes nothing.
 use mathlib.Core.Path.{◌≡◌, refl, ap, ap₂, sym, subst, subst₂, ◌∙◌}
-use mathlib.Core.Bool.{Bool, true, false, cond, not, ◌&&◌}
+use mathlib.Core.Bool.{Bool, true, cond, not, ◌&&◌}
 use mathlib.Core.List.{List, [], ◌++◌}
 use mathlib.Core.Logic.{inl, inr, ⊎_elim}
 use Rattle.std.specs.Prelude.{Option, None, Some}
@@ -134,9 +134,9 @@ link_is {l = l} at (field name nullable shape parts rest) a = rw (ne_eqb l 0 (λ
 
 -- the record of a type with parts, and the merged rows
 module _ {known : Option ℕ} {named : Bool} (c : DataType → DataType → Option DataType) (space : Space) (left : ℕ) (swap : Bool) (s w : List ℕ) (feed : Feed) (l r p : ℕ) (g : Goal) where
-  pub under_on : (v u : List ℕ) (o : Out) {kind sz first : ℕ} → Room w space → Ready space g → g.at < space.n → first ≡ cond (eqb l 0) 0 (g.at + 1)
-      → Laid space w v g (shape_for kind 0 0 sz false) first → Rowed known named c space left swap s v u feed l r p (after g) o
-      → Under known named c space left swap s w u feed (shape_for kind 0 0 sz false) l r p g o
+  pub under_on : (v u : List ℕ) (o : Out) {kind figure scale sz first : ℕ} {sorted : Bool} → Room w space → Ready space g → g.at < space.n → first ≡ cond (eqb l 0) 0 (g.at + 1)
+      → Laid space w v g (shape_for kind figure scale sz sorted) first → Rowed known named c space left swap s v u feed l r p (after g) o
+      → Under known named c space left swap s w u feed (shape_for kind figure scale sz sorted) l r p g o
   under_on v u o room ready lt e laid rows =
       record {
         writes = writes_on g o laid.kept (after_passes g ready lt) rows.kept rows.grows;

@@ -1,4 +1,5 @@
 // The merge of two types. Each call hands down how many records may be left in both types, and that number falls.
+// A kind is the byte of a record: public functions take any byte, of which an enum of 38 kinds would ask more.
 ghost use Rattle.std.specs.Prelude.{◌≡◌, ℕ, None, true, false, not, cond, ◌+◌, ◌-◌, ◌≤◌, ◌<◌, eqb, ltb, ◌&&◌};
 ghost use Rattle.coercion.specs.Answers.{coercion, list_struct};
 ghost use Rattle.coercion.specs.Nested.{struct_coercion};
@@ -23,6 +24,7 @@ use buffers::plain::{is_list_question, list_kind, list_size};
 use buffers::stamp::plain_rule;
 use buffers::write::{kind_at, look, value_at};
 use buffers::{Failure, Feed, Goal, Out, Shape, Spot};
+use coercion::Figures;
 use kinds::tests::is_list;
 use partners::names::{have_same_names, in_order, same_arity};
 use partners::rows::row;
@@ -41,7 +43,7 @@ fn is_small(n: usize, link: usize, next: usize) -> bool
 fn are_sorted(x: Head, y: Head) -> bool
     ensures { result ≡ (sorted_in x && sorted_in y) }
 {
-    x.flags / 2 % 2 == 1 && y.flags / 2 % 2 == 1
+    x.sorted() && y.sorted()
 }
 
 impl<'a> Merger<'a> {
@@ -62,6 +64,7 @@ impl<'a> Merger<'a> {
         if is_small(self.space.n, l, look(self.sheet, &*work, swap, l).next) {
             return self.common(work, &mut [0u32; 0], left, swap, known, 0, l, r, g);
         }
+        // No heap: the table is in the frame.
         self.common(work, &mut [0u32; 2048], left, swap, known, 0, l, r, g)
     }
 
@@ -159,6 +162,7 @@ impl<'a> Merger<'a> {
         if k < 37 && j < 37 {
             return self.nested(work, table, left - 1, swap, Some(d), l, r, g);
         }
+        // A list and a pair have rules of their own: functions that contracts name, and no closure.
         if is_list_question(self.question) {
             return self.resolve(work, table, left - 1, swap, Some(d), l, r, g);
         }
@@ -451,6 +455,7 @@ impl<'a> Merger<'a> {
             return self.list_rule(work, table, left, swap, known, l, r, g);
         }
         if k == 35 && j == 35 {
+            // As in `common`, a list's rule and a pair's are functions that contracts name.
             if is_list_question(self.question) {
                 return self.list_struct(work, table, left, swap, known, l, r, g);
             }
@@ -472,15 +477,14 @@ impl<'a> Merger<'a> {
         swap: bool,
         known: Option<usize>,
         feed: Feed,
-        kind: u8,
-        size: usize,
+        shape: Shape,
         l: usize,
         r: usize,
         g: Goal,
     ) -> Out
-        requires room { (Room work.old self.now.space × Ready self.now.space g) × (size < 4294967296) }
+        requires room { (Room work.old self.now.space × Ready self.now.space g) × (shape.size < 4294967296) }
         requires tabled { Tabled self.now.space self.now.sheet.now work.old table.old }
-        ensures under { Under known (is_list_question (asked self.now.question)) (coercion (rules_of self.now.question self.now.mask)) self.now.space left swap self.now.sheet.now work.old work.new feed (shape_for kind 0 0 size false) l r r g result }
+        ensures under { Under known (is_list_question (asked self.now.question)) (coercion (rules_of self.now.question self.now.mask)) self.now.space left swap self.now.sheet.now work.old work.new feed (shape_for shape.kind shape.figure shape.scale shape.size shape.sorted) l r r g result }
         ensures stays_tabled { Tabled self.now.space self.now.sheet.now work.new table.new }
     {
         let at = g.at;
@@ -488,13 +492,6 @@ impl<'a> Merger<'a> {
         if self.space.n <= at {
             return Err(Failure::Full);
         }
-        let shape = Shape {
-            kind,
-            figure: 0,
-            scale: 0,
-            size,
-            sorted: false,
-        };
         lay(work, self.space, g, shape, first_link(at, l));
         let to = Spot { at: at + 1, label };
         self.rows(work, table, left, swap, known, feed, l, r, r, to)
@@ -519,21 +516,12 @@ impl<'a> Merger<'a> {
         ensures stays_tabled { Tabled self.now.space self.now.sheet.now work.new table.new }
     {
         let (x, y) = self.heads(&*work, swap, l, r);
-        let kind = list_kind(x, y);
-        let size = list_size(x, y);
-        self.under(
-            work,
-            table,
-            left,
-            swap,
-            known,
-            Feed::Place,
-            kind,
-            size,
-            x.first,
-            y.first,
-            g,
-        )
+        let (a, b) = (x.first, y.first);
+        let shape = Shape {
+            size: list_size(x, y),
+            ..Shape::from(Figures::of_kind(list_kind(x, y)))
+        };
+        self.under(work, table, left, swap, known, Feed::Place, shape, a, b, g)
     }
 
     // `struct_coercion`, of two types.
@@ -563,7 +551,8 @@ impl<'a> Merger<'a> {
             let feed = self
                 .struct_feed(&*work, table, swap, Feed::Name, l, a, b)
                 .unwrap_or(Feed::Place);
-            return self.under(work, table, left, swap, known, feed, 35, 0, a, b, g);
+            let shape = Shape::from(Figures::of_kind(35));
+            return self.under(work, table, left, swap, known, feed, shape, a, b, g);
         }
         Err(Failure::NoType)
     }
@@ -592,8 +581,9 @@ impl<'a> Merger<'a> {
         if !same_arity(self.sheet, &*work, self.space, swap, l, a, b) {
             return Err(Failure::NoType);
         }
+        let shape = Shape::from(Figures::of_kind(35));
         match self.struct_feed(&*work, table, swap, Feed::NameThenPlace, l, a, b) {
-            Some(feed) => self.under(work, table, left, swap, known, feed, 35, 0, a, b, g),
+            Some(feed) => self.under(work, table, left, swap, known, feed, shape, a, b, g),
             None => Err(Failure::NoType),
         }
     }
@@ -627,11 +617,8 @@ impl<'a> Merger<'a> {
             return Err(Failure::NoType);
         }
         let shape = Shape {
-            kind: 36,
-            figure: 0,
-            scale: 0,
-            size: 0,
             sorted: are_sorted(x, y),
+            ..Shape::from(Figures::of_kind(36))
         };
         lay(work, self.space, g, shape, at + 1);
         self.entry(

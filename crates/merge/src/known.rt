@@ -30,6 +30,7 @@ impl<'a> Merger<'a> {
 }
 
 // What is known of the types of the field at l and of record partner by where their chains differ; record p stands at the place of l, and next follows l.
+// Some(0) says that they are the same, as `differ_type` does.
 pub(crate) fn row_known(
     known: Option<usize>,
     l: usize,

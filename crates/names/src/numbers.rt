@@ -31,6 +31,7 @@ fn key(x: u32) -> usize
 fn equal_numbers(xs: &[u32]) -> Option<(usize, usize)>
     ensures { Tells (λ (i : ℕ). get_or xs.now i 0) (length xs.now) (Ok result) }
 {
+    // No heap: a mark for each key.
     let mut marks = [false; 8192];
     for (i, x) in xs.iter().enumerate() {
         let q = key(*x);

@@ -6,7 +6,8 @@ ghost use Rattle.names.specs.Twins.{name_of};
 use sheet::label::{label_at, same_name};
 use sheet::record::head_at;
 
-// A sheet of n records.
+// A sheet of n records. `refusals::Records` holds more facts, which `twins` does not ask of its callers. `Numbered` is about a slice that is lent, so it is a
+// clause and no ghost field.
 #[derive(Clone, Copy)]
 pub(crate) struct Records<'a> {
     pub(crate) s: &'a [u8],

@@ -102,7 +102,8 @@ impl Chain<'_> {
     fn repeats_long(self) -> bool
         ensures { Repeats self.entry.records.s.now self.entry.records.n self.entry.floor self.entry.link result }
     {
-        // Two arrays: one of structs is 8 KiB and not 6 to set to 0, and costs a Struct of nine fields a tenth.
+        // No heap: room for 1,024 records, filled up to k; where it is full all are compared. Two arrays: one of structs is 8 KiB and not 6 to set to 0, and
+        // costs a Struct of nine fields a tenth.
         let mut recs = [0u16; 1024];
         let mut numbers = [0u32; 1024];
         let k = self.list(&mut recs, &mut numbers);

@@ -1,4 +1,5 @@
 // Numbers and decimals. Where the source has a function for each of four widths, one over the width's kind serves.
+// A kind is the byte of a record: public functions take any byte, of which an enum of 38 kinds would ask more.
 ghost use Rattle.std.specs.Prelude.{◌≡◌, true, ◌&&◌, ◌+◌, ◌<◌, ◌≤◌, Some};
 ghost use Rattle.sheet.specs.Kind.{is_decimal, cap};
 ghost use Rattle.sheet.specs.Refusals.{biased};
@@ -67,11 +68,7 @@ fn get_wider_decimal_type_cross_variant(l: Figures, r: Figures) -> Option<Figure
 {
     let kind = l.kind.max(r.kind);
     let p = wider_precision(l, r);
-    if p <= precision_cap(kind) {
-        Some(decimal_of(kind, p, wider_scale(l, r)))
-    } else {
-        None
-    }
+    (p <= precision_cap(kind)).then(|| decimal_of(kind, p, wider_scale(l, r)))
 }
 
 // The digits of a number's kind (Spark), and of a float those after the point.
@@ -116,11 +113,7 @@ fn takes_number(w: u8, k: u8) -> bool
 fn coerce_numeric_type_to_decimal(w: u8, k: u8) -> Option<Figures>
     ensures { result ≡ coerce_numeric_type_to_decimal w k }
 {
-    if takes_number(w, k) {
-        Some(decimal_of(w, digits_of(k), fraction_of(k) + 128))
-    } else {
-        None
-    }
+    takes_number(w, k).then(|| decimal_of(w, digits_of(k), fraction_of(k) + 128))
 }
 
 #[tactic(auto, unfolding(coercion::specs::Numbers::get_common_decimal_type))]

@@ -8,7 +8,8 @@ use crate::search::{find, is_named};
 use sheet::label::{label_at, mix};
 use sheet::record::head_at;
 
-// An index of a chain by its names: the last record of each row, and for each record the one before it in its row. Each record of a chain is below 1,024.
+// An index of a chain by its names: the last record of each row, and for each record the one before it in its row. Each record of a chain is below 1,024. The
+// chain stands beside it: `Indexed` would be one ghost field more, and each step of `add` would have to keep it.
 #[derive(Clone, Copy)]
 pub(crate) struct Index {
     heads: [u16; 1024],

@@ -1,4 +1,5 @@
-// Whether the fields of two chains have the same names, and how many they are.
+// Whether the fields of two chains have the same names, and how many they are. Slices and links stand one by one: floor and l move on in the loops, and
+// `are_searched` hands them on as they stand.
 ghost use Rattle.std.specs.Prelude.{◌≡◌, not, ℕ, ◌≤◌, length, eqb};
 ghost use Rattle.sheet.specs.Types.{Fields, arity};
 ghost use Rattle.coercion.specs.Nested.{fields_have_same_names};
@@ -61,7 +62,8 @@ pub fn in_order(
     are_in_order(s, t, space.n, floor, l, r)
 }
 
-// Whether each name of the chain at a link of s is one of the chain at a link of t, of which there is an index. Those that are found are noted in a table, from a key on.
+// Whether each name of the chain at a link of s is one of the chain at a link of t, of which there is an index. Those that are found are noted in a table,
+// from a key on.
 fn are_listed(
     s: &[u8],
     t: &[u8],
@@ -111,7 +113,8 @@ fn are_indexed(
     are_listed(s, t, n, floor, l, r, &Index::of(t, n, r), key, table)
 }
 
-// The same by a search for each name. An index is made where there are many.
+// The same by a search for each name. An index is made where there are many: no loop is shared with `are_listed`, as this one goes over to it after four names,
+// and what they share is the way along the chain.
 fn are_searched(
     s: &[u8],
     t: &[u8],

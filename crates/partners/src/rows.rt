@@ -24,6 +24,7 @@ struct Rows<'a> {
     space: Space,
     swap: bool,
     table: &'a [u32],
+    ghost few: { space.n ≤ 1024 },
 }
 
 // The row of a field whose type and nullability come from one record of the right, or from two.
@@ -40,7 +41,7 @@ fn row_of(partner: usize, a: Head, b: Head, next: usize) -> Row
 impl Rows<'_> {
     // The record of the right that has the name of the record of the left whose head is x, in the chain at r; 0 where there is none.
     fn searched(&self, x: Head, r: usize) -> usize
-        requires { (self.now.space.n ≤ 1024) × Bounded x }
+        requires { Bounded x }
         ensures { Finds self.now.space.n (side (not self.now.swap) self.now.sheet.now self.now.work.now) (label_at (side self.now.swap self.now.sheet.now self.now.work.now) self.now.space.n x.name x.nlen) r result }
     {
         let n = self.space.n;
@@ -50,7 +51,7 @@ impl Rows<'_> {
 
     // The same of record l. Where the table says which it is, no name is compared.
     fn partner(&self, x: Head, l: usize, r: usize) -> usize
-        requires { (self.now.space.n ≤ 1024) × Bounded x }
+        requires { Bounded x }
         ensures { x ≡ head_at (side self.now.swap self.now.sheet.now self.now.work.now) l → Partners self.now.space self.now.sheet.now self.now.work.now self.now.table.now → Pairs self.now.space (side self.now.swap self.now.sheet.now self.now.work.now) (side (not self.now.swap) self.now.sheet.now self.now.work.now) l r result }
     {
         let e = entry(self.table, self.swap, l);
@@ -62,7 +63,7 @@ impl Rows<'_> {
 
     // The row of a field that is fed by name.
     fn named_row(&self, x: Head, y: Head, l: usize, r: usize, p: usize) -> Row
-        requires { (self.now.space.n ≤ 1024) × Bounded x }
+        requires { Bounded x }
         ensures { x ≡ head_at (side self.now.swap self.now.sheet.now self.now.work.now) l → y ≡ head_at (side (not self.now.swap) self.now.sheet.now self.now.work.now) p → Partners self.now.space self.now.sheet.now self.now.work.now self.now.table.now → RowIs self.now.space self.now.swap self.now.sheet.now self.now.work.now Feed.Name l r p result }
     {
         let j = self.partner(x, l, r);
@@ -72,7 +73,7 @@ impl Rows<'_> {
 
     // The row of a field that takes its type by name and its nullability by place.
     fn named_place(&self, x: Head, y: Head, l: usize, r: usize, p: usize) -> Row
-        requires { (self.now.space.n ≤ 1024) × Bounded x }
+        requires { Bounded x }
         ensures { x ≡ head_at (side self.now.swap self.now.sheet.now self.now.work.now) l → y ≡ head_at (side (not self.now.swap) self.now.sheet.now self.now.work.now) p → Partners self.now.space self.now.sheet.now self.now.work.now self.now.table.now → RowIs self.now.space self.now.swap self.now.sheet.now self.now.work.now Feed.NameThenPlace l r p result }
     {
         let next = y.next;
@@ -83,7 +84,7 @@ impl Rows<'_> {
     }
 }
 
-// What feeds the field at a link of the left.
+// What feeds the field at a link of the left. A feed is a value and no closure: it goes down with the rows, and contracts say what it means.
 pub fn row(
     sheet: &[u8],
     work: &[u8],

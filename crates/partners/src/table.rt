@@ -3,7 +3,7 @@ ghost use Rattle.std.specs.Prelude.{◌≡◌, ◌<◌, get_or};
 ghost use Rattle.buffers.specs.Partners.{key_of};
 ghost use Rattle.partners.specs.Naming.{entry_of, noted};
 
-// The place of record i of a side.
+// The place of record i of a side: the one place that chooses a half of the table.
 pub(crate) fn key_of(swap: bool, i: usize) -> usize
     requires { i < 65536 }
     ensures { result ≡ key_of swap i }
@@ -14,11 +14,7 @@ pub(crate) fn key_of(swap: bool, i: usize) -> usize
 fn at(table: &[u32], k: usize) -> usize
     ensures { result ≡ get_or table.now k 0 }
 {
-    if k < table.len() {
-        table[k] as usize
-    } else {
-        0
-    }
+    table.get(k).map_or(0, |&e| e as usize)
 }
 
 // What a table says of record i of a side; 0 where it says nothing.
@@ -31,7 +27,8 @@ pub(crate) fn entry(table: &[u32], swap: bool, i: usize) -> usize
     at(table, key_of(swap, i))
 }
 
-// Notes at a key of a table that record j of the chain at r is a partner, where there is room for it.
+// Notes at a key of a table that record j of the chain at r is a partner, where there is room for it. An entry is one number, 65,536 times r and then j: only
+// this makes it and only `Rows::partner` takes it apart, so a struct would be no plainer.
 pub(crate) fn note(table: &mut [u32], k: usize, r: usize, j: usize)
     requires { j < 65536 }
     ensures { table.new ≡ noted table.old k r j }

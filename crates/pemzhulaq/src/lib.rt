@@ -1,5 +1,5 @@
 // The three calls with one number as the answer, as programs in other languages have them.
-#![tactic(auto, using(crate::proofs::Showing::shown))]
+#![tactic(auto)]
 
 ghost use Rattle.std.specs.Prelude.{◌≡◌};
 ghost use Rattle.coercion.specs.Data as Data;
@@ -21,7 +21,7 @@ fn number_of(answer: Answer) -> usize
     }
 }
 
-// The common type of any number of listed types.
+// The common type of any number of listed types. The three calls are three functions, as the C interface has a name for each question.
 pub fn pemzhulaq_type_union_resolution(
     sheet: &[u8],
     mask: u64,

@@ -6,7 +6,7 @@ ghost use Rattle.coercion.specs.Data as Data;
 ghost use Rattle.answers.specs.Call.{outcome};
 ghost use Rattle.pemzhulaq.specs.Number.{exported};
 
-// The common type of any number of listed types.
+// The common type of any number of listed types. The three calls are three functions, as the C interface has a name for each question.
 #[unsafe(no_mangle)]
 pub extern "C" fn pemzhulaq_type_union_resolution(
     sheet: &[u8],

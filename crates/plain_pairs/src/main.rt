@@ -9,7 +9,7 @@ pub mod pairs;
 pub mod plain;
 pub mod questions;
 
-ghost use Rattle.std.specs.Prelude.{◌≡◌, ◌+◌, ◌*◌, ◌^◌, ◌<◌, ◌≤◌, length, IfSome};
+ghost use Rattle.std.specs.Prelude.{◌≡◌, ◌+◌, ◌^◌, ◌<◌, ◌≤◌, length, IfOk};
 
 use crate::plain::Plain;
 use crate::questions::{Question, answer};
@@ -18,6 +18,7 @@ use reading::read_full;
 use std::fs::File;
 use std::io::Read;
 use std::{fmt, io};
+use tally::Tally;
 
 // An answer that is not the stored one.
 #[derive(Clone, Copy)]
@@ -27,6 +28,25 @@ struct Difference {
     question: Question,
     wanted: Option<Plain>,
     given: Option<Plain>,
+}
+
+impl Difference {
+    // None where the answer is the stored one.
+    fn of(
+        left: Plain,
+        right: Plain,
+        question: Question,
+        wanted: Option<Plain>,
+    ) -> Option<Difference> {
+        let given = answer(question, left, right);
+        (given != wanted).then_some(Difference {
+            left,
+            right,
+            question,
+            wanted,
+            given,
+        })
+    }
 }
 
 impl fmt::Display for Difference {
@@ -41,100 +61,68 @@ impl fmt::Display for Difference {
     }
 }
 
-// The answers that were compared, by whether they were as stored, and the first that was not; and whether the file is too short or too long.
+// The file has no type, more than there is room for, too few bytes or too many.
 #[derive(Clone, Copy)]
-struct Tally {
-    right: u64,
-    wrong: u64,
-    first: Option<Difference>,
-    broken: bool,
-}
+struct Broken;
 
-impl Tally {
-    fn count(&mut self, left: Plain, right: Plain, question: Question, wanted: Option<Plain>)
-        requires { self.old.right + self.old.wrong < 2 ^ 32 }
-        ensures { self.new.right + self.new.wrong ≡ self.old.right + self.old.wrong + 1 }
-    {
-        let given = answer(question, left, right);
-        if given == wanted {
-            self.right += 1;
-            return;
-        }
-        self.wrong += 1;
-        if self.first.is_none() {
-            self.first = Some(Difference {
-                left,
-                right,
-                question,
-                wanted,
-                given,
-            });
-        }
-    }
-}
-
-// The type that starts at `at`.
-fn plain_at(bytes: &[u8], at: usize) -> Plain
-    requires { at + 4 ≤ length bytes.now }
-{
-    Plain {
-        kind: bytes[at],
-        figure: bytes[at + 1],
-        scale: bytes[at + 2],
-        zone: bytes[at + 3],
-    }
-}
-
-fn answer_at(bytes: &[u8], at: usize) -> Option<Plain>
-    requires { at + 4 ≤ length bytes.now }
-{
-    let p = plain_at(bytes, at);
-    if p == Plain::default() { None } else { Some(p) }
+fn answer_of(bytes: [u8; 4]) -> Option<Plain> {
+    let p = Plain::from(bytes);
+    (p != Plain::default()).then_some(p)
 }
 
 // The answers to the three questions stand one after the other.
-fn run_pair<R: Read>(stored: &mut R, l: Plain, r: Plain, tally: &mut Tally)
-    requires { tally.old.right + tally.old.wrong < 2 ^ 31 }
-    ensures { tally.new.right + tally.new.wrong ≤ tally.old.right + tally.old.wrong + 3 }
+fn run_pair<R: Read>(
+    stored: &mut R,
+    l: Plain,
+    r: Plain,
+    tally: &mut Tally<Difference>,
+) -> Result<(), Broken>
+    requires { tally.old.runs < 2 ^ 31 }
+    ensures { tally.new.runs ≤ tally.old.runs + 3 }
 {
     let mut wanted = [0u8; 12];
     if read_full(stored, &mut wanted) < 12 {
-        tally.broken = true;
-        return;
+        return Err(Broken);
     }
-    tally.count(l, r, Question::List, answer_at(&wanted, 0));
-    tally.count(l, r, Question::Union, answer_at(&wanted, 4));
-    tally.count(l, r, Question::Compare, answer_at(&wanted, 8));
+    let (wanted, _) = wanted.as_chunks::<4>();
+    tally.count(Difference::of(l, r, Question::List, answer_of(wanted[0])));
+    tally.count(Difference::of(l, r, Question::Union, answer_of(wanted[1])));
+    tally.count(Difference::of(l, r, Question::Compare, answer_of(wanted[2])));
+    Ok(())
 }
 
-fn run_types<R: Read>(stored: &mut R, types: &[u8], tally: &mut Tally)
+fn run_types<R: Read>(
+    stored: &mut R,
+    types: &[u8],
+    tally: &mut Tally<Difference>,
+) -> Result<(), Broken>
     requires types_bound { length types.now ≤ 1024 }
-    requires tally_bound { tally.old.right + tally.old.wrong < 2 ^ 30 }
-    ensures { tally.new.right + tally.new.wrong < 2 ^ 31 }
+    requires tally_bound { tally.old.runs < 2 ^ 30 }
 {
-    for l in types.chunks_exact(4) {
-        for r in types.chunks_exact(4) {
-            run_pair(stored, plain_at(l, 0), plain_at(r, 0), tally);
+    let (types, _) = types.as_chunks::<4>();
+    for l in types {
+        for r in types {
+            run_pair(stored, Plain::from(*l), Plain::from(*r), tally)?;
         }
     }
+    Ok(())
 }
 
-// The types; none where the file has no type, more than there is room for, or too few bytes.
-fn read_types<'a, R: Read>(stored: &mut R, space: &'a mut [u8]) -> Option<&'a [u8]>
+fn read_types<'a, R: Read>(stored: &mut R, space: &'a mut [u8]) -> Result<&'a [u8], Broken>
     requires { length space.old ≡ 1024 }
-    ensures { IfSome result (λ types. length types.now ≤ 1024) }
+    ensures { IfOk result (λ types. length types.now ≤ 1024) }
 {
     let mut head = [0u8; 2];
     read_full(stored, &mut head);
     let count = usize::from(u16::from_le_bytes(head));
     if count == 0 || count > 256 {
-        return None;
+        return Err(Broken);
     }
     let types = &mut space[..count * 4];
     if read_full(stored, types) < types.len() {
-        return None;
+        return Err(Broken);
     }
-    Some(types)
+    Ok(types)
 }
 
 fn at_end<R: Read>(stored: &mut R) -> bool {
@@ -143,45 +131,31 @@ fn at_end<R: Read>(stored: &mut R) -> bool {
 }
 
 // There is room for 256 types.
-fn run<R: Read>(stored: &mut R) -> Tally
-    ensures { result.right + result.wrong < 2 ^ 32 }
+fn run<R: Read>(stored: &mut R, tally: &mut Tally<Difference>) -> Result<(), Broken>
+    requires { tally.old.runs ≡ 0 }
 {
-    let mut tally = Tally {
-        right: 0,
-        wrong: 0,
-        first: None,
-        broken: false,
-    };
+    // No heap, as in the crates that are run: fixed room, lent by the part that is filled.
     let mut space = [0u8; 1024];
-    match read_types(stored, &mut space) {
-        Some(types) => run_types(stored, types, &mut tally),
-        None => tally.broken = true,
-    }
-    if !at_end(stored) {
-        tally.broken = true;
-    }
-    tally
+    let types = read_types(stored, &mut space)?;
+    run_types(stored, types, tally)?;
+    if at_end(stored) { Ok(()) } else { Err(Broken) }
 }
 
-fn summary(rt: &impl Print, t: Tally) -> io::Result<()>
-    requires { t.right + t.wrong < 2 ^ 32 }
-{
-    let answers = t.right + t.wrong;
-    println!(rt;
-        "{answers} answers: {} as expected, {} not",
-        t.right, t.wrong
-    )?;
-    if let Some(first) = t.first {
+fn summary(rt: &impl Print, tally: &Tally<Difference>) -> io::Result<()> {
+    println!(rt; "{tally}")?;
+    if let Some((_, first)) = tally.first {
         println!(rt; "{first}")?;
-    }
-    if t.broken {
-        println!(rt; "the file has too few bytes or too many")?;
     }
     Ok(())
 }
 
 fn main(rt: HostRuntime) -> anyhow::Result<()> {
     let mut file = File::open(&rt, "plain").context("plain")?;
-    summary(&rt, run(&mut file))?;
+    let mut tally = Tally::new("answers");
+    let read = run(&mut file, &mut tally);
+    summary(&rt, &tally)?;
+    if read.is_err() {
+        println!(rt; "the file has too few bytes or too many")?;
+    }
     Ok(())
 }

@@ -14,7 +14,7 @@ use rules::strings::{binary_coercion, string_coercion};
 use rules::times::{temporal_coercion, timeunit_coercion};
 
 // Null may become every kind, 1 to 38.
-const FULL: u64 = 549755813886;
+const FULL: u64 = (1 << 39) - 2;
 
 #[tactic(auto, using(crate::proofs::Bytes::equal_back))]
 fn equal(l: Plain, r: Plain) -> Option<Plain>
@@ -30,6 +30,7 @@ fn numeric(l: Plain, r: Plain) -> Option<Plain>
     of_common(binary_numeric_coercion(l.into(), r.into()))
 }
 
+// No Option's `or`, as the zone is the file's number.
 fn either_zone(l: u8, r: u8) -> u8
     ensures { result ≡ cond (eqb l 0) r l }
 {

@@ -5,7 +5,8 @@ ghost use Rattle.plain_pairs.specs.Plain.{figures_of, timestamp_in, plain_figure
 use coercion::{Figures, Moment, Side};
 use std::fmt;
 
-// The zone is a number for a Timestamp's zone, 0 for none, or the size of a FixedSizeBinary.
+// The zone is a number for a Timestamp's zone, 0 for none, or the size of a FixedSizeBinary, as the file has it: which of them it is depends on the kind, so it
+// is no Option.
 #[derive(Clone, Copy, Default, PartialEq)]
 pub struct Plain {
     pub kind: u8,
@@ -22,6 +23,17 @@ impl From<Plain> for Figures {
             kind: p.kind,
             figure: p.figure,
             scale: p.scale,
+        }
+    }
+}
+
+impl From<[u8; 4]> for Plain {
+    fn from([kind, figure, scale, zone]: [u8; 4]) -> Plain {
+        Plain {
+            kind,
+            figure,
+            scale,
+            zone,
         }
     }
 }
@@ -60,6 +72,7 @@ pub fn timestamp(unit: u8, zone: u8) -> Plain
     }
 }
 
+// `buffers::plain` has the same for a Step. What is made differs in each arm, so that one function for both would take it arm by arm.
 pub fn of_common(c: Option<Figures>) -> Option<Plain>
     ensures { result ≡ of_figures c }
 {

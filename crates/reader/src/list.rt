@@ -34,7 +34,7 @@ fn list_kinds(sheet: &[u8], output: &mut [u8]) -> usize
     i
 }
 
-// Stores a byte where there is room.
+// Stores a byte where there is room. By a test: after a slice's `get_mut` a proof knows its length alone.
 fn put(output: &mut [u8], i: usize, b: u8)
     ensures { output.new ≡ set output.old i b }
 {

@@ -15,7 +15,7 @@ fn byte_at(s: &[u8], i: usize) -> usize
     s.get(i).map_or(0, |&b| usize::from(b))
 }
 
-// The header's number of records.
+// The header's number of records. Byte by byte, as a slice of one byte has a number too: `first_chunk` gives none there.
 fn records_of(s: &[u8]) -> usize
     ensures { (result ≡ records_of s.now) × (result < 65536) }
 {

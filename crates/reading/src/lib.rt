@@ -21,6 +21,7 @@ pub fn read_full<R: Read>(reader: &mut R, place: &mut [u8]) -> usize
     ensures bytes { Consumes (R.remaining reader.old) (R.remaining reader.new) (take result place.new) }
 {
     let mut got = 0;
+    // The step is what a read gave, which no iterator has; `read_exact` does not tell how many bytes there were.
     while got < place.len() {
         let n = read_some(reader, &mut place[got..]);
         if n == 0 {

@@ -52,7 +52,8 @@ impl Records<'_> {
         false
     }
 
-    // Whether a record has a kind outside 1 to 38. Four at a time, as one at a time takes the whole check up to 1.2 times as long (ten integers).
+    // Whether a record has a kind outside 1 to 38. Four at a time, as the bar is: not slower than the old form. One at a time takes the whole check up
+    // to 1.2 times as long (ten integers).
     pub(crate) fn odd_kind(&self) -> bool
         ensures { result ≡ any_from (λ r. not (is_kind (head_at self.now.sheet.now r).kind)) 1 (self.now.n - 1) }
     {

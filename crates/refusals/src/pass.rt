@@ -1,4 +1,5 @@
 // The tests of one record by the walk: by few numbers where these show that nothing is wrong, and else by every test of refusals 4 and 5.
+// A kind is the byte of a record: public functions take any byte, of which an enum of 38 kinds would ask more.
 ghost use Rattle.std.specs.Prelude.{◌≡◌, true, ℕ, ◌+◌, ◌%◌, ◌<◌, ◌≤◌, length, IfSome};
 ghost use Rattle.sheet.specs.Head.{head_from, by_quads};
 ghost use Rattle.sheet.specs.Bounds.{Bounded};
@@ -77,7 +78,8 @@ fn zone_labels(quad: usize, next: usize) -> Option<usize>
     None
 }
 
-// Goes past a record, by every test. The number `found` is the offset of the next label, with 2³² where a figure is wrong and 2³³ where a label is.
+// Goes past a record, by every test. The number `found` is the offset of the next label, with 2³² where a figure is wrong and 2³³ where a label is. Why it is
+// one number stands in walk.rt.
 fn pass_open(h: Head, up: u8, found: usize) -> usize
     requires { (found % 4294967296 < 1000000) × Bounded h }
     ensures { Passed h up found result }

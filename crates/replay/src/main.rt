@@ -7,15 +7,16 @@
 pub mod spaces;
 pub mod stored;
 
-ghost use Rattle.std.specs.Prelude.{◌≡◌, ◌+◌, ◌^◌, ◌<◌, ◌≤◌, length};
+ghost use Rattle.std.specs.Prelude.{◌≡◌, ◌≤◌, length};
 
 use crate::stored::{Broken, Question, Reply, Vector};
 use answers::Answer;
 use anyhow::Context;
 use reading::read_full;
-use std::fmt;
 use std::fs::File;
 use std::io::Read;
+use std::{fmt, io};
+use tally::Tally;
 
 // Room for a stored sheet, for its answer and for an output; a work space has twice as much.
 const ROOM: usize = 20000;
@@ -27,7 +28,7 @@ const GUARD: usize = 64;
 const MOST: u64 = 100000;
 
 // What a call answered, and whether it left the output and the work space as it should.
-#[derive(Clone, Copy, PartialEq)]
+#[derive(Clone, Copy)]
 struct Given {
     reply: Reply,
     output: bool,
@@ -47,10 +48,9 @@ impl fmt::Display for Given {
     }
 }
 
-// A call that went wrong, and how many were run before it.
+// A call that went wrong.
 #[derive(Clone, Copy)]
 struct Wrong {
-    at: u64,
     vector: Vector,
     given: Given,
 }
@@ -62,70 +62,11 @@ impl fmt::Display for Wrong {
             expected,
             ..
         } = self.vector;
-        write!(
-            f,
-            "{} {question}: expected {expected}, given {}",
-            self.at, self.given
-        )
+        write!(f, "{question}: expected {expected}, given {}", self.given)
     }
 }
 
-// The calls that were run, how many went wrong, and the first of those; and whether the file was read to its end.
-#[derive(Clone, Copy)]
-struct Tally {
-    calls: u64,
-    wrong: u64,
-    first: Option<Wrong>,
-    whole: bool,
-    ghost few: { wrong ≤ calls },
-}
-
-impl Tally {
-    // One call more. Only the first that goes wrong is kept.
-    fn count(&mut self, vector: Vector, given: Given)
-        requires { self.old.calls < 2 ^ 62 }
-        ensures { self.new.calls ≡ self.old.calls + 1 }
-    {
-        let at = self.calls;
-        self.calls += 1;
-        let right = Given {
-            reply: vector.expected,
-            output: true,
-            work: true,
-        };
-        if given != right {
-            self.wrong += 1;
-            if self.first.is_none() {
-                self.first = Some(Wrong { at, vector, given });
-            }
-        }
-    }
-
-    // The same, where the file was read to its end.
-    fn ended(mut self) -> Tally {
-        self.whole = true;
-        self
-    }
-}
-
-impl fmt::Display for Tally {
-    fn fmt<W: fmt::Write>(&self, f: &mut fmt::Formatter<W>) -> fmt::Result {
-        let right = self.calls - self.wrong;
-        write!(
-            f,
-            "{} vectors: {right} as expected, {} not",
-            self.calls, self.wrong
-        )?;
-        if let Some(first) = self.first {
-            write!(f, "\nfirst at {first}")?;
-        }
-        if !self.whole {
-            write!(f, "\nthe file of vectors was not read to its end")?;
-        }
-        Ok(())
-    }
-}
-
+// The question is read from the file, so it is told here which call runs.
 fn ask(v: Vector, sheet: &[u8], output: &mut [u8], work: &mut [u8]) -> Answer {
     match v.question {
         Question::List => answers::type_union_resolution(sheet, v.mask, output, work),
@@ -159,14 +100,14 @@ fn read<R: Read>(calls: &mut R, place: &mut [u8]) -> Result<(), Broken> {
 
 // Reads the sheet and the answer of a vector and runs it. The spaces have the lent bytes and those that guard them.
 fn run_vector<R: Read>(calls: &mut R, v: Vector) -> Result<Given, Broken> {
-    let answer_end = v.answer();
-    if v.sheet > ROOM || answer_end > ROOM || v.output > ROOM - GUARD || v.work > 2 * ROOM - GUARD {
+    if v.sheet > ROOM || v.answer > ROOM || v.output > ROOM - GUARD || v.work > 2 * ROOM - GUARD {
         return Err(Broken);
     }
+    // No heap, as in the crates that are run: fixed room, lent by the part that is filled.
     let mut sheet = [0u8; ROOM];
     let mut answer = [0u8; ROOM];
     let sheet = &mut sheet[..v.sheet];
-    let answer = &mut answer[..answer_end];
+    let answer = &mut answer[..v.answer];
     read(calls, sheet)?;
     read(calls, answer)?;
     let mut output = [0u8; ROOM];
@@ -186,25 +127,39 @@ fn turn<R: Read>(calls: &mut R) -> Result<Option<(Vector, Given)>, Broken> {
     }
 }
 
-fn run<R: Read>(calls: &mut R) -> Tally {
-    let mut tally = Tally {
-        calls: 0,
-        wrong: 0,
-        first: None,
-        whole: false,
-    };
+// Whether a call gave all that its vector has, the length of the answer also where no type is expected.
+fn agree(v: Vector, g: Given) -> bool {
+    g.reply == v.expected && g.reply.length() == v.answer && g.output && g.work
+}
+
+// Runs the vectors and counts them.
+fn run<R: Read>(calls: &mut R, tally: &mut Tally<Wrong>) -> Result<(), Broken>
+    requires { tally.old.runs ≡ 0 }
+{
     for _ in 0..MOST {
-        match turn(calls) {
-            Ok(Some((vector, given))) => tally.count(vector, given),
-            Ok(None) => return tally.ended(),
-            Err(Broken) => return tally,
-        }
+        let Some((vector, given)) = turn(calls)? else {
+            return Ok(());
+        };
+        tally.count((!agree(vector, given)).then_some(Wrong { vector, given }));
     }
-    tally
+    Err(Broken)
+}
+
+fn summary(rt: &impl Print, tally: &Tally<Wrong>) -> io::Result<()> {
+    println!(rt; "{tally}")?;
+    if let Some((at, wrong)) = tally.first {
+        println!(rt; "first at {at} {wrong}")?;
+    }
+    Ok(())
 }
 
 fn main(rt: HostRuntime) -> anyhow::Result<()> {
     let mut file = File::open(&rt, "calls.bin").context("calls.bin")?;
-    println!(rt; "{}", run(&mut file))?;
+    let mut tally = Tally::new("vectors");
+    let read = run(&mut file, &mut tally);
+    summary(&rt, &tally)?;
+    if read.is_err() {
+        println!(rt; "the file of vectors was not read to its end")?;
+    }
     Ok(())
 }

@@ -1,6 +1,6 @@
 // The stored calls, as oracle/vectors/README.md has their form.
 ghost use Rattle.std.specs.Prelude.{◌≡◌, ◌+◌, ◌≤◌, take, drop};
-ghost use Rattle.replay.specs.Stored.{question_in, expected_in, number_at, entry_in};
+ghost use Rattle.replay.specs.Stored.{question_in, length_in, expected_in, number_at, entry_in};
 
 pub use buffers::Question;
 use std::fmt;
@@ -28,6 +28,18 @@ fn question_of(n: u8) -> Result<Question, Broken>
 #[derive(Clone, Copy, PartialEq)]
 pub struct Reply(pub Result<Option<usize>, u8>);
 
+impl Reply {
+    // The byte length of a type's sheet, 0 where there is no type.
+    pub fn length(&self) -> usize
+        ensures { result ≡ length_in self.now.0 }
+    {
+        match self.0 {
+            Ok(Some(length)) => length,
+            _ => 0,
+        }
+    }
+}
+
 // By the numbers of the file.
 impl fmt::Display for Reply {
     fn fmt<W: fmt::Write>(&self, f: &mut fmt::Formatter<W>) -> fmt::Result {
@@ -39,7 +51,8 @@ impl fmt::Display for Reply {
     }
 }
 
-// A stored call without its bytes: its question, the answer that is expected, lengths and the mask.
+// A stored call without its bytes: its question, the answer that is expected, lengths and the mask. The length of the stored answer stands beside what is
+// expected, as the file has it for each call: a call that expects no type is wrong where it is not 0.
 #[derive(Clone, Copy)]
 pub struct Vector {
     pub question: Question,
@@ -47,17 +60,8 @@ pub struct Vector {
     pub output: usize,
     pub work: usize,
     pub sheet: usize,
+    pub answer: usize,
     pub mask: u64,
-}
-
-impl Vector {
-    // The length of the answer that is stored behind the sheet.
-    pub fn answer(&self) -> usize {
-        match self.expected.0 {
-            Ok(Some(length)) => length,
-            _ => 0,
-        }
-    }
 }
 
 // The N bytes from `at`.
@@ -78,15 +82,14 @@ fn number_at(head: &[u8; 32], at: usize) -> usize
     u32::from_le_bytes(bytes(head, at)) as usize
 }
 
-// The answer that a number and the length of an answer stand for. Only a type has one.
-fn expected_of(number: u8, length: usize) -> Result<Reply, Broken>
+// The answer that a number stands for, with the length of the stored answer where it is a type.
+fn expected_of(number: u8, length: usize) -> Reply
     ensures { result ≡ expected_in number length }
 {
-    match (number, length) {
-        (TYPE, _) => Ok(Reply(Ok(Some(length)))),
-        (0, 0) => Ok(Reply(Ok(None))),
-        (_, 0) => Ok(Reply(Err(number))),
-        _ => Err(Broken),
+    match number {
+        TYPE => Reply(Ok(Some(length))),
+        0 => Reply(Ok(None)),
+        _ => Reply(Err(number)),
     }
 }
 
@@ -102,10 +105,11 @@ pub fn entry_of(head: &[u8; 32], got: usize) -> Result<Option<Vector>, Broken>
     }
     Ok(Some(Vector {
         question: question_of(head[0])?,
-        expected: expected_of(head[1], number_at(head, 24))?,
+        expected: expected_of(head[1], number_at(head, 24)),
         output: number_at(head, 4),
         work: number_at(head, 8),
         sheet: number_at(head, 12),
+        answer: number_at(head, 24),
         mask: u64::from_le_bytes(bytes(head, 16)),
     }))
 }

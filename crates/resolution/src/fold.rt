@@ -32,7 +32,8 @@ impl<'a> Resolver<'a> {
         }
     }
 
-    // The common type, in a list, of the type at a link and the candidate that ends at d, of which it is known where they differ; it takes the candidate's place.
+    // The common type, in a list, of the type at a link and the candidate that ends at d, of which it is known where they differ; it takes the candidate's
+    // place.
     fn step(&self, work: &mut [u8], known: usize, at: usize, d: Spot) -> Out
         requires room { Room work.old self.now.space × Inside self.now.space d }
         requires compared { Compared (Some known) true self.now.space (Candidate self.now.space work.old d) self.now.sheet.now at }

@@ -26,14 +26,7 @@ impl Resolver<'_> {
         requires { Room work.old self.now.space × (x.size < 4294967296) }
         ensures { Fronted self.now.space work.old work.new x result }
     {
-        let shape = Shape {
-            kind: x.kind,
-            figure: x.figure,
-            scale: x.scale,
-            size: x.size,
-            sorted: false,
-        };
-        lay(work, self.space, UNNAMED, shape, 0);
+        lay(work, self.space, UNNAMED, Shape::from(x), 0);
         Spot { at: 2, label: 0 }
     }
 

@@ -10,7 +10,8 @@ use rules::category::{core_kind, is_mixed, is_supported, with_category};
 use sheet::record::head_at;
 
 impl Resolver<'_> {
-    // The bits of the categories of the types at a link; all bits where a type has no category.
+    // The bits of the categories of the types at a link; all bits where a type has no category. More than one bit means no answer, a form of document 01, so no
+    // Option is needed.
     fn categories(&self, link: usize) -> u8
         ensures { (ts : Fields) → Listed self.now.space self.now.sheet.now 0 link ts → result ≡ seen_bits 0 (types_of ts) }
     {

@@ -1,5 +1,6 @@
 // The category of a type, and the categories seen in a list as bits.
-ghost use Rattle.std.specs.Prelude.{◌≡◌, ◌||◌, ℕ, ◌<◌, eqb, ltb, IfSome, MatchOption};
+// A kind is the byte of a record: public functions take any byte, of which an enum of 38 kinds would ask more.
+ghost use Rattle.std.specs.Prelude.{◌≡◌, ℕ, ◌<◌, ltb, IfSome, MatchOption};
 ghost use Rattle.std.specs.Int.Bits.{bit_or};
 ghost use Rattle.std.specs.Int.Count.{ones};
 ghost use Rattle.sheet.specs.Types.{Fields};
@@ -8,7 +9,7 @@ ghost use Rattle.coercion.specs.Answers.{own_category};
 ghost use Rattle.coercion.specs.Meaning.{category_bit, is_supported, value_category};
 ghost use Rattle.rules.specs.Wrapped.{Found};
 
-use kinds::tests::is_string;
+use kinds::tests::{is_string, is_wrapper};
 use sheet::record::head_at;
 
 // The bit of the category of a kind that is no wrapper.
@@ -46,12 +47,6 @@ pub fn is_mixed(bits: u8) -> bool
     ensures { result ≡ ltb 1 (ones bits) }
 {
     1 < u8::count_ones(bits)
-}
-
-fn is_wrapper(k: u8) -> bool
-    ensures { result ≡ (eqb k 37 || eqb k 38) }
-{
-    k == 37 || k == 38
 }
 
 // The record of the value of a wrapper at record r, its second part, whose first part is at a link. None where there is no such record behind r.

@@ -1,4 +1,5 @@
 // Null and string rules, whose answer is one of the two types.
+// A kind is the byte of a record: public functions take any byte, of which an enum of 38 kinds would ask more.
 ghost use Rattle.std.specs.Prelude.{◌≡◌, ◌<◌, Some};
 ghost use Rattle.coercion.specs.Data.{DataType, may_become};
 ghost use Rattle.coercion.specs.Rules.{null_coercion, string_numeric_coercion, string_numeric_union_coercion, string_temporal_coercion};
@@ -74,6 +75,7 @@ fn time_of_string(k: u8, unit: u8) -> Option<Moment>
     }
 }
 
+// Arm by arm: with a Moment of a Side and a flag each place that makes or reads one would be longer.
 fn swapped(m: Moment) -> Moment
     ensures { (l r : DataType) → moment_of (Some result) l r ≡ moment_of (Some m) r l }
 {
@@ -85,7 +87,7 @@ fn swapped(m: Moment) -> Moment
     }
 }
 
-// `string_temporal_coercion`, of two kinds and their units.
+// `string_temporal_coercion`, of two kinds and their units: Figures would have a scale that no rule here reads.
 #[tactic(auto, using(crate::proofs::Moments::right_string, crate::proofs::Moments::no_string))]
 pub fn string_temporal_coercion(k: u8, u: u8, j: u8, v: u8) -> Option<Moment>
     ensures { (l r : DataType) → l.shape.kind ≡ k → l.shape.figure ≡ u → r.shape.kind ≡ j → r.shape.figure ≡ v → moment_of result l r ≡ string_temporal_coercion l r }

@@ -1,4 +1,5 @@
 // Strings and binary.
+// A kind is the byte of a record: public functions take any byte, of which an enum of 38 kinds would ask more.
 ghost use Rattle.std.specs.Prelude.{◌≡◌};
 ghost use Rattle.coercion.specs.Strings.{string_coercion, binary_coercion};
 ghost use Rattle.rules.specs.Ordered.{ordered_binary};
@@ -10,11 +11,7 @@ use kinds::tests::is_string;
 pub fn string_coercion(k: u8, j: u8) -> Option<u8>
     ensures { result ≡ string_coercion k j }
 {
-    if is_string(k) && is_string(j) {
-        Some(k.max(j))
-    } else {
-        None
-    }
+    (is_string(k) && is_string(j)).then_some(k.max(j))
 }
 
 // The rules of `binary_coercion` for two kinds in one order: Binary, LargeBinary or BinaryView with a string, a binary or a FixedSizeBinary.

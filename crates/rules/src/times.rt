@@ -1,4 +1,5 @@
 // Units and times.
+// A kind is the byte of a record: public functions take any byte, of which an enum of 38 kinds would ask more.
 ghost use Rattle.std.specs.Prelude.{◌≡◌};
 ghost use Rattle.coercion.specs.Times.{timeunit_coercion, temporal_coercion, is_time_with_valid_unit};
 ghost use Rattle.rules.specs.Ordered.{ordered_temporal};

@@ -2,8 +2,8 @@
 ghost use Rattle.std.specs.Prelude.{◌≡◌, Bool, not, ◌-◌, ◌≤◌, length, take, drop};
 ghost use Rattle.rules.specs.Zones.{side, part_of, choice};
 
-// Where a zone stands: whether it is present, where it begins and where it ends. A present one may be empty. `present` stands beside the place and in no
-// Option, as the right's place is the answer where neither side has a zone.
+// Where a zone stands: whether it is present, where it begins and where it ends. A present one may be empty. `present` is read of the left alone; as an Option
+// the left's place would be told apart from the right's, which is the answer where neither has a zone.
 #[derive(Clone, Copy)]
 pub struct Place {
     pub present: bool,
@@ -12,7 +12,7 @@ pub struct Place {
 }
 
 // The left's zone if it has one, else the right's, as a part of the slice that it stands in. The left stands in the candidate where swap is set, and
-// else in the sheet; the right stands in the other.
+// else in the sheet; the right stands in the other. It is a part of one of two slices, a form of document 01.
 pub fn zone_coercion<'a>(
     sheet: &'a [u8],
     candidate: &'a [u8],

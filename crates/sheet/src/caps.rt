@@ -1,4 +1,5 @@
 // The four widths of a decimal and their precision caps.
+// A kind is the byte of a record: public functions take any byte, of which an enum of 38 kinds would ask more.
 ghost use Rattle.std.specs.Prelude.{◌≡◌, ◌≤◌};
 ghost use Rattle.sheet.specs.Kind.{cap};
 ghost use Rattle.sheet.specs.Caps.{cap_of, width_of};

@@ -1,4 +1,5 @@
 // What a record says by itself: its kind, its figures, its number of parts and the places of its labels.
+// A kind is the byte of a record: public functions take any byte, of which an enum of 38 kinds would ask more.
 #![tactic(auto, using(std::proofs::lemmas::Bool::Decides::nat_tests), unfolding(crate::specs::Tests::between, crate::specs::Tests::all_of, crate::specs::Kind::is_kind, crate::specs::Kind::is_decimal, crate::specs::Kind::names_parts, crate::specs::Kind::parts_right, crate::specs::Kind::last_unit, crate::specs::Kind::sized, crate::specs::Refusals::decimal_right, crate::specs::Refusals::figure_right, crate::specs::Refusals::size_right, crate::specs::Refusals::figures_right, crate::specs::Refusals::record_right, crate::specs::Refusals::label_right))]
 
 ghost use Rattle.std.specs.Prelude.{◌≡◌, ◌<◌, ◌≤◌, cond};
@@ -103,14 +104,15 @@ fn figures_right(k: u8, figure: u8, scale: u8, size: usize, sorted: bool, zoned:
         && (!zoned || k == 22)
 }
 
-// The size that bytes 4 to 7 hold, 0 where they hold the place of a zone.
+// The size that bytes 4 to 7 hold; 0 where they hold the place of a zone, as a Timestamp has no size.
 pub fn size_in(zoned: bool, quad: usize) -> usize
     ensures { result ≡ cond zoned 0 quad }
 {
     if zoned { 0 } else { quad }
 }
 
-// Whether a record that is a part of one of kind up has nothing of refusal 4. `&` leaves no branch on bits that change from record to record: with `&&` mixed records took 9.3 ns each in place of 4.9.
+// Whether a record that is a part of one of kind up has nothing of refusal 4. `&` leaves no branch on bits that change from record to record. The bar is: not
+// slower than the old form. With `&&` mixed records took 9.3 ns each in place of 4.9.
 pub fn record_right(h: Head, up: u8) -> bool
     ensures { result ≡ record_right h up }
 {
@@ -137,7 +139,7 @@ pub fn label_right(h: Head, up: u8, o: usize) -> bool
 {
     is_placed(o, h.name, h.nlen)
         && (h.nlen == 0 || names_parts(up))
-        && (!h.zoned() || is_placed(o + h.nlen, h.quad % 65536, h.quad / 65536 % 256))
+        && (!h.zoned() || is_placed(o + h.nlen, h.zone_at(), h.zone_len()))
 }
 
 // How many label bytes a record has.
@@ -145,5 +147,5 @@ pub fn label_bytes(h: Head) -> usize
     requires { Bounded h }
     ensures { (result ≡ labelled h) × (result ≤ 510) }
 {
-    h.nlen + if h.zoned() { h.quad / 65536 % 256 } else { 0 }
+    h.nlen + if h.zoned() { h.zone_len() } else { 0 }
 }

@@ -1,8 +1,8 @@
 // The sheet of document 01: its records, figures and labels, and how they are read.
 #![tactic(auto)]
 
-ghost use Rattle.std.specs.Prelude.{◌≡◌};
-ghost use Rattle.sheet.specs.Head.{nullable_in, sorted_in, zoned_in};
+ghost use Rattle.std.specs.Prelude.{◌≡◌, ◌<◌};
+ghost use Rattle.sheet.specs.Head.{nullable_in, sorted_in, zoned_in, zone_at, zone_len};
 ghost use Rattle.sheet.specs.Refusals.{number_of};
 
 pub mod caps;
@@ -10,6 +10,8 @@ pub mod figure;
 pub mod label;
 pub mod record;
 
+// What its numbers fit in says `Bounded`, and no ghost field, as a struct with one takes no `..h`; with u16 and u32 for them each use as a place would be a
+// conversion.
 #[derive(Clone, Copy, Default)]
 pub struct Head {
     pub kind: u8,
@@ -44,6 +46,20 @@ impl Head {
         ensures { result ≡ zoned_in self.now }
     {
         self.flags / 4 % 2 == 1
+    }
+
+    // Where a zone begins among the labels: bytes 4 and 5.
+    pub fn zone_at(&self) -> usize
+        ensures { (result ≡ zone_at self.now) × (result < 65536) }
+    {
+        self.quad % 65536
+    }
+
+    // How long it is: byte 6.
+    pub fn zone_len(&self) -> usize
+        ensures { (result ≡ zone_len self.now) × (result < 256) }
+    {
+        self.quad / 65536 % 256
     }
 }
 

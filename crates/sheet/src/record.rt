@@ -5,7 +5,8 @@ ghost use Rattle.sheet.specs.Bounds.{Bounded};
 
 use crate::Head;
 
-// Two bytes, the lower first.
+// Two bytes, the lower first. `word_at`, `quad_at` and `eight_at` are three functions, as `from_le_bytes` belongs to each number's type: over a const parameter
+// they would give bytes and not the number.
 pub fn word_at(s: &[u8], i: usize) -> usize
     requires { i + 1 < length s.now }
     ensures { (result ≡ word s.now i) × (result < 65536) }

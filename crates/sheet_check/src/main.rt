@@ -5,16 +5,19 @@
 // A file that cannot be opened, or a write that fails, ends the program with its error.
 #![tactic(auto)]
 
-ghost use Rattle.std.specs.Prelude.{◌≡◌, ◌+◌, ◌^◌, ◌<◌, ◌≤◌};
+ghost use Rattle.std.specs.Prelude.{◌≡◌};
 
 use anyhow::Context;
 use reading::read_full;
+use sheet::record::{quad_at, word_at};
 use sheet::{Refusal, Sizes};
 use std::fs::File;
 use std::io::Read;
 use std::{fmt, io};
+use tally::Tally;
 
-// A refusal number, or 0 with the n and m of an accepted sheet, as an entry has them.
+// A refusal number, or 0 with the n and m of an accepted sheet, as an entry has them. All three are compared: a Result would drop the n and m of an entry that
+// expects a refusal.
 #[derive(Clone, Copy, PartialEq)]
 struct Verdict {
     number: u8,
@@ -45,58 +48,16 @@ impl fmt::Display for Verdict {
 #[derive(Clone, Copy)]
 struct CutShort;
 
-// A sheet that was answered otherwise than expected, by its place in the file.
+// A sheet that was answered otherwise than expected.
 #[derive(Clone, Copy)]
 struct Wrong {
-    at: u64,
     wanted: Verdict,
     given: Verdict,
 }
 
 impl fmt::Display for Wrong {
     fn fmt<W: fmt::Write>(&self, f: &mut fmt::Formatter<W>) -> fmt::Result {
-        write!(
-            f,
-            "first at {}: expected {}, given {}",
-            self.at, self.wanted, self.given
-        )
-    }
-}
-
-// The sheets that were run, how many went wrong, and the first of those.
-#[derive(Clone, Copy)]
-struct Tally {
-    sheets: u64,
-    wrong: u64,
-    first: Option<Wrong>,
-    ghost part: { wrong ≤ sheets },
-}
-
-impl Tally {
-    fn new() -> Tally
-        ensures { result.sheets ≡ 0 }
-    {
-        Tally {
-            sheets: 0,
-            wrong: 0,
-            first: None,
-        }
-    }
-
-    // One sheet more. Only the first that goes wrong is kept.
-    fn count(&mut self, wanted: Verdict, given: Verdict)
-        requires { self.old.sheets < 2 ^ 62 }
-        ensures { self.new.sheets ≡ self.old.sheets + 1 }
-    {
-        let at = self.sheets;
-        self.sheets += 1;
-        if wanted == given {
-            return;
-        }
-        self.wrong += 1;
-        if self.first.is_none() {
-            self.first = Some(Wrong { at, wanted, given });
-        }
+        write!(f, "expected {}, given {}", self.wanted, self.given)
     }
 }
 
@@ -112,11 +73,10 @@ fn next_entry<R: Read>(stored: &mut R) -> Result<Option<(Verdict, usize)>, CutSh
     }
     let wanted = Verdict {
         number: head[0],
-        n: usize::from(u16::from_le_bytes([head[2], head[3]])),
-        m: usize::from(u16::from_le_bytes([head[4], head[5]])),
+        n: word_at(&head, 2),
+        m: word_at(&head, 4),
     };
-    let length = u32::from_le_bytes([head[8], head[9], head[10], head[11]]);
-    Ok(Some((wanted, length as usize)))
+    Ok(Some((wanted, quad_at(&head, 8))))
 }
 
 // What the next sheet should answer and what it does. None at the end of the file. The space holds more than the longest sheet that can be accepted,
@@ -125,6 +85,7 @@ fn next_turn<R: Read>(stored: &mut R) -> Result<Option<(Verdict, Verdict)>, CutS
     let Some((wanted, length)) = next_entry(stored)? else {
         return Ok(None);
     };
+    // No heap, as in the crates that are run: fixed room, lent by the part that is filled.
     let mut space = [0u8; 40000];
     if space.len() < length {
         return Err(CutShort);
@@ -137,36 +98,31 @@ fn next_turn<R: Read>(stored: &mut R) -> Result<Option<(Verdict, Verdict)>, CutS
 }
 
 // Runs the sheets and counts them.
-fn run<R: Read>(stored: &mut R, t: &mut Tally) -> Result<(), CutShort>
-    requires { t.old.sheets ≡ 0 }
+fn run<R: Read>(stored: &mut R, tally: &mut Tally<Wrong>) -> Result<(), CutShort>
+    requires { tally.old.runs ≡ 0 }
 {
     for _ in 0..100000u64 {
         let Some((wanted, given)) = next_turn(stored)? else {
             return Ok(());
         };
-        t.count(wanted, given);
+        tally.count((given != wanted).then_some(Wrong { wanted, given }));
     }
     Err(CutShort)
 }
 
-fn summary(rt: &impl Print, t: &Tally) -> io::Result<()> {
-    println!(rt;
-        "{} sheets: {} as expected, {} not",
-        t.sheets,
-        t.sheets - t.wrong,
-        t.wrong
-    )?;
-    if let Some(wrong) = t.first {
-        println!(rt; "{wrong}")?;
+fn summary(rt: &impl Print, tally: &Tally<Wrong>) -> io::Result<()> {
+    println!(rt; "{tally}")?;
+    if let Some((at, wrong)) = tally.first {
+        println!(rt; "first at {at}: {wrong}")?;
     }
     Ok(())
 }
 
 fn main(rt: HostRuntime) -> anyhow::Result<()> {
     let mut file = File::open(&rt, "sheets").context("sheets")?;
-    let mut t = Tally::new();
-    let read = run(&mut file, &mut t);
-    summary(&rt, &t)?;
+    let mut tally = Tally::new("sheets");
+    let read = run(&mut file, &mut tally);
+    summary(&rt, &tally)?;
     if read.is_err() {
         println!(rt; "the file of sheets was not read to its end")?;
     }

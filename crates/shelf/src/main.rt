@@ -56,6 +56,7 @@ fn print_answer<F: Fn(&[u8], u64, &mut [u8], &mut [u8]) -> Answer>(
 ) -> io::Result<()>
     requires { F.IsAlwaysCallable call }
 {
+    // No heap, as in the crates that are run: fixed room, lent by the part that is filled.
     let mut output = [0u8; MOST];
     let mut work = [0u8; 2 * MOST];
     match call(sheet, MASK, &mut output, &mut work) {

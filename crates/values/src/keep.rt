@@ -14,7 +14,8 @@ use rules::times::timeunit_coercion;
 use sheet::Head;
 use sheet::record::head_at;
 
-// The record of the core of the type of record r. A link is followed only upward.
+// The record of the core of the type of record r. A link is followed only upward. Other walks to a core end otherwise: those of `rules` and `wrappers` give its
+// kind, 0 where there is none, and the last reads either buffer and counts the records that may be left.
 fn core_at(s: &[u8], space: Space, r: usize) -> usize
     ensures { CoreAt space s.now r result }
 {
@@ -37,10 +38,7 @@ fn core_at(s: &[u8], space: Space, r: usize) -> usize
 pub fn core_of(second: &[u8], space: Space, core: Option<usize>) -> usize
     ensures { CoreIf space second.now core → CoreAt space second.now 1 result }
 {
-    match core {
-        Some(at) => at,
-        None => core_at(second, space, 1),
-    }
+    core.unwrap_or_else(|| core_at(second, space, 1))
 }
 
 // Whether the common type of two types without parts, in a list, is a third.
@@ -55,15 +53,12 @@ fn is_common(mask: u64, x: Leaf, y: Leaf, z: Leaf) -> bool
 fn stays_zoned(x: Head, y: Head) -> bool
     ensures { result ≡ stays_zoned x y }
 {
-    x.kind == 22
-        && x.flags / 4 % 2 == 1
-        && y.kind == 22
-        && timeunit_coercion(x.figure, y.figure) == x.figure
+    x.kind == 22 && x.zoned() && y.kind == 22 && timeunit_coercion(x.figure, y.figure) == x.figure
 }
 
 // Whether the candidate at record 1 of the second half, whose core is at a record, stays as it is under the type at a link of the sheet. Below a wrapper the
 // core goes left, and a Dictionary of Utf8View gives way to Utf8View. Nothing is said of other types with parts, zone or order. A struct of what this and
-// `is_core_alone` take would be made anew at each of the two calls, as the second half changes in between.
+// `is_core_alone` take would be made anew at each of the two calls, as the work space is lent to `step_list` in between.
 pub fn keeps(sheet: &[u8], second: &[u8], space: Space, mask: u64, link: usize, core: usize) -> bool
     ensures { result ≡ true → CoreAt space second.now 1 core → (x c : DataType) → Typed space sheet.now link x → Typed space second.now 1 c → coercion (rules_of Question.List mask) x c ≡ Some c }
 {

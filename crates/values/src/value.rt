@@ -1,16 +1,16 @@
 // Types without parts, zone or order, by value.
-ghost use Rattle.std.specs.Prelude.{◌≡◌, ◌<◌, Some};
+ghost use Rattle.std.specs.Prelude.{◌≡◌, ◌<◌, Some, false};
 ghost use Rattle.sheet.specs.Bounds.{Bounded};
 ghost use Rattle.coercion.specs.Answers.{coercion};
 ghost use Rattle.buffers.specs.Plain.{rules_of};
 ghost use Rattle.values.specs.Value.{is_plain, leaf_of, figures_in, Says, Joins};
 
 use buffers::plain::plain_step;
-use buffers::{Question, Step};
+use buffers::{Question, Shape, Step};
 use coercion::Figures;
 use sheet::Head;
 
-// A type without parts, zone or order.
+// A type without parts, zone or order: Figures with a size. With Figures as a field each use of a kind or figure would name it.
 #[derive(Clone, Copy, PartialEq)]
 pub struct Leaf {
     pub kind: u8,
@@ -31,6 +31,34 @@ impl From<Leaf> for Figures {
     }
 }
 
+// Of a type that has no size.
+impl From<Figures> for Leaf {
+    ghost from_gives = { λ f x. x ≡ record { kind = f.kind; figure = f.figure; scale = f.scale; size = 0 } };
+
+    fn from(f: Figures) -> Leaf {
+        Leaf {
+            kind: f.kind,
+            figure: f.figure,
+            scale: f.scale,
+            size: 0,
+        }
+    }
+}
+
+impl From<Leaf> for Shape {
+    ghost from_gives = { λ x s. s ≡ record { kind = x.kind; figure = x.figure; scale = x.scale; size = x.size; sorted = false } };
+
+    fn from(x: Leaf) -> Shape {
+        Shape {
+            kind: x.kind,
+            figure: x.figure,
+            scale: x.scale,
+            size: x.size,
+            sorted: false,
+        }
+    }
+}
+
 // Whether a head is that of such a type. The lowest flag is the field's: whether it is nullable.
 pub fn is_plain(h: Head) -> bool
     ensures { result ≡ is_plain h }
@@ -38,7 +66,7 @@ pub fn is_plain(h: Head) -> bool
     h.kind < 32 && h.flags < 2
 }
 
-// The type of such a head.
+// The type of such a head. No From, as it asks that the head is bounded.
 pub fn leaf_of(h: Head) -> Leaf
     requires { Bounded h }
     ensures { (result ≡ leaf_of h) × (result.size < 4294967296) }
@@ -51,24 +79,15 @@ pub fn leaf_of(h: Head) -> Leaf
     }
 }
 
-// The type that a step says of two such types. As neither has a zone, a Timestamp has none.
+// The type that a step says of two such types. As neither has a zone, a Timestamp has none. A step is a value and no closure, as `lays_view` asks which one it
+// is, and it is laid or valued.
 fn said_by(step: Step, x: Leaf, y: Leaf) -> Leaf
     requires { (x.size < 4294967296) × (y.size < 4294967296) }
     ensures { Says (Some step) x y (Some result) }
 {
     match step {
-        Step::Lay(f) => Leaf {
-            kind: f.kind,
-            figure: f.figure,
-            scale: f.scale,
-            size: 0,
-        },
-        Step::Stamp(unit) => Leaf {
-            kind: 22,
-            figure: unit,
-            scale: 0,
-            size: 0,
-        },
+        Step::Lay(f) => Leaf::from(f),
+        Step::Stamp(unit) => Leaf::from(Figures::of_unit(22, unit)),
         Step::Left => x,
         Step::Right => y,
     }

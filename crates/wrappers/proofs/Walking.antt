@@ -16,7 +16,8 @@ use Rattle.buffers.specs.declared.Space.{Space}
 use Rattle.buffers.proofs.Steps.{kind_low, reads_figured}
 use Rattle.buffers.proofs.Fielding.{typed_reads}
 use Rattle.wrappers.specs.Ways.{is_wrapper, wrappers_of, core_kind, allows, meets, may_merge, hint_of, wrappers_may, Hint, without}
-use Rattle.std.specs.Prelude.{Option, None, IfSome}
+use Rattle.std.specs.Prelude.{Option, None, IfSome, unwrap_or}
+use Rattle.std.specs.Bool.{then_some}
 use Rattle.wrappers.specs.Walks.{Core, Tells, TellsBoth, Learns, way_of, kind_in, hint_in, Way}
 use Rattle.wrappers.specs.declared.walk.Turn.{Turn}
 use Rattle.wrappers.proofs.Cores.{wrapper_is, one_of_two, bare_wrappers, bare_core, wrap_wrappers, wrap_core}
@@ -164,11 +165,12 @@ module _ (mask left : ℕ) (swap : Bool) (s w : List ℕ) (l r : ℕ) where
         told : may_merge mask x y ≡ b
         told = may_hint mask x y ∙ ap (λ (i : ℕ). wrappers_may i mask x y) (sym cores) ∙ sym (c.is space x y a d q)
 
-      pub learns_found : b ≡ true → Learns hint mask (left + 1) swap s w l r h
-      learns_found e = record { is = λ space x y a d q f. rw (told a d q ∙ e) (cores a d q) }
+      learns_if : (z : Bool) → b ≡ z → Learns hint mask (left + 1) swap s w l r (unwrap_or (then_some z h) 0)
+      learns_if true e = record { is = λ space x y a d q f. rw (told a d q ∙ e) (cores a d q) }
+      learns_if false e = record { is = λ space x y a d q f. rw (told a d q ∙ e) refl }
 
-      pub learns_none : b ≡ false → Learns hint mask (left + 1) swap s w l r 0
-      learns_none e = record { is = λ space x y a d q f. rw (told a d q ∙ e) refl }
+      pub learns_told : {o : Option ℕ} → o ≡ then_some b h → Learns hint mask (left + 1) swap s w l r (unwrap_or o 0)
+      learns_told e = rw e (learns_if b refl)
 
 -- what is known below a wrapper of one kind, on either side or on both
 module _ (hint mask left : ℕ) (swap : Bool) (s w : List ℕ) (l r : ℕ) {k j : ℕ} (ek : k ≡ (head_at (side swap s w) l).kind) (ej : j ≡ (head_at (side (not swap) s w) r).kind) where

@@ -1,14 +1,16 @@
 // Walks down the wrappers of two types in lent buffers. Each is handed the number of records that may be left, which falls with each wrapper that comes off.
-ghost use Rattle.std.specs.Prelude.{◌≡◌, true, not, cond, ◌+◌, ◌<◌, unwrap_or, IfSome, eqb, ◌&&◌};
+// A kind is the byte of a record: public functions take any byte, of which an enum of 38 kinds would ask more.
+ghost use Rattle.std.specs.Prelude.{◌≡◌, true, not, cond, ◌+◌, ◌<◌, unwrap_or, IfSome};
 ghost use Rattle.buffers.specs.Writes.{side};
-ghost use Rattle.wrappers.specs.Ways.{is_wrapper, wrappers_of, allows, meets, hint_of, wrappers_may};
+ghost use Rattle.wrappers.specs.Ways.{wrappers_of, allows, meets, hint_of, wrappers_may};
 ghost use Rattle.wrappers.specs.Walks.{Core, Tells, TellsBoth, Learns, Way};
 
 use buffers::write::{kind_at, value_at};
-use kinds::tests::one_is;
+use kinds::tests::{is_wrapper, one_is};
 use rules::sides::may_become;
 
-// The sources of two types, the left in the work space where swap is set, and the kinds that Null may become.
+// The sources of two types, the left in the work space where swap is set, and the kinds that Null may become. `partners::Rows` has the sizes and a table in
+// place of the mask: a struct of the three fields that they share would be one more step in every use.
 #[derive(Clone, Copy)]
 struct Walk<'a> {
     sheet: &'a [u8],
@@ -18,36 +20,25 @@ struct Walk<'a> {
 }
 
 // The wrapper whose rule is asked of two types, and what is known of the types that the rule goes on with.
-// That is a number, as callers hand on any: 0 nothing, and else what the cores leave to be asked (`hint_of` of specs/Ways.antt).
+// The hint is a number, 0 for nothing and else by `hint_of` of specs/Ways.antt: `way` is public and takes any, and an enum would ask more of callers.
 #[derive(Clone, Copy)]
 pub struct Turn {
     pub kind: u8,
     pub hint: u8,
 }
 
-fn is_wrapper(k: u8) -> bool
-    ensures { result ≡ is_wrapper k }
-{
-    k == 37 || k == 38
-}
-
+// A function, so that its contract names the choice once for three uses.
 fn kind_for(dictionary: bool) -> u8
     ensures { result ≡ cond dictionary 37 38 }
 {
     if dictionary { 37 } else { 38 }
 }
 
+// A function, as the kind of the answer is.
 fn hint_if(same: bool, hint: u8) -> u8
     ensures { result ≡ cond same hint 0 }
 {
     if same { hint } else { 0 }
-}
-
-// Whether two kinds are these two.
-fn are(k: u8, j: u8, first: u8, second: u8) -> bool
-    ensures { result ≡ (eqb k first && eqb j second) }
-{
-    k == first && j == second
 }
 
 // What the kinds of two cores leave to be asked of the wrappers about them.
@@ -75,7 +66,8 @@ impl<'a> Walk<'a> {
         }
     }
 
-    // The kind of the value below all wrappers of a type of the left.
+    // The kind of the value below all wrappers of a type of the left; 0, as no type has it, where no record is left or the byte is no kind. What is asked of it
+    // are tests of kinds, which need no case for none.
     fn core_kind(&self, left: usize, l: usize) -> u8
         ensures { Core left (side self.now.swap self.now.sheet.now self.now.work.now) l result }
     {
@@ -139,7 +131,7 @@ impl<'a> Walk<'a> {
         true
     }
 
-    // What the wrappers answer.
+    // What the wrappers answer. A hint goes down with the merge as a number, so it is told here which walk it asks for.
     fn wrappers_may(&self, left: usize, hint: u8, l: usize, r: usize) -> bool
         ensures { TellsBoth (wrappers_may hint self.now.mask) (left + 1) self.now.swap self.now.sheet.now self.now.work.now l r result }
     {
@@ -163,11 +155,7 @@ impl<'a> Walk<'a> {
         let k = self.core_kind(left, l);
         let j = self.swapped().core_kind(left, r);
         let h = core_hint(self.mask, k, j);
-        if self.wrappers_may(left, h, l, r) {
-            Some(h)
-        } else {
-            None
-        }
+        self.wrappers_may(left, h, l, r).then_some(h)
     }
 }
 
@@ -193,20 +181,22 @@ pub fn way(
     };
     let k = kind_at(sheet, work, swap, l);
     let j = kind_at(sheet, work, !swap, r);
-    if are(k, j, 37, 38) {
-        let h = walk.learn(left, hint, l, r)?;
-        let a = value_at(sheet, work, swap, l);
-        let kind = kind_for(walk.meets_if(left, h == 2, a, r));
-        return Some(Turn { kind, hint: h });
+    match (k, j) {
+        (37, 38) => {
+            let h = walk.learn(left, hint, l, r)?;
+            let a = value_at(sheet, work, swap, l);
+            let kind = kind_for(walk.meets_if(left, h == 2, a, r));
+            Some(Turn { kind, hint: h })
+        }
+        (38, 37) => {
+            let h = walk.learn(left, hint, l, r)?;
+            let b = value_at(sheet, work, !swap, r);
+            let kind = kind_for(walk.swapped().meets_if(left, h == 3, b, l));
+            Some(Turn { kind, hint: h })
+        }
+        _ => Some(Turn {
+            kind: kind_for(one_is(37, k, j)),
+            hint: hint_if(k == j, hint),
+        }),
     }
-    if are(k, j, 38, 37) {
-        let h = walk.learn(left, hint, l, r)?;
-        let b = value_at(sheet, work, !swap, r);
-        let kind = kind_for(walk.swapped().meets_if(left, h == 3, b, l));
-        return Some(Turn { kind, hint: h });
-    }
-    Some(Turn {
-        kind: kind_for(one_is(37, k, j)),
-        hint: hint_if(k == j, hint),
-    })
 }

@@ -3,4 +3,4 @@ use Rattle.std.proofs.Common.{◌≤◌}
 use Rattle.sheet_check.proofs.run.Given as goal
 
 abbrev pub invariant-loop : goal.invariant-loop
-invariant-loop g l = l.t.sheets ≤ l.counter
+invariant-loop g l = l.tally.runs ≤ l.counter

@@ -1,12 +1,19 @@
-use Rattle.answers.specs.Call.{bad_pair}
-use Rattle.answers.proofs.Refusing.{pair_asked}
+use Rattle.buffers.specs.Plain.{asked}
+use Rattle.answers.proofs.Refusing.{list_asked, pair_asked}
 use Rattle.answers.proofs.refuse.is_bad_pair.Goals as goal
 
-pub returns-in-List : goal.returns-in-List
-unfolding bad_pair
-returns-in-List c =
-    rw c.in-List.is
+pub returns-then-not-is_list_question : goal.returns-then-not-is_list_question
+returns-then-not-is_list_question c =
+    pair_asked
+    _
+    c.args.space
+    (λ i. (c.type_inv.sheet i).fits)
+    c.requires
+    (asked c.args.question)
+    c.if-not-is_list_question.true
+    c.is_list_question.ensures
+    c.is_pair.ensures
 
-pub returns-in-Union : goal.returns-in-Union
-returns-in-Union c =
-    pair_asked _ c.args.space (λ i. (c.type_inv.sheet i).fits) c.requires c.args.question c.in-Union.is c.is_pair.ensures
+pub returns-else-not-is_list_question : goal.returns-else-not-is_list_question
+returns-else-not-is_list_question c =
+    list_asked _ (asked c.args.question) c.if-not-is_list_question.false c.is_list_question.ensures

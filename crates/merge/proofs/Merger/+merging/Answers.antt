@@ -98,7 +98,7 @@ entry-returns-clause-merges_field t c =
 
 pub list_rule-returns-clause-merges_known : goal.list_rule-returns-clause-merges_known
 list_rule-returns-clause-merges_known t c =
-    list_merged _ _ _ c.args.swap _ _ _ _ _ _ _ c.heads.ensures.left.0 c.heads.ensures.right.0 c.list_kind-kind.ensures c.list_size-size.ensures.0 _ _ c.under.ensures.under
+    list_merged _ _ _ c.args.swap _ _ _ _ _ _ _ c.heads.ensures.left.0 c.heads.ensures.right.0 c.list_kind.ensures c.list_size.ensures.0 _ _ (rw c.of_kind.ensures at (rw c.from.ensures at c.under.ensures.under))
 
 pub list_struct-returns-then-not-same_arity-clause-merges_known : goal.list_struct-returns-then-not-same_arity-clause-merges_known
 list_struct-returns-then-not-same_arity-clause-merges_known t c =
@@ -106,7 +106,7 @@ list_struct-returns-then-not-same_arity-clause-merges_known t c =
 
 pub list_struct-returns-in-Some-clause-merges_known : goal.list_struct-returns-in-Some-clause-merges_known
 list_struct-returns-in-Some-clause-merges_known t c =
-    listed_fed _ _ _ c.args.swap _ _ _ _ _ _ _ c.heads.ensures.left.0 c.heads.ensures.right.0 c.same_arity.ensures c.if-not-same_arity.false c.args.known _ c.in-Some.ensures.struct_fed c.requires.structs.0 c.requires.structs.1 _ _ c.under.ensures.under
+    listed_fed _ _ _ c.args.swap _ _ _ _ _ _ _ c.heads.ensures.left.0 c.heads.ensures.right.0 c.same_arity.ensures c.if-not-same_arity.false c.args.known _ c.in-Some.ensures.struct_fed c.requires.structs.0 c.requires.structs.1 _ _ (rw c.of_kind.ensures at (rw c.from-shape.ensures at c.under.ensures.under))
 
 pub list_struct-returns-in-None-clause-merges_known : goal.list_struct-returns-in-None-clause-merges_known
 list_struct-returns-in-None-clause-merges_known t c =
@@ -122,7 +122,7 @@ map_rule-entry-requires t c =
 
 pub map_rule-returns-clause-merges_known : goal.map_rule-returns-clause-merges_known
 map_rule-returns-clause-merges_known t c =
-    map_on _ _ _ _ _ _ _ _ _ _ _ c.heads.ensures.left.0 c.heads.ensures.right.0 c.requires.room.0 c.requires.room.1 c.if-self-at.false _ _ _ _ c.are_sorted.ensures c.if-a-eq0.false c.if-b-eq0.false c.lay.ensures c.args.known _ c.entry.ensures.merges_field
+    map_on _ _ _ _ _ _ _ _ _ _ _ c.heads.ensures.left.0 c.heads.ensures.right.0 c.requires.room.0 c.requires.room.1 c.if-self-at.false _ _ _ _ c.are_sorted.ensures c.if-a-eq0.false c.if-b-eq0.false (rw c.of_kind.ensures at (rw c.from.ensures at c.lay.ensures)) c.args.known _ c.entry.ensures.merges_field
 
 pub nested-returns-then-is_list-2-clause-merges_known : goal.nested-returns-then-is_list-2-clause-merges_known
 nested-returns-then-is_list-2-clause-merges_known t c =
@@ -254,7 +254,7 @@ rows-returns-clause-stays_tabled t c =
 
 pub struct_rule-returns-then-same_arity-clause-merges_known : goal.struct_rule-returns-then-same_arity-clause-merges_known
 struct_rule-returns-then-same_arity-clause-merges_known t c =
-    struct_merged _ _ _ c.args.swap _ _ _ _ _ _ _ c.heads.ensures.left.0 c.heads.ensures.right.0 c.same_arity.ensures (both_true (both_true (eq-eqb _ 35 c.if-x-eq35.true) (eq-eqb _ 35 c.if-y-eq35.true)) c.if-same_arity.true) c.args.known _ (fed_or_placed c.unwrap_or-feed.ensures c.struct_feed.ensures.struct_fed) _ _ c.under.ensures.under
+    struct_merged _ _ _ c.args.swap _ _ _ _ _ _ _ c.heads.ensures.left.0 c.heads.ensures.right.0 c.same_arity.ensures (both_true (both_true (eq-eqb _ 35 c.if-x-eq35.true) (eq-eqb _ 35 c.if-y-eq35.true)) c.if-same_arity.true) c.args.known _ (fed_or_placed c.unwrap_or-feed.ensures c.struct_feed.ensures.struct_fed) _ _ (rw c.of_kind.ensures at (rw c.from-shape.ensures at c.under.ensures.under))
 
 pub struct_rule-returns-clause-merges_known : goal.struct_rule-returns-clause-merges_known
 struct_rule-returns-clause-merges_known t c =

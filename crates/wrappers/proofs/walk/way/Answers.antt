@@ -1,36 +1,49 @@
-use mathlib.Core.Path.{refl, sym, subst, ◌∙◌}
-use mathlib.Core.Bool.{Bool, true, cond}
+use mathlib.Core.Path.{◌≡◌, refl, subst}
+use mathlib.Core.Bool.{true, false, cond, ◌&&◌}
 use Prim.Native.Nat.{◌+◌}
 use lib.Dec.{eqb}
-use Rattle.wrappers.specs.Walks.{TellsBoth, Learns}
+use borrow.Author.Tests.{ne_eqb}
+use Rattle.wrappers.specs.Walks.{TellsBoth}
 use Rattle.wrappers.specs.declared.walk.Walk.{Walk}
-use Rattle.wrappers.proofs.Cores.{one_of_two}
 use Rattle.wrappers.proofs.Hints.{met}
-use Rattle.wrappers.proofs.Walking.{meets_spared, asked_turn, is_asked, way_left, way_right, none_left, none_right, way_straight}
+use Rattle.wrappers.proofs.Walking.{asked_turn, is_asked, way_left, way_right, none_left, none_right, way_straight}
+use Rattle.wrappers.proofs.walk.way.Goals.{in_default-via-in-37+in_default, in_default-via-in-38+in_default, in_default-via-in_default}
 use Rattle.wrappers.proofs.walk.way.Goals as goal
 
-pub returns-in_err-h : goal.returns-in_err-h
-returns-in_err-h c =
-    none_left _ _ _ c.args.swap _ _ _ _ c.kind_at-k.ensures c.kind_at-j.ensures c.from_residual.ensures c.in_err-h.ensures.learns (sym c.are.ensures ∙ c.if-are.true)
+pub returns-in_err-h-in-37-eq38 : goal.returns-in_err-h-in-37-eq38
+returns-in_err-h-in-37-eq38 c =
+    none_left _ _ _ c.args.swap _ _ _ _ c.kind_at-k.ensures c.kind_at-j.ensures c.from_residual.ensures c.in_err-h-in-37-eq38.ensures.learns (rw (c.in-37-eq38.is-0, c.in-37-eq38.is-1) refl)
 
-pub returns-then-are : goal.returns-then-are
-returns-then-are c =
+pub returns-in_ok-h-in-37-eq38 : goal.returns-in_ok-h-in-37-eq38
+returns-in_ok-h-in-37-eq38 c =
     way_left _ _ _ c.args.swap _ _ _ _ c.kind_at-k.ensures c.kind_at-j.ensures c.meets_if.result
-    (asked_turn c.in_ok-h.h _ _ (c.in_ok-h.ensures.some) c.kind_for-kind.ensures, refl) (is_asked _ c.kind_for-kind.ensures)
-    (c.in_ok-h.ensures.learns) (sym c.are.ensures ∙ c.if-are.true) c.value_at-a.ensures c.meets_if.ensures
+    (asked_turn c.in_ok-h-in-37-eq38.h _ _ (c.in_ok-h-in-37-eq38.ensures.some) c.kind_for-kind.ensures, refl) (is_asked _ c.kind_for-kind.ensures)
+    (c.in_ok-h-in-37-eq38.ensures.learns) (rw (c.in-37-eq38.is-0, c.in-37-eq38.is-1) refl) c.value_at-a.ensures c.meets_if.ensures
 
-pub returns-in_err-h-2 : goal.returns-in_err-h-2
-returns-in_err-h-2 c =
-    none_right _ _ _ c.args.swap _ _ _ _ c.kind_at-k.ensures c.kind_at-j.ensures c.from_residual-in_err-h-2.ensures c.in_err-h-2.ensures.learns (sym c.are-2.ensures ∙ c.if-are-2.true)
+pub returns-in_err-h-in-38-eq37 : goal.returns-in_err-h-in-38-eq37
+returns-in_err-h-in-38-eq37 c =
+    none_right _ _ _ c.args.swap _ _ _ _ c.kind_at-k.ensures c.kind_at-j.ensures c.from_residual-in_err-h-in-38-eq37.ensures c.in_err-h-in-38-eq37.ensures.learns (rw (c.in-38-eq37.is-0, c.in-38-eq37.is-1) refl)
 
-pub returns-then-are-2 : goal.returns-then-are-2
-returns-then-are-2 c =
-    way_right _ _ _ c.args.swap _ _ _ _ c.kind_at-k.ensures c.kind_at-j.ensures c.meets_if-then-are-2.result
-    (asked_turn c.in_ok-h-2.h _ _ (c.in_ok-h-2.ensures.some) c.kind_for-kind-then-are-2.ensures, refl) (is_asked _ c.kind_for-kind-then-are-2.ensures)
-    (c.in_ok-h-2.ensures.learns) (sym c.are-2.ensures ∙ c.if-are-2.true) c.value_at-b.ensures
-    (subst (λ (u : Walk). TellsBoth (λ x y. cond (eqb c.in_ok-h-2.h 3) (met u.mask x y) true) (c.args.left + 1) u.swap u.sheet.now u.work.now c.value_at-b.result c.args.l c.meets_if-then-are-2.result) c.swapped.ensures c.meets_if-then-are-2.ensures)
+pub returns-in_ok-h-in-38-eq37 : goal.returns-in_ok-h-in-38-eq37
+returns-in_ok-h-in-38-eq37 c =
+    way_right _ _ _ c.args.swap _ _ _ _ c.kind_at-k.ensures c.kind_at-j.ensures c.meets_if-in-38-eq37.result
+    (asked_turn c.in_ok-h-in-38-eq37.h _ _ (c.in_ok-h-in-38-eq37.ensures.some) c.kind_for-kind-in-38-eq37.ensures, refl) (is_asked _ c.kind_for-kind-in-38-eq37.ensures)
+    (c.in_ok-h-in-38-eq37.ensures.learns) (rw (c.in-38-eq37.is-0, c.in-38-eq37.is-1) refl) c.value_at-b.ensures
+    (subst (λ (u : Walk). TellsBoth (λ x y. cond (eqb c.in_ok-h-in-38-eq37.h 3) (met u.mask x y) true) (c.args.left + 1) u.swap u.sheet.now u.work.now c.value_at-b.result c.args.l c.meets_if-in-38-eq37.result) c.swapped.ensures c.meets_if-in-38-eq37.ensures)
 
-pub returns : goal.returns
-returns c =
+pub returns-in_default : goal.returns-in_default
+returns-in_default c =
+    let left_straight : (eqb c.kind_at-k.result 37 && eqb c.kind_at-j.result 38) ≡ false =
+    elim c.in_default.branch [
+      | in_default-via-in-37+in_default w ↦ rw (w.in_default.is-0, ne_eqb _ 38 w.in_default.is-1.1) refl
+      | in_default-via-in-38+in_default w ↦ rw w.in_default.is-0 refl
+      | in_default-via-in_default w ↦ rw (ne_eqb _ 37 w.in_default.is-0.0.1) refl
+    ] in
+    let right_straight : (eqb c.kind_at-k.result 38 && eqb c.kind_at-j.result 37) ≡ false =
+    elim c.in_default.branch [
+      | in_default-via-in-37+in_default w ↦ rw w.in_default.is-0 refl
+      | in_default-via-in-38+in_default w ↦ rw (w.in_default.is-0, ne_eqb _ 37 w.in_default.is-1.1) refl
+      | in_default-via-in_default w ↦ rw (ne_eqb _ 38 w.in_default.is-0.1) refl
+    ] in
     way_straight _ _ _ c.args.swap _ _ _ _ c.kind_at-k.ensures c.kind_at-j.ensures c.one_is.result
-    c.kind_for.ensures c.hint_if.ensures (is_asked _ c.kind_for.ensures) (sym c.are.ensures ∙ c.if-are.false) (sym c.are-2.ensures ∙ c.if-are-2.false) c.one_is.ensures
+    c.kind_for.ensures c.hint_if.ensures (is_asked _ c.kind_for.ensures) left_straight right_straight c.one_is.ensures
