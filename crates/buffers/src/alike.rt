@@ -19,7 +19,8 @@ use sheet::Head;
 use sheet::label::{label_at, same, same_name};
 use sheet::record::head_at;
 
-// Whether the zones that bytes 4 to 7 of two records place are the same.
+// Whether the zones that bytes 4 to 7 of two records place are the same. By the two numbers and not `Head::zone_at`: the contract is of these bytes alone, and
+// `same_content` hands on no more of the heads.
 fn same_zone(a: &[u8], n: usize, p: usize, b: &[u8], m: usize, q: usize) -> bool
     requires { (n < 65536) × (m < 65536) }
     ensures { result ≡ same_bytes (label_at a.now n (p % 65536) (p / 65536 % 256)) (label_at b.now m (q % 65536) (q / 65536 % 256)) }

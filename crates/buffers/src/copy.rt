@@ -104,8 +104,8 @@ pub(crate) fn copy_bare(work: &mut [u8], space: Space, h: Head, link: usize, g: 
     Ok(g.past(0))
 }
 
-// The same for a record of a side that may have a zone. Of one that has none, as that of a wrapper, the head alone is written; `copy_head` would measure its
-// zone, ask for room and put no bytes.
+// The same for a record of a side that may have a zone. Of one that has none, as that of a wrapper, the head alone is written. The bar is: not slower than
+// before. With `copy_head` here and `copy_field` for `copy_index`, a Dictionary in a list takes 280 ns in place of 150 to 190.
 pub fn copy_parent(
     sheet: &[u8],
     work: &mut [u8],
@@ -124,6 +124,7 @@ pub fn copy_parent(
     copy_bare(work, space, h, link, g)
 }
 
+// `Head::nullable` by a name that four crates call: `h.nullable()` at each of the eight places says no more, so it would be no plainer.
 pub fn is_nullable(h: Head) -> bool
     ensures { result ≡ nullable_in h }
 {

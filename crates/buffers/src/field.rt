@@ -100,8 +100,7 @@ pub fn copy_field(
     copy_type(sheet, work, space, swap, link, g)
 }
 
-// The same, where the field most often has neither parts nor a zone, as the indices of a wrapper: such a field's head is read once, and twice by `copy_field`,
-// which then looks for a zone and for parts.
+// The same, where the field most often has neither parts nor a zone, as the indices of a wrapper: for speed, by the figures at `copy_parent`.
 pub fn copy_index(
     sheet: &[u8],
     work: &mut [u8],

@@ -1,4 +1,5 @@
 // Types in lent buffers: whether two are the same, how one is copied or laid, and the rules for types without parts.
+// A kind is the byte of a record: public functions take any byte, of which an enum of 38 kinds would ask more.
 #![tactic(auto)]
 
 ghost use Rattle.std.specs.Prelude.{◌≡◌, false, ◌+◌, ◌*◌, ◌<◌};

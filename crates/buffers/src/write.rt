@@ -1,4 +1,5 @@
 // Writing heads and labels into the work space.
+// A kind is the byte of a record: public functions take any byte, of which an enum of 38 kinds would ask more.
 ghost use Rattle.std.specs.Prelude.{◌≡◌, Bool, not, ◌+◌, ◌*◌, ◌≤◌, ◌<◌, length, take, drop};
 ghost use Rattle.sheet.specs.Head.{head_at, bytes_of};
 ghost use Rattle.sheet.specs.Bounds.{Bounded};

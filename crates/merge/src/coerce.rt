@@ -348,6 +348,7 @@ impl<'a> Merger<'a> {
             return Err(Failure::NoType);
         }
         let (k, j) = self.kinds(&*work, swap, l, r);
+        // By the two numbers: `j < 37` beside them is of the same form, so `is_wrapper(k)` would be no plainer.
         if j < 37 && (k == 37 || k == 38) {
             return self.rewrapped(work, table, left - 1, swap, k, l, r, g);
         }

@@ -141,6 +141,7 @@ fn run<R: Read>(stored: &mut R, tally: &mut Tally<Difference>) -> Result<(), Bro
     if at_end(stored) { Ok(()) } else { Err(Broken) }
 }
 
+// Each of the three programs has its own: the text about the first wrong one differs, and a closure for it would be longer than these lines.
 fn summary(rt: &impl Print, tally: &Tally<Difference>) -> io::Result<()> {
     println!(rt; "{tally}")?;
     if let Some((_, first)) = tally.first {

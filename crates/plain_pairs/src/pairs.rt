@@ -1,4 +1,4 @@
-// The plain rules on plain types.
+// The plain rules on plain types, as `buffers::plain` has them for a Step: two sets, for the reason at `of_common` of plain.rt.
 ghost use Rattle.std.specs.Prelude.{◌≡◌, true, cond, eqb};
 ghost use Rattle.coercion.specs.Data.{first_of};
 ghost use Rattle.coercion.specs.Rules.{null_coercion, string_temporal_coercion};

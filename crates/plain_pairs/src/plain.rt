@@ -7,6 +7,7 @@ use std::fmt;
 
 // The zone is a number for a Timestamp's zone, 0 for none, or the size of a FixedSizeBinary, as the file has it: which of them it is depends on the kind, so it
 // is no Option.
+// No Figures as a field: each use of a kind or figure would name it.
 #[derive(Clone, Copy, Default, PartialEq)]
 pub struct Plain {
     pub kind: u8,

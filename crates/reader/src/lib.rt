@@ -1,5 +1,6 @@
 // A thin reader of a sheet: it borrows the bytes and stands at a record. Each of its functions takes it apart and calls one of `record`; `look`
 // serves callers that have a slice and a record number.
+// A kind is the byte of a record: public functions take any byte, of which an enum of 38 kinds would ask more.
 #![tactic(auto)]
 
 ghost use Rattle.std.specs.Prelude.{◌≡◌};
@@ -36,7 +37,7 @@ impl<'a> Reader<'a> {
         }
     }
 
-    // The kind of the type, 0 where the chain has ended.
+    // The kind of the type, 0 where the chain has ended: record 0 reads as zeros and no kind is 0, so an Option would be no plainer.
     pub fn kind(self) -> u8
         ensures { result ≡ kind_at self.entry.sheet.now self.entry.at }
     {

@@ -1,4 +1,5 @@
 // What a record says, by its number. Record 0 is the header and no type: a link to it ends a chain, and it reads as zeros.
+// A kind is the byte of a record: public functions take any byte, of which an enum of 38 kinds would ask more.
 ghost use Rattle.std.specs.Prelude.{◌≡◌, ◌<◌, get_or};
 ghost use Rattle.sheet.specs.Bounds.{Bounded};
 ghost use Rattle.sheet.specs.Read.{records_of};
@@ -41,6 +42,7 @@ pub fn first_listed(s: &[u8]) -> usize
     usize::from(1 < records_of(s))
 }
 
+// The kind of the type, 0 where the chain has ended: record 0 reads as zeros and no kind is 0, so an Option would be no plainer.
 pub fn kind_at(s: &[u8], at: usize) -> u8
     ensures { result ≡ kind_at s.now at }
 {

@@ -145,6 +145,7 @@ fn run<R: Read>(calls: &mut R, tally: &mut Tally<Wrong>) -> Result<(), Broken>
     Err(Broken)
 }
 
+// Each of the three programs has its own: the text about the first wrong one differs, and a closure for it would be longer than these lines.
 fn summary(rt: &impl Print, tally: &Tally<Wrong>) -> io::Result<()> {
     println!(rt; "{tally}")?;
     if let Some((at, wrong)) = tally.first {

@@ -29,7 +29,7 @@ fn question_of(n: u8) -> Result<Question, Broken>
 pub struct Reply(pub Result<Option<usize>, u8>);
 
 impl Reply {
-    // The byte length of a type's sheet, 0 where there is no type.
+    // The byte length of a type's sheet, and no Option: 0 where there is no type, as the file has it in each vector.
     pub fn length(&self) -> usize
         ensures { result ≡ length_in self.now.0 }
     {

@@ -12,7 +12,7 @@ ghost use Rattle.rules.specs.Wrapped.{Found};
 use kinds::tests::{is_string, is_wrapper};
 use sheet::record::head_at;
 
-// The bit of the category of a kind that is no wrapper.
+// The bit of the category of a kind that is no wrapper, 0 where it has none: categories as bits are a form of document 01, so it is no Option.
 #[tactic(auto, using(crate::proofs::Categories::kind_bits))]
 pub fn category_bit(k: u8) -> u8
     ensures { result ≡ category_bit (own_category k) }

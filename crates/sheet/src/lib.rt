@@ -1,4 +1,5 @@
 // The sheet of document 01: its records, figures and labels, and how they are read.
+// A kind is the byte of a record: public functions take any byte, of which an enum of 38 kinds would ask more.
 #![tactic(auto)]
 
 ghost use Rattle.std.specs.Prelude.{◌≡◌, ◌<◌};

@@ -110,6 +110,7 @@ fn run<R: Read>(stored: &mut R, tally: &mut Tally<Wrong>) -> Result<(), CutShort
     Err(CutShort)
 }
 
+// Each of the three programs has its own: the text about the first wrong one differs, and a closure for it would be longer than these lines.
 fn summary(rt: &impl Print, tally: &Tally<Wrong>) -> io::Result<()> {
     println!(rt; "{tally}")?;
     if let Some((at, wrong)) = tally.first {

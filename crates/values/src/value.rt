@@ -1,4 +1,5 @@
 // Types without parts, zone or order, by value.
+// A kind is the byte of a record: public functions take any byte, of which an enum of 38 kinds would ask more.
 ghost use Rattle.std.specs.Prelude.{◌≡◌, ◌<◌, Some, false};
 ghost use Rattle.sheet.specs.Bounds.{Bounded};
 ghost use Rattle.coercion.specs.Answers.{coercion};

@@ -121,7 +121,7 @@ impl<'a> Walk<'a> {
         false
     }
 
-    // The walk of a value's wrappers and those of Null, if it is needed.
+    // The walk of a value's wrappers and those of Null, if it is needed. By a name, as its contract is what both uses in `way` cite.
     fn meets_if(&self, left: usize, needed: bool, l: usize, r: usize) -> bool
         ensures { TellsBoth (λ x y. cond needed (meets self.now.mask (wrappers_of x.shape x.parts) (wrappers_of y.shape y.parts)) true) (left + 1) self.now.swap self.now.sheet.now self.now.work.now l r result }
     {
