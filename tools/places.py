@@ -60,6 +60,18 @@ def loops(body):
         yield body.count("\n", 0, m.start()), m.group(2), body[m.end():end]
 
 
+LINES = {
+    "1 enums": r"\s*(pub(\(crate\))? )?enum ",
+    "1 numbers that say more than a number, by their comment":
+        r"\s*//.*(\b0 (where|for|past|none)\b|\bor 0\b|, 0 |65536 where|2³²)",
+    "1 flags beside values": r"\s*(pub )?(present|broken|ended): bool",
+    "4 printing by hand": r".*\bprint!?\(rt[,;]",
+    "6 fixed arrays that are filled up to a length": r"\s*let mut \w+ = \[0u(8|16|32); ",
+    "7 switches on a question, a step, a feed or a side":
+        r"\s*(match (question|feed|step|turn)\b|if swap\b|(return )?if swap\b)",
+}
+
+
 def main():
     words = [it for it in sys.argv[1:] if it != "-v"]
     found = defaultdict(list)
@@ -68,18 +80,9 @@ def main():
     for file, text in sources(words[0] if words else None):
         for i, line in enumerate(text.split("\n"), 1):
             where = f"{file}:{i}: {line.strip()}"
-            if re.match(r"\s*(pub(\(crate\))? )?enum ", line):
-                found["1 enums"].append(where)
-            if re.match(r"\s*//.*(\b0 (where|for|past|none)\b|\bor 0\b|, 0 |65536 where|2³²)", line):
-                found["1 numbers that say more than a number, by their comment"].append(where)
-            if re.match(r"\s*(pub )?(present|broken|ended): bool", line):
-                found["1 flags beside values"].append(where)
-            if re.match(r"\s*let mut \w+ = \[0u(8|16|32); ", line):
-                found["6 fixed arrays that are filled up to a length"].append(where)
-            if re.match(r"\s*(match (question|feed|step|turn)\b|if swap\b|(return )?if swap\b)", line):
-                found["7 switches on a question, a step, a feed or a side"].append(where)
-            if re.search(r"\bprint!?\(rt[,;]", line):
-                found["4 printing by hand"].append(where)
+            for key, pattern in LINES.items():
+                if re.match(pattern, line):
+                    found[key].append(where)
         for line, name, head, body in functions(text):
             where = f"{file}:{line}: {name}"
             named[name].append(where)
