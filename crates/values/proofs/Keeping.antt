@@ -5,6 +5,7 @@ use mathlib.Core.Bool.{Bool, true, false, cond, not, ◌&&◌, or-false}
 use mathlib.Core.List.{List, [], ◌∷◌}
 use mathlib.Core.Logic.{◌⊎◌, inl, inr}
 use Rattle.std.specs.Prelude.{Option, None, Some}
+use Rattle.std.specs.List.{last_or}
 use Prim.Native.Nat.{ℕ, ◌<◌, ◌≤◌}
 use native.Mathlib.Omega.{arith}
 use borrow.Author.Tests.{not-true, eq-eqb, ne_eqb, eqb-true}
@@ -40,12 +41,12 @@ use Rattle.buffers.proofs.Sources.{link_inside, read_shape}
 use Rattle.buffers.proofs.Chained.{held_first, held_next}
 use Rattle.buffers.proofs.Fielding.{typed_reads}
 use Rattle.buffers.proofs.Turns.{turns, spoken}
-use Rattle.wrappers.specs.Ways.{is_wrapper}
-use Rattle.wrappers.proofs.Cores.{missing, wrapper_is, two_parts}
+use Rattle.wrappers.specs.Ways.{is_wrapper, wrappers_of}
+use Rattle.wrappers.proofs.Cores.{missing, wrapper_is, two_parts, bare_wrappers, wrap_wrappers}
 use Rattle.wrappers.proofs.Values.{Two, typed_two, value_of}
 use Rattle.values.specs.declared.value.Leaf.{Leaf}
 use Rattle.values.specs.Value.{is_plain, leaf_of, Valued}
-use Rattle.values.specs.Keeps.{core_of, with_core, CoreAlone, lays_view, CoreAt, stays_zoned}
+use Rattle.values.specs.Keeps.{core_of, with_core, CoreAlone, lays_view, CoreAt, InnerAt, inner_kind, gives_way, stays_zoned}
 use Rattle.values.proofs.Valuing.{typed_right, no_parts, leaf_low, plain_valued, plain_coercion}
 
 pub by_test : {A : Type 0} (b : Bool) → (b ≡ true → A) → (b ≡ false → A) → A
@@ -100,13 +101,14 @@ with_own s (field n b s₁ p₁ end) = refl
 with_own s (field n b s₁ p₁ (field n₂ b₂ s₂ p₂ q)) =
     by_test (is_wrapper s.kind) (λ e. rw e (ap (λ (t : DataType). type_of s (field n b s₁ p₁ (field n₂ b₂ t.shape t.parts q))) (with_own s₂ p₂))) (λ e. rw e refl)
 
--- a wrapper is no Utf8View, whatever its core
-with_view : (s : Shape) (p : Fields) (t : DataType) → (t.shape.kind ≡ 27 → ⊥) → (with_core s p t).shape.kind ≡ 27 → ⊥
-unfolding with_core
-with_view s end t n e = n e
-with_view s (field n₁ b s₁ p₁ end) t n e = n e
-with_view s (field n₁ b s₁ p₁ (field n₂ b₂ s₂ p₂ q)) t n e =
-    by_test (is_wrapper s.kind) (λ w. let k = rw w at e in never (sym (ap (λ (i : ℕ). is_wrapper i) k) ∙ w)) (λ w. n (rw w at e))
+-- a wrapper is no Utf8View, whatever its core; another type is its own core, and stands directly in the last wrapper
+with_view : (s : Shape) (p : Fields) (last : Option ℕ) (t : DataType) → (last_or last (wrappers_of s p) ≡ last → t.shape.kind ≡ 27 → ⊥) → (with_core s p t).shape.kind ≡ 27 → ⊥
+unfolding with_core wrappers_of
+with_view s end last t n e = n refl e
+with_view s (field n₁ b s₁ p₁ end) last t n e = n refl e
+with_view s (field n₁ b s₁ p₁ (field n₂ b₂ s₂ p₂ q)) last t n e =
+    by_test (is_wrapper s.kind) (λ w. let k = rw w at e in never (sym (ap (λ (i : ℕ). is_wrapper i) k) ∙ w))
+    (λ w. n (ap (last_or last) (bare_wrappers s (field n₁ b s₁ p₁ (field n₂ b₂ s₂ p₂ q)) w)) (rw w at e))
 
 -- the second of two parts
 second_above : {space : Space} {s : List ℕ} {at link r o up : ℕ} {f : Fields} (x : Two f) → Held space s at link r o up f → (g : Head) → g ≡ head_at s link → at < g.next
@@ -123,18 +125,22 @@ a_wrapper : (k : ℕ) → 37 ≤ k → is_kind k ≡ true → is_wrapper k ≡ t
 unfolding is_kind between
 a_wrapper k h e = grind (arith, nat_tests)
 
--- the walk down the wrappers
+-- what the walk down the wrappers, past a last one, finds of the type at the record where it is: where its core stands, and the kind of the wrapper around that
+pub record Found (space : Space) (s : List ℕ) (at : ℕ) (last : Option ℕ) (core : ℕ) (kind : Option ℕ) : Type 0 where
+  pub is : (t : DataType) → Typed space s at t → Typed space s core (core_of t.shape t.parts) × (last_or last (wrappers_of t.shape t.parts) ≡ kind)
+
 module _ {space : Space} {s : List ℕ} {at : ℕ} where
-  pub core_past : space.n ≤ at → CoreAt space s at at
-  core_past h = record { is = λ t a. absurd (omega (arith, link_inside a.chain.held.source)) }
+  pub found_past : {last : Option ℕ} → space.n ≤ at → Found space s at last at last
+  found_past h = record { is = λ t a. absurd (omega (arith, link_inside a.chain.held.source)) }
 
   module _ (h : Head) (e : h ≡ head_at s at) where
-    pub core_here : h.kind < 37 → CoreAt space s at at
-    core_here z =
+    pub found_here : {last : Option ℕ} → h.kind < 37 → Found space s at last at last
+    found_here {last} z =
         record {
           is =
-              λ t a. let k : t.shape.kind < 37 = omega (arith, (typed_reads a e).kind) in
-              subst (Typed space s at) (sym (core_bare t.shape t.parts (no_wrapper t.shape.kind k))) a;
+              λ t a.
+              let n = no_wrapper t.shape.kind (omega (arith, (typed_reads a e).kind)) in
+              (subst (Typed space s at) (sym (core_bare t.shape t.parts n)) a, ap (last_or last) (bare_wrappers t.shape t.parts n));
         }
 
     module _ (z : 37 ≤ h.kind) (g : Head) (eg : g ≡ head_at s h.first) where
@@ -145,17 +151,26 @@ module _ {space : Space} {s : List ℕ} {at : ℕ} where
       value_above : {t : DataType} → Typed space s at t → at < g.next
       value_above a = second_above (typed_two (wraps a) refl a) (held_first a.chain.held h e) g eg
 
-      pub core_lost : g.next ≤ at → CoreAt space s at at
-      core_lost h = record { is = λ t a. absurd (omega (arith, value_above a)) }
+      pub found_lost : {last : Option ℕ} → g.next ≤ at → Found space s at last at last
+      found_lost h = record { is = λ t a. absurd (omega (arith, value_above a)) }
 
-      pub core_down : {k : ℕ} → CoreAt space s g.next k → CoreAt space s at k
-      core_down {k} c =
+      pub found_down : {last : Option ℕ} {core : ℕ} {kind : Option ℕ} → Found space s g.next (Some h.kind) core kind → Found space s at last core kind
+      found_down {last} {core} {kind} f =
           record {
             is =
                 λ t a.
                 let v = value_of (wraps a) refl (ap (λ (x : Head). x.next) eg ∙ ap (λ (x : Head). (head_at s x.first).next) e) a in
-                subst (Typed space s k) (sym (core_wrap t.shape t.parts v.type (wraps a) v.is)) (c.is v.type v.typed);
+                let below = f.is v.type v.typed in (
+                  subst (Typed space s core) (sym (core_wrap t.shape t.parts v.type (wraps a) v.is)) below.0,
+                  ap (last_or last) (wrap_wrappers t.shape t.parts v.type (wraps a) v.is)
+                      ∙ ap (λ (k : ℕ). last_or (Some k) (wrappers_of v.type.shape v.type.parts)) (typed_reads a e).kind
+                      ∙ below.1,
+                );
           }
+
+-- what it finds of the type at the record where it begins
+pub found_from : {space : Space} {s : List ℕ} {r core : ℕ} {kind : Option ℕ} → Found space s r None core kind → CoreAt space s r core × InnerAt space s r kind
+found_from f = (record { is = λ t a. (f.is t a).0 }, record { is = λ t a. (f.is t a).1 })
 
 -- a Timestamp is its unit and its zone
 module _ (t : DataType) (h : FieldRight 0 [] false t.shape t.parts) (e : t.shape.kind ≡ 22) where
@@ -182,6 +197,10 @@ step_view (Some (Step.Stamp unit)) l r u false h n m q e = let k : ◌≡◌ {A 
 step_view (Some Step.Left) l r u false h n m q e = n (ap (λ (t : DataType). t.shape.kind) (same_Some _ _ q) ∙ e)
 step_view (Some Step.Right) l r u false h n m q e = m (ap (λ (t : DataType). t.shape.kind) (same_Some _ _ q) ∙ e)
 step_view None l r u false h n m q e = missing q
+
+-- what is made of a core is no Utf8View where a Dictionary is directly around it
+abbrev NoView : Option ℕ → Option DataType → Type 0
+NoView kind m = kind ≡ Some 37 → (t : DataType) → m ≡ Some t → t.shape.kind ≡ 27 → ⊥
 
 module _ (mask : ℕ) where
   abbrev rules : Rules
@@ -224,17 +243,14 @@ module _ (mask : ℕ) where
         (rw (n, other 37 (omega arith), eq-eqb d.shape.kind 38 e, other 38 (omega arith)) refl)
         (rw (other 37 (omega arith), n, other 38 (omega arith), eq-eqb d.shape.kind 38 e) refl)
 
-    -- what is made of a core is no Utf8View
-    NoView : Option DataType → Type 0
-    NoView m = (t : DataType) → m ≡ Some t → t.shape.kind ≡ 27 → ⊥
-
     -- a wrapper around a value with another core
     wrapper_with : (up : ℕ) (name : List ℕ) (nullable : Bool) (shape : Shape) (n : List ℕ) (b : Bool) (s : Shape) (p : Fields) (n₂ : List ℕ) (b₂ : Bool) (s₂ : Shape) (p₂ q rest : Fields)
-        → FieldsRight up (field name nullable shape (field n b s p (field n₂ b₂ s₂ p₂ q)) rest) → is_wrapper shape.kind ≡ true → (m : Option DataType) → NoView m
+        → FieldsRight up (field name nullable shape (field n b s p (field n₂ b₂ s₂ p₂ q)) rest) → is_wrapper shape.kind ≡ true → (m : Option DataType)
+        → NoView (last_or (Some shape.kind) (wrappers_of s₂ p₂)) m
         → coercion rules (type_of s₂ p₂) x ≡ and_then m (λ t. Some (with_core s₂ p₂ t))
         → Both (type_of shape (field n b s p (field n₂ b₂ s₂ p₂ q)))
         (and_then m (λ t. Some (type_of shape (field n b s p (field n₂ b₂ (with_core s₂ p₂ t).shape (with_core s₂ p₂ t).parts q)))))
-    unfolding arity names_parts between Both NoView
+    unfolding arity names_parts between Both
     wrapper_with up name nullable shape n b s p n₂ b₂ s₂ p₂ (field n₃ b₃ s₃ p₃ q) rest h w m v k = absurd (omega (arith, two_parts _ _ w h.0.filled))
     wrapper_with up name nullable shape n b s p n₂ b₂ s₂ p₂ end rest h w m v k = go (wrapper_is shape.kind w)
       where
@@ -244,11 +260,11 @@ module _ (mask : ℕ) where
         made : Option DataType
         made = and_then m (λ t. Some (type_of shape (field n b s p (field n₂ b₂ (with_core s₂ p₂ t).shape (with_core s₂ p₂ t).parts end))))
 
-        kept : shape.kind ≡ 37 → (m : Option DataType) → NoView m → and_then (and_then m (λ t. Some (with_core s₂ p₂ t))) (λ t. keep_dictionary d t)
+        kept : shape.kind ≡ 37 → (m : Option DataType) → NoView (last_or (Some shape.kind) (wrappers_of s₂ p₂)) m → and_then (and_then m (λ t. Some (with_core s₂ p₂ t))) (λ t. keep_dictionary d t)
             ≡ and_then m (λ t. Some (type_of shape (field n b s p (field n₂ b₂ (with_core s₂ p₂ t).shape (with_core s₂ p₂ t).parts end))))
         kept e None v = refl
         kept e (Some t) v =
-            rw (ne_eqb (with_core s₂ p₂ t).shape.kind 27 (with_view s₂ p₂ t (v t refl)))
+            rw (ne_eqb (with_core s₂ p₂ t).shape.kind 27 (with_view s₂ p₂ (Some shape.kind) t (λ q. v (q ∙ ap (λ (i : ℕ). Some i) e) t refl)))
             (ap (λ (f : Fields). Some (type_of shape (field n b s p f)))
             (sym (plain_name n₂ b₂ (ap (λ (i : ℕ). names_parts i) e) h.1.0.1.1.0 (with_core s₂ p₂ t).shape (with_core s₂ p₂ t).parts)))
 
@@ -268,18 +284,18 @@ module _ (mask : ℕ) where
     itself (Some t) = refl
 
     -- so is a type whose core is made another
-    core_with : (up : ℕ) (name : List ℕ) (nullable : Bool) (shape : Shape) (parts rest : Fields) → FieldsRight up (field name nullable shape parts rest)
-        → NoView (coercion rules (core_of shape parts) x)
+    core_with : (up : ℕ) (name : List ℕ) (nullable : Bool) (shape : Shape) (parts rest : Fields) (last : Option ℕ) → FieldsRight up (field name nullable shape parts rest)
+        → NoView (last_or last (wrappers_of shape parts)) (coercion rules (core_of shape parts) x)
         → (coercion rules (type_of shape parts) x ≡ and_then (coercion rules (core_of shape parts) x) (λ t. Some (with_core shape parts t)))
         × (is_wrapper shape.kind ≡ true → coercion rules x (type_of shape parts) ≡ and_then (coercion rules (core_of shape parts) x) (λ t. Some (with_core shape parts t)))
-    unfolding core_of with_core arity Both NoView
-    core_with up name nullable shape end rest h v = (itself _, λ w. absurd (omega (arith, two_parts _ _ w h.0.filled)))
-    core_with up name nullable shape (field n b s p end) rest h v = (itself _, λ w. absurd (omega (arith, two_parts _ _ w h.0.filled)))
-    core_with up name nullable shape (field n b s p (field n₂ b₂ s₂ p₂ q)) rest h v =
+    unfolding core_of with_core wrappers_of arity Both
+    core_with up name nullable shape end rest last h v = (itself _, λ w. absurd (omega (arith, two_parts _ _ w h.0.filled)))
+    core_with up name nullable shape (field n b s p end) rest last h v = (itself _, λ w. absurd (omega (arith, two_parts _ _ w h.0.filled)))
+    core_with up name nullable shape (field n b s p (field n₂ b₂ s₂ p₂ q)) rest last h v =
         by_test (is_wrapper shape.kind)
         (λ e.
         let u = rw e at v in
-        let both = wrapper_with up name nullable shape n b s p n₂ b₂ s₂ p₂ q rest h e (coercion rules (core_of s₂ p₂) x) u (core_with shape.kind n₂ b₂ s₂ p₂ q h.1.0.1.1 u).0 in
+        let both = wrapper_with up name nullable shape n b s p n₂ b₂ s₂ p₂ q rest h e (coercion rules (core_of s₂ p₂) x) u (core_with shape.kind n₂ b₂ s₂ p₂ q (Some shape.kind) h.1.0.1.1 u).0 in
         rw e (both.0, λ w. both.1))
         (λ e. rw e (itself _, λ w. never w))
 
@@ -308,23 +324,22 @@ module _ (mask : ℕ) where
     core_typed = at.is c d
 
     -- a wrapper whose core alone changes
-    core_changes : 32 ≤ h.kind → x.kind < 32 → v.kind < 32 → ((u : DataType) → coercion rules inner t ≡ Some u → u.shape.kind ≡ 27 → ⊥) → CoreAlone rules t c
-    unfolding NoView
+    core_changes : 32 ≤ h.kind → x.kind < 32 → v.kind < 32 → NoView (inner_kind c) (coercion rules inner t) → CoreAlone rules t c
     core_changes high low bare n =
         by_test (is_wrapper c.shape.kind)
         (λ e.
         record {
           low = omega (arith, (typed_reads core_typed ev).kind);
-          is = (core_with t (omega (arith, (typed_reads a ex).kind)) d.chain.up d.name d.nullable c.shape c.parts d.rest d.chain.held.source.right n).1 e;
+          is = (core_with t (omega (arith, (typed_reads a ex).kind)) d.chain.up d.name d.nullable c.shape c.parts d.rest None d.chain.held.source.right n).1 e;
         })
         (λ e.
         let k = ap (λ (y : DataType). y.shape.kind) (core_bare c.shape c.parts e) in
         absurd (omega (arith, k, (typed_reads core_typed ev).kind, (typed_reads d eh).kind)))
 
     -- a wrapper whose core stays
-    keeps_core : 32 ≤ h.kind → x.kind < 32 → v.kind < 32 → (v.kind ≡ 27 → ⊥) → coercion rules inner t ≡ Some inner → coercion rules t c ≡ Some c
+    keeps_core : 32 ≤ h.kind → x.kind < 32 → v.kind < 32 → (inner_kind c ≡ Some 37 → v.kind ≡ 27 → ⊥) → coercion rules inner t ≡ Some inner → coercion rules t c ≡ Some c
     keeps_core high low bare n f =
-        (core_changes high low bare (λ u q e. n (sym (typed_reads core_typed ev).kind ∙ ap (λ (y : DataType). y.shape.kind) (same_Some _ _ (sym f ∙ q)) ∙ e))).is
+        (core_changes high low bare (λ k u q e. n k (sym (typed_reads core_typed ev).kind ∙ ap (λ (y : DataType). y.shape.kind) (same_Some _ _ (sym f ∙ q)) ∙ e))).is
         ∙ ap (λ (m : Option DataType). and_then m (λ u. Some (with_core c.shape c.parts u))) f
         ∙ ap (λ (u : DataType). Some u) (with_own c.shape c.parts)
 
@@ -335,7 +350,7 @@ module _ (mask : ℕ) where
         let rv = typed_reads core_typed ev in
         let rx = typed_reads a ex in
         core_changes high low bare
-        (λ u q. step_view step inner t u (equal inner t) b (λ e. m (sym rv.kind ∙ e)) (λ e. n (sym rx.kind ∙ e))
+        (λ k u q. step_view step inner t u (equal inner t) b (λ e. m (sym rv.kind ∙ e)) (λ e. n (sym rx.kind ∙ e))
         (ap (cond (equal inner t) (Some inner)) (f inner t rv rx) ∙ sym (plain_coercion rules inner t (omega (arith, rv.kind)) (omega (arith, rx.kind))) ∙ q))
 
     -- around a Timestamp with a zone
@@ -350,7 +365,7 @@ module _ (mask : ℕ) where
         let there : zone_of u space.n v ≡ present (label_at u space.n (zone_at v) (zone_len v)) = rw (and_snd (eqb v.kind 22) _ l) in
         let zone = sym (ap (λ (k : Shape). k.zone) (read_shape core_typed.chain.held.source v ev)) ∙ there in
         let unit = ap₂ timeunit_coercion rv.figure rx.figure ∙ eqb-true _ v.figure (and_snd (eqb x.kind 22) _ r) ∙ sym rv.figure in
-        keeps_core high (omega (arith, kx)) (omega (arith, kv)) (λ q. omega (arith, kv, q))
+        keeps_core high (omega (arith, kx)) (omega (arith, kv)) (λ k q. omega (arith, kv, q))
         (stamp_stays inner t _ (typed_right inner core_typed).0.0 (typed_right t a).0.0 (rv.kind ∙ kv) (rx.kind ∙ kx) zone unit)
 
     module _ (px : is_plain x ≡ true) (pv : is_plain v ≡ true) {new old : Leaf} (en : new ≡ leaf_of x) (eo : old ≡ leaf_of v) where
@@ -368,6 +383,6 @@ module _ (mask : ℕ) where
           bare = no_wrapper c.shape.kind (omega (arith, (typed_reads d eh).kind))
 
       -- one that is
-      pub keeps_under : 32 ≤ h.kind → (v.kind ≡ 27 → ⊥) → ((l r u : DataType) → Valued old l → Valued new r → Valued old u → coercion rules l r ≡ Some u) → coercion rules t c ≡ Some c
+      pub keeps_under : 32 ≤ h.kind → gives_way v.kind (inner_kind c) ≡ false → ((l r u : DataType) → Valued old l → Valued new r → Valued old u → coercion rules l r ≡ Some u) → coercion rules t c ≡ Some c
       keeps_under high n f =
-          keeps_core high (leaf_low x px refl) (leaf_low v pv refl) n (f inner t inner core_valued new_valued core_valued)
+          keeps_core high (leaf_low x px refl) (leaf_low v pv refl) (λ k q. never (sym (rw (k, eq-eqb v.kind 27 q) at n))) (f inner t inner core_valued new_valued core_valued)

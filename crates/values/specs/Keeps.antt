@@ -1,6 +1,7 @@
 -- The core of a candidate, and when it alone changes or stays as it is.
 use Rattle.std.specs.Prelude.{◌≡◌, ℕ, ◌<◌, Bool, false, cond, ◌&&◌, List, eqb}
 use Rattle.std.specs.Prelude.{Option, None, Some}
+use Rattle.std.specs.List.{last_or}
 use Rattle.sheet.specs.Kind as Kind
 use Rattle.sheet.specs.Types.{Shape, Fields, end, field}
 use Rattle.sheet.specs.Head.{zoned_in}
@@ -12,7 +13,7 @@ use Rattle.buffers.specs.Goal.{type_of}
 use Rattle.buffers.specs.Typed.{Typed}
 use Rattle.buffers.specs.declared.Space.{Space}
 use Rattle.buffers.specs.declared.Step.{Step}
-use Rattle.wrappers.specs.Ways.{is_wrapper}
+use Rattle.wrappers.specs.Ways.{is_wrapper, wrappers_of}
 
 -- the core of a type: the value below all its wrappers
 unfoldable pub core_of : Shape → Fields → DataType
@@ -49,6 +50,19 @@ pub record CoreAt (space : Space) (s : List ℕ) (r k : ℕ) : Type 0 where
 abbrev pub CoreIf : Space → List ℕ → Option ℕ → Type 0
 CoreIf space s (Some k) = CoreAt space s 1 k
 CoreIf space s None = Unit
+
+-- the kind of the wrapper directly around the core of a type, if there is one
+abbrev pub inner_kind : DataType → Option ℕ
+inner_kind t = last_or None (wrappers_of t.shape t.parts)
+
+-- that kind, or none, is the one of the type of record r, whatever type that is
+pub record InnerAt (space : Space) (s : List ℕ) (r : ℕ) (kind : Option ℕ) : Type 0 where
+  pub is : (t : DataType) → Typed space s r t → inner_kind t ≡ kind
+
+-- whether a core of kind k, in a wrapper of kind w if there is one, is Utf8View in a Dictionary
+abbrev pub gives_way : ℕ → Option ℕ → Bool
+gives_way k None = false
+gives_way k (Some w) = eqb k Kind.utf8_view && eqb w Kind.dictionary
 
 -- whether a Timestamp with a zone stays as it is to the left of a Timestamp
 abbrev pub stays_zoned : Head → Head → Bool

@@ -1,11 +1,10 @@
 use mathlib.Core.Path.{sym, ◌∙◌}
-use native.Mathlib.Omega.{arith}
 use Rattle.values.proofs.Keeping.{keeps_alone, keeps_under, keeps_zoned}
 use Rattle.values.proofs.keep.keeps.Goals as goal
 
-pub returns-then-not-is_view : goal.returns-then-not-is_view
-returns-then-not-is_view c =
-    λ z at t y a d. keeps_under c.args.mask _ _ _ c.head_at-x.ensures.0 c.head_at-v.ensures.0 c.head_at-wrapped.ensures.0 at t y a d (sym c.is_plain.ensures ∙ c.if-is_plain.true) (sym c.is_plain-then-is_plain.ensures ∙ c.if-is_plain-2.true) c.leaf_of-new.ensures.0 c.leaf_of-old.ensures.0 c.if-wrapped.true (λ q. omega (arith, q)) (c.is_common.ensures z)
+pub returns-then-not-gives_way : goal.returns-then-not-gives_way
+returns-then-not-gives_way c =
+    λ z at t y a d. keeps_under c.args.mask _ _ _ c.head_at-x.ensures.0 c.head_at-v.ensures.0 c.head_at-wrapped.ensures.0 at t y a d (sym c.is_plain.ensures ∙ c.if-is_plain.true) (sym c.is_plain-then-is_plain.ensures ∙ c.if-is_plain-2.true) c.leaf_of-new.ensures.0 c.leaf_of-old.ensures.0 c.if-wrapped.true (sym (c.gives_way.ensures y d) ∙ c.if-not-gives_way.true) (c.is_common.ensures z)
 
 pub returns-else-wrapped : goal.returns-else-wrapped
 returns-else-wrapped c =
