@@ -1,13 +1,14 @@
 -- Fields that are fed by their names: on trees, and in the chains of two sources. Assumes nothing.
 use mathlib.Core.Path.{◌≡◌, refl, ap, ap₂, sym, subst, ◌∙◌}
 use Rattle.std.proofs.lemmas.Option.{none-some}
+use Rattle.std.proofs.lemmas.List.Elements.{All-replicate}
 use mathlib.Core.Bool.{Bool, true, false, ◌||◌}
 use mathlib.Core.Logic.{inl, inr}
-use mathlib.Core.List.{List, [], ◌∷◌}
+use mathlib.Core.List.{List}
 use Rattle.std.specs.Prelude.{Option, None, Some}
-use Prim.Native.Nat.{ℕ, zero, suc, ◌+◌, ◌*◌, ◌<◌, ◌≤◌}
+use Prim.Native.Nat.{ℕ, suc, ◌+◌, ◌*◌, ◌<◌, ◌≤◌}
 use native.Mathlib.Omega.{arith}
-use lib.ListN.{length, drop, set, replicate, length-take}
+use lib.ListN.{length, drop, replicate, length-take}
 use lib.Dec.{eqb, eqb-suc-suc}
 use borrow.Author.Tests.{eq-eqb, ne_eqb}
 use Rattle.sheet.specs.Types.{Shape, Fields, end, field, arity, count, labels}
@@ -27,11 +28,10 @@ use Rattle.buffers.specs.Typed.{Chain}
 use Rattle.buffers.specs.Feeds.{EndOf}
 use Rattle.buffers.specs.Source.{Source}
 use Rattle.buffers.specs.Partners.{same_order}
-use Rattle.partners.specs.Naming.{Picks, Finds, Pairs, Tried, Guess, Guides, noted, Notes, Matched}
+use Rattle.partners.specs.Naming.{Picks, Finds, Pairs, Tried, Within, Member, Lists, noted, Notes, Matched}
 use Rattle.buffers.specs.declared.Space.{Space}
 use Rattle.buffers.proofs.Sources.{source_none, source_lower, link_inside, read_name}
 use Rattle.buffers.proofs.Chained.{held_next}
-use Rattle.buffers.proofs.Partnering.{zeros}
 use Rattle.partners.proofs.Noting.{noted_long, notes_trans, noted_says}
 
 -- a name has at most 255 bytes
@@ -249,45 +249,37 @@ Asks F space s t floor l r b = (a o up : ℕ) (lf rf : Fields) → Held space s 
 pub asks_past : (F : Fields → Fields → Bool) (space : Space) (s t : List ℕ) (floor l r : ℕ) (b : Bool) → floor < l → space.n ≤ l → Asks F space s t floor l r b
 asks_past F space s t floor l r b lo hi a o up lf rf x y = absurd (held_past lf lo hi x)
 
--- records of a chain that are tried: its first, and the next
-pub guess_first : {space : Space} {s : List ℕ} {link : ℕ} {t : Fields} → Chain space s link t → Guess space s link t
-guess_first {t = t} c p = record { fields = t; chain = c; ends = end_self t }
+-- records of the chain at a link, in a buffer of n records: none, lists of none, its first, and the next
+module _ (n : ℕ) (s : List ℕ) (link : ℕ) where
+  pub within_none : Within n s link 0
+  within_none space t en c p = absurd (omega arith)
 
-pub guess_next : (space : Space) (s : List ℕ) (link : ℕ) (h : Head) → h ≡ head_at s link → 0 < link → (t : Fields) → Guess space s link t → Guess space s h.next t
-guess_next space s link h e p t f q = go (f p).fields (f p).chain (f p).ends
-  where
-    go : (u : Fields) → Chain space s link u → EndOf u t → Tried space s h.next t
-    go end c k = absurd (omega (arith, c.held.source.leads.is))
-    go (field label nullable shape parts rest) c k =
-        record {
-          fields = rest;
-          chain = record { floor = link; at = _; label = _; up = _; held = held_next c.held h e };
-          ends = end_next label nullable shape parts rest t k;
-        }
+  pub lists_none : Lists n s link (replicate 1024 0)
+  lists_none = All-replicate (Member n s link) 1024 0 (omega arith, within_none)
 
--- a record that is tried, and has the name
-pub tried_here : (n : ℕ) (t want : List ℕ) (j : ℕ) (h : Head) → h ≡ head_at t j → 0 < j → true ≡ same_bytes want (label_at t n h.name h.nlen)
-    → (space : Space) (rf : Fields) → n ≡ space.n → Guess space t j rf → Picks space t want rf j
-tried_here n t want j h e p b space rf en f = go (f p).fields (f p).chain (f p).ends
-  where
-    go : (u : Fields) → Chain space t j u → EndOf u rf → Picks space t want rf j
-    go end c k = absurd (omega (arith, c.held.source.leads.is))
-    go (field label nullable shape parts rest) c k = picks_here n t want j h e p b space en rf c k
+  pub within_first : Within n s link link
+  within_first space t en c p = record { fields = t; chain = c; ends = end_self t }
 
--- no record, and the lists of an index that has none
-pub guess_none : (space : Space) (s : List ℕ) (t : Fields) → Guess space s 0 t
-guess_none space s t p = absurd (omega arith)
+  module _ (j : ℕ) (h : Head) (e : h ≡ head_at s j) (past : 0 < j) (w : Within n s link j) where
+    pub within_next : Within n s link h.next
+    within_next space t en c p = go (w space t en c past).fields (w space t en c past).chain (w space t en c past).ends
+      where
+        go : (u : Fields) → Chain space s j u → EndOf u t → Tried space s h.next t
+        go end d k = absurd (omega (arith, d.held.source.leads.is))
+        go (field label nullable shape parts rest) d k =
+            record {
+              fields = rest;
+              chain = record { floor = j; at = _; label = _; up = _; held = held_next d.held h e };
+              ends = end_next label nullable shape parts rest t k;
+            }
 
-pub guides_none : (space : Space) (s : List ℕ) (t : Fields) (m : ℕ) → Guides space s t (replicate m 0)
-guides_none space s t m k = subst (λ (j : ℕ). Guess space s j t) (sym (zeros m k)) (guess_none space s t)
-
--- a record is put into a list
-pub guides_set : (space : Space) (s : List ℕ) (t : Fields) (ks : List ℕ) (i j : ℕ) → Guides space s t ks → Guess space s j t → Guides space s t (set ks i j)
-guides_set space s t [] i j f g k = f k
-guides_set space s t (x ∷ ks) zero j f g zero = g
-guides_set space s t (x ∷ ks) zero j f g (suc k) = f (suc k)
-guides_set space s t (x ∷ ks) (suc i) j f g zero = f zero
-guides_set space s t (x ∷ ks) (suc i) j f g (suc k) = guides_set space s t ks i j (λ m. f (suc m)) g k
+    -- one that has the name
+    pub within_here : (want : List ℕ) → true ≡ same_bytes want (label_at s n h.name h.nlen) → Finds n s want link j
+    within_here want b space t en c = go (w space t en c past).fields (w space t en c past).chain (w space t en c past).ends
+      where
+        go : (u : Fields) → Chain space s j u → EndOf u t → Picks space s want t j
+        go end d k = absurd (omega (arith, d.held.source.leads.is))
+        go (field label nullable shape parts rest) d k = picks_here n s want j h e past b space en t d k
 
 -- the test for all names under way, in buffers of n records: what its rest says of the whole, and what was noted
 pub record Matching (n : ℕ) (s t : List ℕ) (floor l r key : ℕ) (old : List ℕ) (low i : ℕ) (table : List ℕ) : Type 0 where

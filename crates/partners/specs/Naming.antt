@@ -1,7 +1,9 @@
 -- The search for a name in a chain, the table of what was found, and the rows that it feeds.
 use Rattle.std.specs.Prelude.{◌≡◌, ℕ, ◌+◌, ◌*◌, ◌-◌, ◌/◌, ◌<◌, ◌≤◌, Bool, false, cond, ◌&&◌, ◌||◌, List, ◌⊎◌, length, get_or, set, ltb}
+use Rattle.std.specs.List.{All}
 use Rattle.sheet.specs.Types.{Shape, Fields, field}
-use Rattle.sheet.specs.Head.{nullable_in}
+use Rattle.sheet.specs.Head.{head_at, nullable_in}
+use Rattle.sheet.specs.Read.{label_at}
 use Rattle.sheet.specs.Names.{has_name, mixed}
 use Rattle.sheet.specs.declared.Head.{Head}
 use Rattle.coercion.specs.Nested.{fields_have_same_names}
@@ -26,28 +28,35 @@ abbrev pub Pairs : Space → List ℕ → List ℕ → ℕ → ℕ → ℕ → T
 Pairs space s t l r found =
     (name : List ℕ) (nullable : Bool) (shape : Shape) (parts rest rf : Fields) → Chain space s l (field name nullable shape parts rest) → Chain space t r rf → Picks space t name rf found
 
+-- the name of record j
+abbrev pub name_of : List ℕ → ℕ → ℕ → List ℕ
+name_of s n j = label_at s n (head_at s j).name (head_at s j).nlen
+
 -- a record of a chain, whose name is tried before the chain is searched
 pub record Tried (space : Space) (s : List ℕ) (link : ℕ) (t : Fields) : Type 0 where
   pub fields : Fields
   pub chain : Chain space s link fields
   pub ends : EndOf fields t
 
--- a link that is 0, or leads to a record of a chain
-abbrev pub Guess : Space → List ℕ → ℕ → Fields → Type 0
-Guess space s link t = 0 < link → Tried space s link t
-
 -- an index of a chain by its names has a row for each of 1,024 values of the upper bits of a number that goes by their bytes
 abbrev pub row_for : List ℕ → ℕ
 row_for name = mixed 0 name / 4194304
 
--- each number of a list is 0 or leads to a record of a chain
-abbrev pub Guides : Space → List ℕ → Fields → List ℕ → Type 0
-Guides space s t ks = (k : ℕ) → Guess space s (get_or ks k 0) t
+-- a link that is 0, or leads to a record of whatever chain stands at another, in a buffer of n records
+abbrev pub Within : ℕ → List ℕ → ℕ → ℕ → Type 0
+Within n s link j = (space : Space) (t : Fields) → n ≡ space.n → Chain space s link t → 0 < j → Tried space s j t
 
--- the rows of an index lead to records of whatever chain stands at a link
+-- the same, below 1,024
+abbrev pub Member : ℕ → List ℕ → ℕ → ℕ → Type 0
+Member n s link j = (j < 1024) × Within n s link j
+
+-- each number of a list is one of those
+abbrev pub Lists : ℕ → List ℕ → ℕ → List ℕ → Type 0
+Lists n s link = All (Member n s link)
+
+-- the rows of an index, and what stands before each record in its row, lead to records of whatever chain stands at a link
 abbrev pub Indexed : ℕ → List ℕ → ℕ → List ℕ → List ℕ → Type 0
-Indexed n s link heads olds =
-    (space : Space) (t : Fields) → n ≡ space.n → Chain space s link t → Guides space s t heads × Guides space s t olds
+Indexed n s link heads olds = Lists n s link heads × Lists n s link olds
 
 -- what a table says of record i of a side; 0 where it has no place for it
 abbrev pub entry_of : List ℕ → Bool → ℕ → ℕ

@@ -1,8 +1,7 @@
 // The search for a name in a chain by an index of its names.
 ghost use Rattle.std.specs.Prelude.{◌≡◌, ◌<◌, ◌≤◌, length};
-ghost use Rattle.sheet.specs.Types.{Fields};
-ghost use Rattle.buffers.specs.declared.Space.{Space};
-ghost use Rattle.partners.specs.Naming.{Finds, Picks, Guess, Guides, Indexed, row_for};
+ghost use Rattle.std.specs.Option.{IfSome};
+ghost use Rattle.partners.specs.Naming.{Finds, Indexed, row_for};
 
 use crate::search::{find, is_named};
 use sheet::label::{label_at, mix};
@@ -58,36 +57,22 @@ impl Index {
         }
     }
 
-    // A record that has a name, of a row that begins at `from`; 0 where none is found.
-    fn find_in_row(&self, t: &[u8], n: usize, want: &[u8], from: usize) -> usize
-        requires { (n ≤ 1024) × (length want.now ≤ 255) }
-        ensures { (result < 1024) × ((space : Space) (rf : Fields) → n ≡ space.n → Guess space t.now from rf → Guides space t.now rf self.now.olds → 0 < result → Picks space t.now want.now rf result) }
+    // A field of the chain at r that has a name; 0 where there is none. The index says which are tried first. None where eight of a row were tried in
+    // vain: a row is longer where names are made to fall into it.
+    pub(crate) fn look_up(&self, t: &[u8], n: usize, want: &[u8], r: usize) -> Option<usize>
+        requires { ((n ≤ 1024) × (length want.now ≤ 255)) × Indexed n t.now r self.now.heads self.now.olds }
+        ensures { IfSome result (λ j. (j < 1024) × Finds n t.now want.now r j) }
     {
-        let mut low = n;
-        let mut j = from;
-        while 0 < j {
-            if low <= j {
-                return 0;
+        let mut j = usize::from(self.heads[row_at(want)]);
+        for _ in 0..8 {
+            if j == 0 {
+                return Some(find(t, n, want, r));
             }
-            let h = head_at(t, j);
-            if is_named(t, n, h, want) {
-                return j;
+            if is_named(t, n, head_at(t, j), want) {
+                return Some(j);
             }
-            low = j;
             j = usize::from(self.olds[j]);
         }
-        0
-    }
-
-    // A field of the chain at r that has a name; 0 where there is none. The index says which are tried first.
-    pub(crate) fn look_up(&self, t: &[u8], n: usize, want: &[u8], r: usize) -> usize
-        requires { ((n ≤ 1024) × (length want.now ≤ 255)) × Indexed n t.now r self.now.heads self.now.olds }
-        ensures { (result < 1024) × Finds n t.now want.now r result }
-    {
-        let j = self.find_in_row(t, n, want, usize::from(self.heads[row_at(want)]));
-        if 0 < j {
-            return j;
-        }
-        find(t, n, want, r)
+        None
     }
 }

@@ -3,6 +3,7 @@
 
 mod index;
 pub mod names;
+mod order;
 pub mod rows;
 mod search;
 mod table;

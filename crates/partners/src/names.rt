@@ -11,6 +11,7 @@ ghost use Rattle.buffers.specs.declared.Space.{Space};
 ghost use Rattle.partners.specs.Naming.{Indexed, Matched};
 
 use crate::index::Index;
+use crate::order::are_ordered;
 use crate::search::{find, is_named};
 use crate::table::{key_of, note};
 use buffers::Space;
@@ -63,7 +64,7 @@ pub fn in_order(
 }
 
 // Whether each name of the chain at a link of s is one of the chain at a link of t, of which there is an index. Those that are found are noted in a table,
-// from a key on.
+// from a key on. Where a row of the index is long, the rest are looked for in order.
 fn are_listed(
     s: &[u8],
     t: &[u8],
@@ -85,7 +86,9 @@ fn are_listed(
             return false;
         }
         let g = head_at(s, i);
-        let j = index.look_up(t, n, label_at(s, n, g.name, g.nlen), r);
+        let Some(j) = index.look_up(t, n, label_at(s, n, g.name, g.nlen), r) else {
+            return are_ordered(s, t, n, low, i, r, key, table);
+        };
         if j == 0 {
             return false;
         }

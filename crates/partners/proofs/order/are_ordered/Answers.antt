@@ -1,0 +1,14 @@
+use Rattle.std.proofs.lemmas.List.Elements.{All-take}
+use Rattle.std.proofs.lemmas.List.Sorted.{All-permutation}
+use Rattle.partners.specs.Naming.{Member}
+use Rattle.partners.proofs.Naming.{lists_none}
+use Rattle.partners.proofs.order.are_ordered.Goals as goal
+
+pub list-k-requires : goal.list-k-requires
+list-k-requires c =
+    (c.requires.0, lists_none _ _ _)
+
+pub are_among-requires : goal.are_among-requires
+are_among-requires c =
+    let M = Member c.args.n c.args.t.now c.args.r in
+    (c.requires, All-permutation M _ _ c.sort_unstable_by.ensures.permutation (All-take M c.list-k.result _ c.list-k.ensures.1))
