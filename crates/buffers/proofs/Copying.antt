@@ -69,13 +69,13 @@ pub moved_name : (label : ℕ) (l : List ℕ) → moved_label label (length l) �
 moved_name label [] = refl
 moved_name label (b ∷ bs) = rw (ne_eqb (suc (length bs)) 0 (omega arith))
 
-moved_link_lem : (r at x : ℕ) (t : Fields) → at + x < 65536 → 0 < x → moved_link (link_to (r + x) t) r at ≡ link_to (at + x) t
+pub moved_link_lem : (r at x : ℕ) (t : Fields) → at + x < 65536 → 0 < x → moved_link (link_to (r + x) t) r at ≡ link_to (at + x) t
 moved_link_lem r at x end h pos = rw (le-ltb r 0 (omega arith))
 moved_link_lem r at x (field name nullable shape parts rest) h pos =
     let e : at + (r + x - r) ≡ at + x = omega arith in
     rw (lt-ltb r (r + x) (omega arith)) (rw e (rw (lt-ltb (at + x) 65536 h) refl))
 
-moved_zone : (o place size : ℕ) (nullable sorted : Bool) (name : List ℕ) (zone : Zone) → o + length name < 65536 → Label (zone_bytes zone)
+pub moved_zone : (o place size : ℕ) (nullable sorted : Bool) (name : List ℕ) (zone : Zone) → o + length name < 65536 → Label (zone_bytes zone)
     → cond (eqb (flags_of nullable sorted zone / 4 % 2) 1)
     (moved_label place (quad_of (o + length name) size zone / 65536 % 256) + 65536 * (quad_of (o + length name) size zone / 65536 % 256))
     (quad_of (o + length name) size zone)

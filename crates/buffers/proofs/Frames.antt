@@ -1,17 +1,20 @@
 -- What stands in bytes stands in others that agree with them. Assumes nothing.
 use mathlib.Core.Path.{◌≡◌, refl, ap, ap₂, sym, ◌∙◌}
-use mathlib.Core.Bool.{Bool, cond}
+use mathlib.Core.Bool.{Bool, true, false, cond}
 use mathlib.Core.List.{List, [], ◌∷◌, ◌++◌}
 use Prim.Native.Nat.{ℕ, ◌+◌, ◌*◌, ◌-◌, ◌/◌, ◌<◌, ◌≤◌}
 use native.Mathlib.Omega.{arith}
 use lib.ListN.{length, get_or, drop, length-append, length-drop}
 use lib.Seq.{get_or-drop}
 use lib.Dec.{ltb}
+use borrow.Author.Tests.{ltb-true}
+use Rattle.sheet.specs.Tests.{between}
+use Rattle.sheet.specs.Kind.{is_kind}
 use Rattle.sheet.specs.Types.{Shape, Fields, end, field, count, own_labels, labels}
 use Rattle.sheet.specs.Head.{head_at, head_from, blank}
 use Rattle.sheet.specs.Holds.{Span, Stands, Holds}
 use Rattle.sheet.specs.declared.Head.{Head}
-use Rattle.sheet.proofs.Spans.{at_span, span_at, span_inside, span_nil}
+use Rattle.sheet.proofs.Spans.{at_eq, at_span, span_at, span_inside, span_nil}
 use Rattle.buffers.specs.Region.{region, Kept, Held}
 use Rattle.buffers.specs.declared.Space.{Space}
 
@@ -24,41 +27,48 @@ span_frame v [] l f a = span_nil
 span_frame {w} v {i} (b ∷ bs) l f a =
     at_span v i (b ∷ bs) (omega (arith, span_inside (omega arith) a)) (λ j q. f (i + j) (omega arith) (omega arith) ∙ span_at j q a)
 
-pub head_bytes : (w v : List ℕ) (r : ℕ) → Agree w v (16 * r) (16 * r + 16) → head_from v (16 * r) ≡ head_from w (16 * r)
-head_bytes w v r f =
+-- the sixteen bytes of record r of w stand as record q of v
+pub head_moved : (w v : List ℕ) (r q : ℕ) → ((k : ℕ) → k < 16 → get_or v (16 * q + k) 0 ≡ get_or w (16 * r + k) 0) → head_from v (16 * q) ≡ head_from w (16 * r)
+head_moved w v r q f =
     λ i.
     record {
-      kind = first i;
-      flags = at 1 (omega arith) i;
-      figure = at 2 (omega arith) i;
-      scale = at 3 (omega arith) i;
+      kind = at (16 * q) (16 * r) 0 (omega arith) (omega arith) (omega arith) i;
+      flags = f 1 (omega arith) i;
+      figure = f 2 (omega arith) i;
+      scale = f 3 (omega arith) i;
       quad = ap₂ (λ (a b : ℕ). a + 65536 * b) (word 4 (omega arith)) high i;
       first = word 8 (omega arith) i;
       next = word 10 (omega arith) i;
       name = word 12 (omega arith) i;
-      nlen = at 14 (omega arith) i;
-      last = at 15 (omega arith) i;
+      nlen = f 14 (omega arith) i;
+      last = f 15 (omega arith) i;
     }
   where
-    at : (k : ℕ) → k < 16 → get_or v (16 * r + k) 0 ≡ get_or w (16 * r + k) 0
-    at k q = f (16 * r + k) (omega arith) (omega arith)
+    at : (i j k : ℕ) → i ≡ 16 * q + k → j ≡ 16 * r + k → k < 16 → get_or v i 0 ≡ get_or w j 0
+    at i j k a b h = at_eq v a ∙ f k h ∙ sym (at_eq w b)
 
-    two : (k : ℕ) → k < 15 → get_or v (16 * r + k + 1) 0 ≡ get_or w (16 * r + k + 1) 0
-    two k q = f (16 * r + k + 1) (omega arith) (omega arith)
+    word : (k : ℕ) → k < 15 → get_or v (16 * q + k) 0 + 256 * get_or v (16 * q + k + 1) 0 ≡ get_or w (16 * r + k) 0 + 256 * get_or w (16 * r + k + 1) 0
+    word k h = ap₂ (λ (a b : ℕ). a + 256 * b) (f k (omega arith)) (at (16 * q + k + 1) (16 * r + k + 1) (k + 1) (omega arith) (omega arith) (omega arith))
 
-    first : get_or v (16 * r) 0 ≡ get_or w (16 * r) 0
-    first = f (16 * r) (omega arith) (omega arith)
+    high : get_or v (16 * q + 4 + 2) 0 + 256 * get_or v (16 * q + 4 + 2 + 1) 0 ≡ get_or w (16 * r + 4 + 2) 0 + 256 * get_or w (16 * r + 4 + 2 + 1) 0
+    high = ap₂ (λ (a b : ℕ). a + 256 * b) (at (16 * q + 4 + 2) (16 * r + 4 + 2) 6 (omega arith) (omega arith) (omega arith)) (at (16 * q + 4 + 2 + 1) (16 * r + 4 + 2 + 1) 7 (omega arith) (omega arith) (omega arith))
 
-    word : (k : ℕ) → k < 15 → get_or v (16 * r + k) 0 + 256 * get_or v (16 * r + k + 1) 0 ≡ get_or w (16 * r + k) 0 + 256 * get_or w (16 * r + k + 1) 0
-    word k q = ap₂ (λ (a b : ℕ). a + 256 * b) (at k (omega arith)) (two k q)
-
-    high : get_or v (16 * r + 4 + 2) 0 + 256 * get_or v (16 * r + 4 + 2 + 1) 0 ≡ get_or w (16 * r + 4 + 2) 0 + 256 * get_or w (16 * r + 4 + 2 + 1) 0
-    high = ap₂ (λ (a b : ℕ). a + 256 * b) (f (16 * r + 4 + 2) (omega arith) (omega arith)) (f (16 * r + 4 + 2 + 1) (omega arith) (omega arith))
+pub head_bytes : (w v : List ℕ) (r : ℕ) → Agree w v (16 * r) (16 * r + 16) → head_from v (16 * r) ≡ head_from w (16 * r)
+head_bytes w v r f = head_moved w v r r (λ k q. f (16 * r + k) (omega arith) (omega arith))
 
 pub head_frame : (w v : List ℕ) (r : ℕ) → length v ≡ length w → Agree w v (16 * r) (16 * r + 16) → head_at v r ≡ head_at w r
 unfolding head_at
 head_frame w v r l f =
     ap (λ (k : ℕ). cond (ltb r (k / 16)) (head_from v (16 * r)) blank) l ∙ ap (λ (h : Head). cond (ltb r (length w / 16)) h blank) (head_bytes w v r f)
+
+-- a record that has a kind lies inside
+pub record_inside : (s : List ℕ) (r : ℕ) (k : ℕ) → (head_at s r).kind ≡ k → is_kind k ≡ true → 16 * r + 16 ≤ length s
+unfolding head_at is_kind between
+record_inside s r k e q = go (ltb r (length s / 16)) refl e
+  where
+    go : (b : Bool) → ltb r (length s / 16) ≡ b → (cond b (head_from s (16 * r)) blank).kind ≡ k → 16 * r + 16 ≤ length s
+    go true z p = omega (arith, ltb-true r (length s / 16) z)
+    go false z p = let u = rw (sym p) at q in let y : ◌≡◌ {A = ℕ} 0 1 = cc in absurd (omega arith)
 
 -- a chain stands where its records and its labels are the same
 pub holds_frame : (w v : List ℕ) (n r o : ℕ) (t : Fields) → length v ≡ length w → Agree w v (16 * r) (16 * (r + count t)) → Agree w v (16 * n + o) (16 * n + (o + length (labels t)))
@@ -133,17 +143,22 @@ kept_wider at' label' p q a =
 pub kept_self : {space : Space} (w : List ℕ) (at label : ℕ) → Kept space w w at label
 kept_self w at label = record { long = refl; below = λ j q. refl; between = λ j lo hi. refl; above = λ j q. refl }
 
--- the same of one record
+-- a head of the second half stays where its bytes do
+pub region_head : (space : Space) (w v : List ℕ) (r : ℕ) → length v ≡ length w → Agree w v (space.half + 16 * r) (space.half + 16 * r + 16)
+    → head_at (region space v) r ≡ head_at (region space w) r
+region_head space w v r l f =
+    head_frame (drop space.half w) (drop space.half v) r
+    (length-drop space.half v ∙ ap (λ (x : ℕ). x - space.half) l ∙ sym (length-drop space.half w))
+    (λ j lo hi. get_or-drop space.half v j 0 ∙ f (space.half + j) (omega arith) (omega arith) ∙ sym (get_or-drop space.half w j 0))
+
+-- a record of the second half stays
 pub stands_frame : (space : Space) (w v : List ℕ) (at label r o : ℕ) {name : List ℕ} {nullable : Bool} {shape : Shape} {first next : ℕ} → r < at → o + length (own_labels name shape) ≤ label
     → Kept space w v at label → Stands (region space w) space.n r o name nullable shape first next → Stands (region space v) space.n r o name nullable shape first next
 stands_frame space w v at label r o {name} {nullable} {shape} h g k a =
-    let l = length-drop space.half v ∙ ap (λ (x : ℕ). x - space.half) k.long ∙ sym (length-drop space.half w) in
     record {
-      head =
-          head_frame (drop space.half w) (drop space.half v) r l
-          (λ j lo hi. get_or-drop space.half v j 0 ∙ k.below (space.half + j) (omega arith) ∙ sym (get_or-drop space.half w j 0))
-          ∙ a.head;
+      head = region_head space w v r k.long (λ j lo hi. k.below j (omega arith)) ∙ a.head;
       label =
-          span_frame {w = drop space.half w} (drop space.half v) (own_labels name shape) l
+          span_frame {w = drop space.half w} (drop space.half v) (own_labels name shape)
+          (length-drop space.half v ∙ ap (λ (x : ℕ). x - space.half) k.long ∙ sym (length-drop space.half w))
           (λ j lo hi. get_or-drop space.half v j 0 ∙ k.between (space.half + j) (omega arith) (omega arith) ∙ sym (get_or-drop space.half w j 0)) a.label;
     }

@@ -5,6 +5,10 @@ pub mod Puts
 pub mod Frames
 pub mod Copying
 pub mod Chained
+pub mod Spans
+pub mod Moving
+pub mod Seeking
+pub mod Spanning
 pub mod Partnering
 pub mod Laying
 pub mod Tying

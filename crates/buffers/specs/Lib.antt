@@ -10,3 +10,4 @@ pub mod Feeds
 pub mod Partners
 pub mod Plain
 pub mod Steps
+pub mod Span

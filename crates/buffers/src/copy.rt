@@ -11,7 +11,7 @@ use crate::write::{look, put_head, put_label};
 use crate::{Failure, Goal, Out, Space, Spot};
 use sheet::Head;
 
-fn moved_link(x: usize, link: usize, at: usize) -> usize
+pub(crate) fn moved_link(x: usize, link: usize, at: usize) -> usize
     requires { (x < 65536) × (at < 65536) }
     ensures { (result ≡ moved_link x link at) × (result < 65536) }
 {
@@ -29,14 +29,14 @@ pub(crate) fn moved_label(o: usize, len: usize) -> usize
 }
 
 // The length of a record's zone; 0 where it has none, and no Option, as so many bytes are copied.
-fn zone_bytes(h: Head) -> usize
+pub(crate) fn zone_bytes(h: Head) -> usize
     ensures { (result ≡ cond (zoned_in h) (zone_len h) 0) × (result < 256) }
 {
     if h.zoned() { h.zone_len() } else { 0 }
 }
 
 // Bytes 4 to 7 of a record whose zone belongs at a place.
-fn moved_quad(h: Head, label: usize) -> usize
+pub(crate) fn moved_quad(h: Head, label: usize) -> usize
     requires { (label < 65536) × Bounded h }
     ensures { (result ≡ cond (zoned_in h) (moved_label label (zone_len h) + 65536 * zone_len h) h.quad) × (result < 4294967296) }
 {

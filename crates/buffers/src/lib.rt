@@ -11,6 +11,7 @@ pub mod copy;
 pub mod field;
 pub mod lay;
 pub mod plain;
+pub mod span;
 pub mod stamp;
 pub mod write;
 

@@ -1,0 +1,135 @@
+// Copying records that stand one behind the other: their heads at once, then what differs in each head, and their labels at once.
+ghost use Rattle.std.specs.Prelude.{◌≡◌, cond, ◌+◌, ◌*◌, ◌≤◌, ◌<◌};
+ghost use Rattle.sheet.specs.Head.{zoned_in, zone_len};
+ghost use Rattle.sheet.specs.Bounds.{Bounded};
+ghost use Rattle.buffers.specs.Writes.{side};
+ghost use Rattle.buffers.specs.Region.{Room, Inside};
+ghost use Rattle.buffers.specs.Span.{relinked, relabelled, MovedHeads, LabelsBegin, CopiedSpan};
+
+use crate::copy::{moved_label, moved_link, moved_quad, zone_bytes};
+use crate::write::{look, put_head, put_label};
+use crate::{Failure, Out, Space, Spot};
+use sheet::Head;
+use sheet::record::head_from;
+
+// The head of a record that was moved with what its links lead to, from number link to number at.
+fn relinked(h: Head, link: usize, at: usize) -> Head
+    requires { (at < 65536) × Bounded h }
+    ensures { (result ≡ relinked h link at) × Bounded result }
+{
+    Head {
+        first: moved_link(h.first, link, at),
+        next: moved_link(h.next, link, at),
+        ..h
+    }
+}
+
+// The head of a record whose labels belong at a place.
+fn relabelled(h: Head, label: usize) -> Head
+    requires { (label + h.nlen < 65536) × Bounded h }
+    ensures { (result ≡ relabelled h label) × Bounded result }
+{
+    Head {
+        quad: moved_quad(h, label + h.nlen),
+        name: moved_label(label, h.nlen),
+        ..h
+    }
+}
+
+// Makes of heads that stand at a place, as they are from number link on, those of the records there. Each of the three cases puts its head itself, so that
+// no more is written than what it changes: a record takes 5 to 7 cycles in place of the 11 of one `put_head` for all.
+fn move_heads(work: &mut [u8], space: Space, link: usize, count: usize, to: Spot) -> Out
+    requires { Room work.old space × (Inside space to × (to.at + count ≤ space.n)) }
+    ensures { MovedHeads space work.old work.new link count to result }
+{
+    let mut at = to.at;
+    let mut label = to.label;
+    while at < to.at + count {
+        let h = head_from(&work[space.half..], 16 * at);
+        let g = relinked(h, link, to.at);
+        if h.zoned() {
+            let own = h.nlen + h.zone_len();
+            if space.m < label + own {
+                return Err(Failure::Full);
+            }
+            put_head(work, space.half + 16 * at, relabelled(g, label));
+            label += own;
+            at += 1;
+            continue;
+        }
+        if h.nlen == 0 {
+            put_head(work, space.half + 16 * at, g);
+            at += 1;
+            continue;
+        }
+        if space.m < label + h.nlen {
+            return Err(Failure::Full);
+        }
+        put_head(work, space.half + 16 * at, Head { name: label, ..g });
+        label += h.nlen;
+        at += 1;
+    }
+    Ok(Spot { at, label })
+}
+
+// Where the labels of the records of a side from number link up to end begin, where there are any.
+fn labels_from(sheet: &[u8], work: &[u8], swap: bool, link: usize, end: usize) -> usize
+    ensures { LabelsBegin (side swap sheet.now work.now) link end result }
+{
+    let mut at = link;
+    while at < end {
+        let h = look(sheet, work, swap, at);
+        if h.nlen != 0 {
+            return h.name;
+        }
+        if zone_bytes(h) != 0 {
+            return h.zone_at();
+        }
+        at += 1;
+    }
+    0
+}
+
+// Copies the records of a side from number link up to end, which stand one behind the other, with their labels, to a place. Links are moved with the records.
+pub fn copy_span(
+    sheet: &[u8],
+    work: &mut [u8],
+    space: Space,
+    swap: bool,
+    link: usize,
+    end: usize,
+    to: Spot,
+) -> Out
+    requires { Room work.old space × Inside space to }
+    ensures { CopiedSpan space (side swap sheet.now work.old) work.old work.new link end to result }
+{
+    if end <= link {
+        return Ok(to);
+    }
+    let count = end - link;
+    if space.n < end || space.n < to.at + count {
+        return Err(Failure::Full);
+    }
+    put_label(
+        sheet,
+        work,
+        swap,
+        16 * link,
+        16 * count,
+        space.half + 16 * to.at,
+    );
+    let d = move_heads(work, space, link, count, to)?;
+    if d.label == to.label {
+        return Ok(d);
+    }
+    let from = labels_from(sheet, &*work, swap, link, end);
+    put_label(
+        sheet,
+        work,
+        swap,
+        16 * space.n + from,
+        d.label - to.label,
+        space.half + 16 * space.n + to.label,
+    );
+    Ok(d)
+}
