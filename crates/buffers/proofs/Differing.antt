@@ -110,15 +110,24 @@ module _ (named : Bool) where
   -- two rows, of which the first begins at record i
   module _ (i d : ℕ) (name : List ℕ) (nullable : Bool) (shape : Shape) (parts rest : Fields) (name' : List ℕ) (nullable' : Bool) (shape' : Shape) (parts' rest' : Fields)
       (e : fields_differ named 0 i (field name nullable shape parts rest) (field name' nullable' shape' parts' rest') ≡ d) (past : i < d) where
+    abbrev tests : List Bool
+    tests = implies named (same_bytes name name') ∷ beq nullable nullable' ∷ same_shape shape shape' ∷ []
+
+    -- a difference past the record of the first row: its name is that of the other, where names count
+    pub row_named : implies named (same_bytes name name') ≡ true
+    unfolding fields_differ
+    row_named = go (all_of tests) _ refl e
+      where
+        go : (own : Bool) (p : ℕ) → all_of tests ≡ own → cond own p i ≡ d → implies named (same_bytes name name') ≡ true
+        go true p h e = all_at tests 0 h
+        go false p h e = absurd (omega arith)
+
     -- the rows are the same but for their parts, and these differ at d, or what is behind them
     split : (type_differs named i (type_of shape parts) (type_of shape' parts') ≡ fields_differ named i (i + 1) parts parts')
         × (((fields_differ named i (i + 1) parts parts' ≡ 0) × (fields_differ named 0 (i + 1 + count parts) rest rest' ≡ d)) ⊎ (fields_differ named i (i + 1) parts parts' ≡ d))
     unfolding fields_differ type_differs
     split = go (all_of tests) refl e
       where
-        tests : List Bool
-        tests = implies named (same_bytes name name') ∷ beq nullable nullable' ∷ same_shape shape shape' ∷ []
-
         place : (b : Bool) (p q : ℕ) → eqb p 0 ≡ b → cond b q p ≡ d → ((p ≡ 0) × (q ≡ d)) ⊎ (p ≡ d)
         place true p q h e = inl (eqb-true p 0 h, e)
         place false p q h e = inr e

@@ -15,5 +15,6 @@ pub mod Tying
 pub mod Fielding
 pub mod Stamping
 pub mod Rows
+pub mod Known
 pub mod Steps
 pub mod Turns

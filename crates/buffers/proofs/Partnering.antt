@@ -9,14 +9,14 @@ use Rattle.sheet.specs.Types.{Fields}
 use Rattle.buffers.specs.Writes.{side}
 use Rattle.buffers.specs.Region.{Kept}
 use Rattle.buffers.specs.Typed.{Chain}
-use Rattle.buffers.specs.Partners.{key_of, Partner, Partners}
+use Rattle.buffers.specs.Partners.{Partner, Partners}
 use Rattle.buffers.specs.declared.Space.{Space}
 use Rattle.buffers.proofs.Copying.{held_side}
 
 -- a table that says nothing
 pub partners_none : (space : Space) (s w table : List ℕ) → ((k : ℕ) → get_or table k 0 ≡ 0) → Partners space s w table
-partners_none space s w table z swap i q =
-    subst (Partner space (side swap s w) (side (not swap) s w) i) (sym (z (key_of swap i))) (λ p. absurd (omega arith))
+partners_none space s w table z swap i k q e =
+    subst (Partner space (side swap s w) (side (not swap) s w) i) (sym (z k)) (λ p. absurd (omega arith))
 
 pub zeros : (m k : ℕ) → ◌≡◌ {A = ℕ} (get_or (replicate m 0) k 0) 0
 zeros zero k = refl
@@ -44,10 +44,10 @@ chain_kept swap space s w v at label half k a =
 -- a table stays true while the second half is written
 pub partners_kept : (space : Space) (s w v : List ℕ) (at label : ℕ) (table : List ℕ) → space.half ≡ 16 * space.n + space.m → Kept space w v at label
     → Partners space s w table → Partners space s v table
-partners_kept space s w v at label table half k f swap i q p name nullable shape parts rest rf a b =
+partners_kept space s w v at label table half k f swap i x q e p name nullable shape parts rest rf a b =
     let back = kept_back k in
     let m =
-    f swap i q p name nullable shape parts rest rf (chain_kept swap space s v w at label half back a) (chain_kept (not swap) space s v w at label half back b) in
+    f swap i x q e p name nullable shape parts rest rf (chain_kept swap space s v w at label half back a) (chain_kept (not swap) space s v w at label half back b) in
     record {
       nullable = m.nullable;
       shape = m.shape;

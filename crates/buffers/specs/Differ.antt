@@ -1,5 +1,6 @@
 -- Where two types first differ, by the number of a record of the first. Records follow each other: a record's parts stand behind it, and its next behind them.
-use Rattle.std.specs.Prelude.{◌≡◌, ℕ, ◌+◌, Bool, cond, List, [], ◌∷◌, eqb}
+use Rattle.std.specs.Prelude.{◌≡◌, ℕ, ◌+◌, ◌<◌, ◌≤◌, Bool, false, cond, List, [], ◌∷◌, eqb, ltb}
+use Rattle.std.specs.Prelude.{Option, None, Some}
 use Rattle.std.specs.Bool.{beq}
 use Rattle.sheet.specs.Tests.{all_of, implies}
 use Rattle.sheet.specs.Types.{Shape, Fields, end, field, count}
@@ -39,3 +40,12 @@ DifferTypes s n i t m j named e =
 abbrev pub DifferChains : List ℕ → ℕ → ℕ → ℕ → List ℕ → ℕ → ℕ → Bool → ℕ → ℕ → Type 0
 DifferChains s n floor i t m j named d e =
     (r o up : ℕ) (a : Fields) (r' o' up' : ℕ) (b : Fields) → Source s n floor i r o up a → Source t m 0 j r' o' up' b → e ≡ fields_differ named d i a b
+
+-- a number that is known is that of the record at which two chains first differ, the first of which begins at record l; one below l says nothing
+abbrev pub RowsKnown : Option ℕ → Bool → ℕ → Fields → Fields → Type 0
+RowsKnown known named l lf pf = (d : ℕ) → known ≡ Some d → 0 < l → l ≤ d → fields_differ named 0 l lf pf ≡ d
+
+-- whether a number that is known is past record i
+abbrev pub known_past : Option ℕ → ℕ → Bool
+known_past None i = false
+known_past (Some d) i = ltb i d

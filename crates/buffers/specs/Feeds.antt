@@ -1,10 +1,11 @@
 -- Which fields of the right feed those of the left.
-use Rattle.std.specs.Prelude.{◌≡◌, ℕ, ◌<◌, Bool, false, not, ◌||◌, List, ◌⊎◌}
-use Rattle.std.specs.Prelude.{Some}
+use Rattle.std.specs.Prelude.{◌≡◌, ℕ, ◌<◌, Bool, true, false, not, ◌||◌, List, ◌⊎◌}
+use Rattle.std.specs.Prelude.{Option, Some}
 use Rattle.sheet.specs.Types.{Shape, Fields, end, field, arity}
 use Rattle.sheet.specs.Names.{repeats}
 use Rattle.coercion.specs.Data.{DataType}
 use Rattle.coercion.specs.Nested.{by_name}
+use Rattle.buffers.specs.Differ.{RowsKnown}
 use Rattle.buffers.specs.Writes.{side}
 use Rattle.buffers.specs.Typed.{Chain, Typed}
 use Rattle.buffers.specs.declared.Space.{Space}
@@ -47,11 +48,11 @@ pub record Fed (space : Space) (s : List ℕ) (feed : Feed) (nullable : Bool) (r
 abbrev pub Unfed : Fields → Fields → Type 0
 Unfed tf nf = (tf ≡ end) ⊎ (nf ≡ end)
 
--- what is said of a row
-pub record RowIs (space : Space) (swap : Bool) (s w : List ℕ) (feed : Feed) (l r p : ℕ) (row : Row) : Type 0 where
+-- what is said of a row, where something may be known of the names of both chains
+pub record RowIs (known : Option ℕ) (space : Space) (swap : Bool) (s w : List ℕ) (feed : Feed) (l r p : ℕ) (row : Row) : Type 0 where
   pub fed : (name : List ℕ) (nullable : Bool) (shape : Shape) (parts rest rf pf tf nf : Fields) → Chain space (side swap s w) l (field name nullable shape parts rest)
       → Chain space (side (not swap) s w) r rf → Chain space (side (not swap) s w) p pf → Feeds feed (field name nullable shape parts rest) rf pf tf nf
-      → 0 < row.partner → Fed space (side (not swap) s w) feed nullable rest rf row tf nf
+      → RowsKnown known true l (field name nullable shape parts rest) pf → 0 < row.partner → Fed space (side (not swap) s w) feed nullable rest rf row tf nf
   pub unfed : (name : List ℕ) (nullable : Bool) (shape : Shape) (parts rest rf pf tf nf : Fields) → Chain space (side swap s w) l (field name nullable shape parts rest)
       → Chain space (side (not swap) s w) r rf → Chain space (side (not swap) s w) p pf → Feeds feed (field name nullable shape parts rest) rf pf tf nf
-      → row.partner ≡ 0 → Unfed tf nf
+      → RowsKnown known true l (field name nullable shape parts rest) pf → row.partner ≡ 0 → Unfed tf nf

@@ -1,5 +1,5 @@
 -- A table of partners: for a record of a side, a chain of the other side and the field of that chain that has its name.
-use Rattle.std.specs.Prelude.{ℕ, ◌+◌, ◌/◌, ◌%◌, ◌<◌, Bool, true, false, not, cond, ◌&&◌, List, get_or}
+use Rattle.std.specs.Prelude.{◌≡◌, ℕ, ◌+◌, ◌/◌, ◌%◌, ◌<◌, Bool, true, false, not, cond, ◌&&◌, List, get_or}
 use Rattle.sheet.specs.Types.{Shape, Fields, end, field}
 use Rattle.sheet.specs.Names.{same_bytes}
 use Rattle.buffers.specs.Writes.{side}
@@ -16,19 +16,20 @@ pub record Present (space : Space) (s : List ℕ) (link : ℕ) (name : List ℕ)
   pub chain : Chain space s link (field name nullable shape parts rest)
   pub ends : EndOf (field name nullable shape parts rest) t
 
--- the place of record i of a side in the table
+-- the number of record i of a side: there are 1,024 of each
 abbrev pub key_of : Bool → ℕ → ℕ
 key_of swap i = cond swap (1024 + i) i
 
--- what an entry e says of record i of s: field e % 65536 of the chain at e / 65536 of t has the name of record i; 0 says nothing
+-- what an entry e says of record i of s: field e % 1024 of the chain at e / 1024 % 1024 of t has the name of record i; 0 says nothing
 abbrev pub Partner : Space → List ℕ → List ℕ → ℕ → ℕ → Type 0
 Partner space s t i e =
-    0 < e → (name : List ℕ) (nullable : Bool) (shape : Shape) (parts rest rf : Fields) → Chain space s i (field name nullable shape parts rest) → Chain space t (e / 65536) rf
-    → Present space t (e % 65536) name rf
+    0 < e → (name : List ℕ) (nullable : Bool) (shape : Shape) (parts rest rf : Fields) → Chain space s i (field name nullable shape parts rest) → Chain space t (e / 1024 % 1024) rf
+    → Present space t (e % 1024) name rf
 
--- each entry of a table is true
+-- each entry e of a table, at whatever place, is true of the record of which e / 1,048,576 is the number
 abbrev pub Partners : Space → List ℕ → List ℕ → List ℕ → Type 0
-Partners space s w table = (swap : Bool) (i : ℕ) → i < 1024 → Partner space (side swap s w) (side (not swap) s w) i (get_or table (key_of swap i) 0)
+Partners space s w table =
+    (swap : Bool) (i k : ℕ) → i < 1024 → get_or table k 0 / 1048576 ≡ key_of swap i → Partner space (side swap s w) (side (not swap) s w) i (get_or table k 0)
 
 -- the names of two chains are the same place by place, as far as the first goes
 unfoldable pub same_order : Fields → Fields → Bool

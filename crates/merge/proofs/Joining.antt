@@ -22,7 +22,8 @@ use Rattle.buffers.specs.Region.{Room, Kept, Inside, Grows, Wrote}
 use Rattle.buffers.specs.Goal.{letters, spot_of, field_for, Means, Tied}
 use Rattle.buffers.specs.Feeds.{Feeds, Fed, Unfed, RowIs}
 use Rattle.buffers.specs.Typed.{Chain, Typed, ChainIs, goal_at, NamedAt}
-use Rattle.merge.specs.Known.{Known, RowsKnown, row_known}
+use Rattle.buffers.specs.Differ.{RowsKnown}
+use Rattle.merge.specs.Known.{Known, row_known, known_names}
 use Rattle.merge.specs.Merge.{MergesKnown, Rowed}
 use Rattle.buffers.specs.declared.Space.{Space}
 use Rattle.buffers.specs.declared.Spot.{Spot}
@@ -38,7 +39,8 @@ use Rattle.buffers.proofs.Chained.{labels_sum}
 use Rattle.buffers.proofs.Tying.{tied_kept, chain_tied}
 use Rattle.merge.proofs.Merging.{chain_side, typed_side, chain_some, common_fits}
 use Rattle.buffers.proofs.Rows.{chain_link, chain_typed, chain_next}
-use Rattle.merge.proofs.Knowing.{next_at_lem, row_known_lem, rest_known}
+use Rattle.buffers.proofs.Known.{next_at_lem}
+use Rattle.merge.proofs.Knowing.{names_known, row_known_lem, rest_known}
 use Rattle.buffers.proofs.Fielding.{name_length_lem}
 
 -- the rows after the last field of the left, by what is left of the right at its place
@@ -120,19 +122,19 @@ module _ (known : Option ℕ) (named : Bool) (c : DataType → DataType → Opti
         means = rows_means w (Err NoType) z (λ name nullable shape parts rest rf pf tf nf a b q f h d. absurd (omega arith));
       }
 
-  pub rows_unfed : (row : Row) → ¬ (l ≡ 0) → RowIs space swap s w feed l r p row → row.partner ≡ 0 → Rowed known named c space left swap s w w feed l r p to (Err NoType)
+  pub rows_unfed : (row : Row) → ¬ (l ≡ 0) → RowIs (known_names named known) space swap s w feed l r p row → row.partner ≡ 0 → Rowed known named c space left swap s w w feed l r p to (Err NoType)
   rows_unfed row z is e =
       record {
         kept = kept_self w to.at to.label;
         grows = tt;
         means =
             rows_means w (Err NoType) z (λ name nullable shape parts rest rf pf tf nf a b q f h d.
-            rw (join_short c name nullable shape parts rest tf nf (is.unfed name nullable shape parts rest rf pf tf nf a b q f e)) tt);
+            rw (join_short c name nullable shape parts rest tf nf (is.unfed name nullable shape parts rest rf pf tf nf a b q f (names_known known named l _ pf d) e)) tt);
       }
 
 -- the first row of a chain was merged under its name, and the rows behind it
 module _ (known : Option ℕ) (named : Bool) (rules : Rules) (space : Space) (left : ℕ) (swap : Bool) (s w : List ℕ) (feed : Feed) (l r p : ℕ) (to : Spot) (room : Room w space) (inside : Inside space to)
-    (h : Head) (eh : h ≡ head_at (side swap s w) l) (z : ¬ (l ≡ 0)) (row : Row) (is : RowIs space swap s w feed l r p row) (lt : ¬ (row.partner ≡ 0))
+    (h : Head) (eh : h ≡ head_at (side swap s w) l) (z : ¬ (l ≡ 0)) (row : Row) (is : RowIs (known_names named known) space swap s w feed l r p row) (lt : ¬ (row.partner ≡ 0))
     (v : List ℕ) (b : Bool) (label : NamedAt space (side swap s w) w v h to b) where
   abbrev goal : Goal
   goal = goal_at to h.nlen row.nullable
@@ -168,8 +170,9 @@ module _ (known : Option ℕ) (named : Bool) (rules : Rules) (space : Space) (le
     -- the field that feeds the first row, and the types of both after the name was written
     fed : {name : List ℕ} {nullable : Bool} {shape : Shape} {parts rest rf pf tf nf : Fields} → Chain space (side swap s w) l (field name nullable shape parts rest)
         → Chain space (side (not swap) s w) r rf → Chain space (side (not swap) s w) p pf → Feeds feed (field name nullable shape parts rest) rf pf tf nf
-        → Fed space (side (not swap) s w) feed nullable rest rf row tf nf
-    fed {name} {nullable} {shape} {parts} {rest} {rf} {pf} {tf} {nf} a q k f = is.fed name nullable shape parts rest rf pf tf nf a q k f (omega arith)
+        → RowsKnown known named l (field name nullable shape parts rest) pf → Fed space (side (not swap) s w) feed nullable rest rf row tf nf
+    fed {name} {nullable} {shape} {parts} {rest} {rf} {pf} {tf} {nf} a q k f d =
+        is.fed name nullable shape parts rest rf pf tf nf a q k f (names_known known named l _ pf d) (omega arith)
 
     first : {name : List ℕ} {nullable : Bool} {shape : Shape} {parts rest : Fields} → Chain space (side swap s w) l (field name nullable shape parts rest)
         → Typed space (side swap s v) l (record { shape = shape; parts = parts })
@@ -197,7 +200,7 @@ module _ (known : Option ℕ) (named : Bool) (rules : Rules) (space : Space) (le
           grows = tt;
           means =
               rows_means known named both space left swap s w feed l r p to u (Err NoType) z (λ name nullable shape parts rest rf pf tf nf a q k f g df.
-              let d = fed a q k f in
+              let d = fed a q k f df in
               let x : DataType = record { shape = shape; parts = parts } in
               rw (join_fed name nullable shape parts rest rf tf nf d)
               (go 0 0 0 0 (both x d.type) (join_fields both rest d.more d.nulls) name (m.means x d.type (first a) (feeder d.partner) (omega (arith, ap (λ (y : Fields). count y) d.types)) (differs name nullable shape parts rest pf a k d df))));
@@ -216,7 +219,7 @@ module _ (known : Option ℕ) (named : Bool) (rules : Rules) (space : Space) (le
           grows = tt;
           means =
               rows_means known named both space left swap s w feed l r p to u (Err Full) z (λ name nullable shape parts rest rf pf tf nf a q k f g df.
-              let d = fed a q k f in
+              let d = fed a q k f df in
               let x : DataType = record { shape = shape; parts = parts } in
               let ct = ap (λ (y : Fields). count y) d.types in
               let lt = ap (λ (y : Fields). length (labels y)) d.types in
@@ -287,7 +290,7 @@ module _ (known : Option ℕ) (named : Bool) (rules : Rules) (space : Space) (le
             grows = tt;
             means =
                 rows_means known named both space left swap s w feed l r p to y (Err NoType) z (λ name nullable shape parts rest rf pf tf nf a q c f g df.
-                let i = fed a q c f in
+                let i = fed a q c f df in
                 let ct = ap (λ (x : Fields). count x) i.types in
                 let one = first_type name i.type a i.partner (omega arith) (differs name nullable shape parts rest pf a c i df) in
                 rw (join_fed name nullable shape parts rest rf tf nf i)
@@ -307,7 +310,7 @@ module _ (known : Option ℕ) (named : Bool) (rules : Rules) (space : Space) (le
             grows = tt;
             means =
                 rows_means known named both space left swap s w feed l r p to y (Err Full) z (λ name nullable shape parts rest rf pf tf nf a q c f g df.
-                let i = fed a q c f in
+                let i = fed a q c f df in
                 let ct = ap (λ (x : Fields). count x) i.types in
                 let lt = ap (λ (x : Fields). length (labels x)) i.types in
                 let lm = row_labels i.name i.own i.type.shape i.type.parts i.more in
@@ -331,7 +334,7 @@ module _ (known : Option ℕ) (named : Bool) (rules : Rules) (space : Space) (le
             grows = (k.grows.0, (omega (arith, m.writes.passes.1.0, k.grows.1.0), omega (arith, m.writes.passes.1.1, k.grows.1.1)));
             means =
                 rows_means known named both space left swap s w feed l r p to y' (Ok e') z (λ name nullable shape parts rest rf pf tf nf a q c f g df.
-                let i = fed a q c f in
+                let i = fed a q c f df in
                 let ct = ap (λ (x : Fields). count x) i.types in
                 let one = first_type name i.type a i.partner (omega arith) (differs name nullable shape parts rest pf a c i df) in
                 rw (join_fed name nullable shape parts rest rf tf nf i)

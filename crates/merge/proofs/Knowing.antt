@@ -17,18 +17,19 @@ use Rattle.sheet.specs.declared.Head.{Head}
 use Rattle.sheet.proofs.Reading.{holds_walk}
 use Rattle.coercion.specs.Data.{DataType}
 use Rattle.buffers.specs.Source.{type_of}
-use Rattle.buffers.specs.Differ.{fields_differ, type_differs}
+use Rattle.buffers.specs.Differ.{fields_differ, type_differs, RowsKnown}
 use Rattle.buffers.specs.Feeds.{EndOf, Feeds, Fed}
 use Rattle.buffers.specs.Typed.{Chain, Typed}
 use Rattle.buffers.specs.declared.Space.{Space}
 use Rattle.buffers.specs.declared.Row.{Row}
 use Rattle.buffers.specs.declared.Feed.{Feed}
-use Rattle.buffers.proofs.Sources.{source_first, source_next, link_is}
+use Rattle.buffers.proofs.Sources.{source_first, link_is}
 use Rattle.buffers.proofs.Differing.{from_link, fields_within, parts_differ, row_same, row_differs}
+use Rattle.buffers.proofs.Known.{row_begins, row_follows, next_at_lem, behind_known}
 use Rattle.partners.proofs.Naming.{end_next}
 use Rattle.buffers.proofs.Rows.{chain_next}
 use Rattle.wrappers.proofs.Values.{chain_first, Two}
-use Rattle.merge.specs.Known.{Known, RowsKnown, row_known}
+use Rattle.merge.specs.Known.{Known, row_known, known_names}
 
 -- one chain stands at a link
 chain_one : {space : Space} {s : List ℕ} {link : ℕ} (a b : Fields) → Chain space s link a → Chain space s link b → a ≡ b
@@ -57,14 +58,16 @@ typed_one {y = y} n c sh p q a b =
     let ep : y.parts ≡ p = cc in
     ap₂ type_of es ep
 
--- where the parts of a record, and the next record, begin
+-- where the parts of a record begin
 module _ {space : Space} {s : List ℕ} {link : ℕ} {name : List ℕ} {nullable : Bool} {shape : Shape} {parts rest : Fields}
     (c : Chain space s link (field name nullable shape parts rest)) (h : Head) (e : h ≡ head_at s link) where
   first_at_lem : h.first ≡ link_to (link + 1) parts
   first_at_lem = (source_first c.held.source h e).leads.is ∙ ap (λ (r : ℕ). link_to (r + 1) parts) (sym (link_is c.held.source))
 
-  pub next_at_lem : h.next ≡ link_to (link + 1 + count parts) rest
-  next_at_lem = (source_next c.held.source h e).leads.is ∙ ap (λ (r : ℕ). link_to (r + 1 + count parts) rest) (sym (link_is c.held.source))
+-- what is known of two chains, of their names
+pub names_known : (known : Option ℕ) (named : Bool) (l : ℕ) (lf pf : Fields) → RowsKnown known named l lf pf → RowsKnown (known_names named known) true l lf pf
+names_known known true l lf pf k = k
+names_known known false l lf pf k = λ d e. absurd (none-some d e)
 
 -- what is known of two types, of their parts
 pub parts_known : (known : Option ℕ) (named : Bool) {space : Space} {s : List ℕ} {l : ℕ} (x y : DataType) → Typed space s l x → (h : Head) → h ≡ head_at s l → Known known named l x y
@@ -107,26 +110,14 @@ behind_is Feed.NameThenPlace name shape parts n c sh p q i f = let a = f.nullabl
 -- a row at l, of which something may be known, and the record next that follows it
 module _ (known : Option ℕ) (named : Bool) {space : Space} {s : List ℕ} {l : ℕ} (name : List ℕ) (nullable : Bool) (shape : Shape) (parts rest : Fields)
     (a : Chain space s l (field name nullable shape parts rest)) (next : ℕ) (en : next ≡ link_to (l + 1 + count parts) rest) where
-  start : 0 < l
-  start = omega (arith, a.held.source.leads.is, a.held.source.leads.above)
-
-  there : (r : Fields) → next ≡ link_to (l + 1 + count parts) r → ¬ (next ≡ 0) → next ≡ l + 1 + count parts
-  there end e z = absurd (z e)
-  there (field n c sh p q) e z = e
-
-  -- of the rows behind it
-  behind_known : (n : List ℕ) (c : Bool) (sh : Shape) (p q : Fields) → RowsKnown known named l (field name nullable shape parts rest) (field n c sh p q)
-      → RowsKnown known named next rest q
-  behind_known n c sh p q k d f pos le =
-      let i = there rest en (λ z. omega arith) in
-      from_link named 0 (l + 1 + count parts) rest q en
-      ∙ (row_same named l d name nullable shape parts rest n c sh p q (k d f start (omega arith)) (omega arith) (omega arith)).1
+  begins : 0 < l
+  begins = row_begins name nullable shape parts rest a
 
   pub rest_known : {t : List ℕ} (feed : Feed) {rf tf nf : Fields} (pf : Fields) {row : Row} → Feeds feed (field name nullable shape parts rest) rf pf tf nf
       → (f : Fed space t feed nullable rest rf row tf nf) → RowsKnown known named l (field name nullable shape parts rest) pf → RowsKnown known named next rest f.behind
   unfolding fields_differ
-  rest_known feed end i f k = λ d e pos le. let z = there rest en (λ z. omega arith) in absurd (omega (arith, k d e start (omega arith)))
-  rest_known feed (field n c sh p q) i f k = subst (RowsKnown known named next rest) (sym (behind_is feed name shape parts n c sh p q i f)) (behind_known n c sh p q k)
+  rest_known feed end i f k = λ d e pos le. let z = row_follows rest en (λ z. omega arith) in absurd (omega (arith, k d e begins (omega arith)))
+  rest_known feed (field n c sh p q) i f k = subst (RowsKnown known named next rest) (sym (behind_is feed name shape parts n c sh p q i f)) (behind_known known named name nullable shape parts rest a next en n c sh p q k)
 
   -- of its own types, where it is fed from its place
   ended : (r : Fields) → next ≡ link_to (l + 1 + count parts) r → next ≡ 0 → count r ≡ 0
@@ -150,10 +141,10 @@ module _ (known : Option ℕ) (named : Bool) {space : Space} {s : List ℕ} {l :
       go : (u : Bool) → eqb next 0 ≡ u → (v : Bool) → ltb d next ≡ v → type_differs named l (type_of shape parts) (type_of sh p) ≡ cond (u || v) d 0
       go true eu v ev = row_differs named l d name nullable shape parts rest n c sh p q e lt (last (ended rest en (eqb-true next 0 eu)))
       go false eu true ev =
-          let i = there rest en (eqb-false next 0 eu) in
+          let i = row_follows rest en (eqb-false next 0 eu) in
           row_differs named l d name nullable shape parts rest n c sh p q e lt (omega (arith, ltb-true d next ev))
       go false eu false ev =
-          let i = there rest en (eqb-false next 0 eu) in
+          let i = row_follows rest en (eqb-false next 0 eu) in
           (row_same named l d name nullable shape parts rest n c sh p q e lt (omega (arith, ltb-false d next ev))).0
 
   pub row_known_lem : {t : List ℕ} {partner p : ℕ} (pf : Fields) {y : DataType} → Chain space t p pf → Typed space t partner y
@@ -165,7 +156,7 @@ module _ (known : Option ℕ) (named : Bool) {space : Space} {s : List ℕ} {l :
       fed d end e b k lt = absurd (omega (arith, b.held.source.leads.is, c.chain.held.source.leads.is, c.chain.held.source.leads.above))
       fed d (field n nb sh ps q) e b k lt =
           ap (λ (z : DataType). type_differs named l (type_of shape parts) z) (typed_one n nb sh ps q (subst (λ (i : ℕ). Typed space t i y) e c) b)
-          ∙ of_types d n nb sh ps q (k d refl start (omega arith)) lt
+          ∙ of_types d n nb sh ps q (k d refl begins (omega arith)) lt
 
       found : (d : ℕ) → RowsKnown (Some d) named l (field name nullable shape parts rest) pf → (u : Bool) → eqb partner p ≡ u → (v : Bool) → ltb l d ≡ v
           → Known (cond (u && v) (Some (cond (eqb next 0 || ltb d next) d 0)) None) named l (type_of shape parts) y

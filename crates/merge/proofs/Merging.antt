@@ -176,13 +176,17 @@ module _ (B : DataType → DataType → Option DataType) (space : Space) (left :
       }
 
   -- no common type
-  pub merges_none : ((x y : DataType) → Typed space (side swap s w) l x → Typed space (side (not swap) s w) r y → size x + size y ≤ left → None ≡ B x y)
-      → Merges B space left swap s w w l r g (Err NoType)
-  merges_none f =
+  pub known_none : (known : Option ℕ) (named : Bool) → ((x y : DataType) → Typed space (side swap s w) l x → Typed space (side (not swap) s w) r y → size x + size y ≤ left
+      → Known known named l x y → None ≡ B x y) → MergesKnown known named B space left swap s w w l r g (Err NoType)
+  known_none known named f =
       record {
         writes = record { kept = kept_self w g.at (g.label + g.nlen); passes = tt };
-        means = λ x y a b q. subst (Means space w w g (size x + size y) (letters x + letters y) (Err NoType)) (f x y a b q) tt;
+        means = λ x y a b q d. subst (Means space w w g (size x + size y) (letters x + letters y) (Err NoType)) (f x y a b q d) tt;
       }
+
+  pub merges_none : ((x y : DataType) → Typed space (side swap s w) l x → Typed space (side (not swap) s w) r y → size x + size y ≤ left → None ≡ B x y)
+      → Merges B space left swap s w w l r g (Err NoType)
+  merges_none f = none_known swap (known_none None true (λ x y a b q d. f x y a b q))
 
 -- names within a type differ
 pub type_differ : {space : Space} {s : List ℕ} {link : ℕ} (t : DataType) → Typed space s link t → names_differ (single t) ≡ true

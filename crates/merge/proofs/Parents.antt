@@ -22,7 +22,8 @@ use Rattle.buffers.specs.Region.{Room, region, Kept, Grows, Ready, Named, Passes
 use Rattle.buffers.specs.Goal.{letters, spot_of, field_for, Means, Writes, Laid, type_of, shape_for}
 use Rattle.turns.specs.Turns.{both_wrapped, map_rule}
 use Rattle.buffers.specs.Typed.{Chain, Typed, Merges, ChainIs, goal_at, NamedAt}
-use Rattle.merge.specs.Known.{Known, RowsKnown, row_known}
+use Rattle.buffers.specs.Differ.{RowsKnown}
+use Rattle.merge.specs.Known.{Known, row_known}
 use Rattle.merge.specs.Merge.{MergesKnown, MergesField, field_of, Rowed, Under}
 use Rattle.buffers.specs.declared.Space.{Space}
 use Rattle.buffers.specs.declared.Spot.{Spot}
@@ -36,7 +37,8 @@ use Rattle.buffers.proofs.Sources.{read_shape}
 use Rattle.buffers.proofs.Frames.{stands_frame, kept_trans, kept_wider}
 use Rattle.buffers.proofs.Chained.{labels_sum}
 use Rattle.wrappers.proofs.Values.{chain_first}
-use Rattle.merge.proofs.Knowing.{next_at_lem, parts_known, row_known_lem}
+use Rattle.buffers.proofs.Known.{next_at_lem}
+use Rattle.merge.proofs.Knowing.{parts_known, row_known_lem}
 use Rattle.merge.proofs.Merging.{chain_side, typed_side, chain_some, nothing_known, means_for, any_known, merges_none}
 use Rattle.buffers.proofs.Rows.{chain_end, chain_link, chain_typed, chain_nullable}
 use Rattle.buffers.proofs.Fielding.{name_length_lem}

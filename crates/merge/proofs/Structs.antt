@@ -12,7 +12,7 @@ use Rattle.sheet.specs.Types.{Fields, arity}
 use Rattle.sheet.specs.Head.{head_at}
 use Rattle.sheet.specs.Names.{repeats, names_differ}
 use Rattle.sheet.specs.declared.Head.{Head}
-use Rattle.sheet.proofs.Tests.{never, all_at, and_fst, and_snd}
+use Rattle.sheet.proofs.Tests.{all_at, and_fst, and_snd}
 use Rattle.coercion.specs.Data.{DataType, size}
 use Rattle.coercion.specs.Wrappers.{is_of}
 use Rattle.coercion.specs.Nested.{join_fields, by_name, fields_have_same_names, partners, list_of, struct_of, struct_coercion}
@@ -22,8 +22,9 @@ use Rattle.buffers.specs.Goal.{letters, Means, shape_for}
 use Rattle.buffers.specs.Typed.{Chain, Typed}
 use Rattle.buffers.specs.Feeds.{Feeds}
 use Rattle.buffers.specs.Partners.{same_order}
-use Rattle.merge.specs.Known.{Known}
-use Rattle.merge.specs.Merge.{StructFed, StructsFed, MergesKnown, Under}
+use Rattle.merge.specs.Known.{Known, known_names}
+use Rattle.partners.specs.Naming.{structs_feed, StructsFed}
+use Rattle.merge.specs.Merge.{StructFed, MergesKnown, Under}
 use Rattle.buffers.specs.declared.Space.{Space}
 use Rattle.buffers.specs.declared.Goal.{Goal}
 use Rattle.buffers.specs.Out.{Out}
@@ -32,8 +33,8 @@ use Rattle.buffers.specs.declared.Failure.TheVariants.{NoType}
 use Rattle.buffers.specs.declared.Feed.{Feed}
 use Rattle.buffers.proofs.Chained.{held_first}
 use Rattle.wrappers.proofs.Values.{chain_first}
-use Rattle.merge.proofs.Knowing.{parts_known}
-use Rattle.merge.proofs.Merging.{means_for, any_known, merges_none}
+use Rattle.merge.proofs.Knowing.{names_known, parts_known}
+use Rattle.merge.proofs.Merging.{means_for, any_known, merges_none, known_none}
 use Rattle.partners.proofs.Naming.{Asks, same_arity, names_found, names_missing, by_name_fits, end_self, order_names, order_by_name}
 use Rattle.buffers.proofs.Fielding.{typed_reads}
 
@@ -54,48 +55,22 @@ struct_by_name : (c : DataType → DataType → Option DataType) (X Y : DataType
 unfolding struct_coercion partners
 struct_by_name c X Y tf k n f = struct_list (join_fields c X.parts tf tf) ∙ rw k (rw n (rw f refl))
 
--- by name and by place are not the same
-is_place : Feed → Bool
-is_place Feed.Place = true
-is_place Feed.Own = false
-is_place Feed.Name = false
-is_place Feed.NameThenPlace = false
-
 -- what is said of the names of two Structs by what feeds the fields of one
 module _ {space : Space} {s t : List ℕ} {floor l r : ℕ} where
-  pub fed_or_placed : {o : Option Feed} {feed : Feed} → feed ≡ unwrap_or o Feed.Place → StructsFed Feed.Name space s t floor l r o → StructFed space s t floor l r feed
-  fed_or_placed e f a o up lf rf h c = e ∙ rw (f a o up lf rf h c) (go (same_order lf rf) (fields_have_same_names lf rf))
+  pub fed_or_placed : {known : Option ℕ} {o : Option Feed} {feed : Feed} → feed ≡ unwrap_or o Feed.Place → StructsFed known Feed.Name space s t floor l r o
+      → StructFed known space s t floor l r feed
+  fed_or_placed e f a o up lf rf h c d = e ∙ rw (f a o up lf rf h c d) (go (same_order lf rf) (fields_have_same_names lf rf))
     where
       go : (i j : Bool) → unwrap_or (cond i (Some Feed.Place) (cond j (Some Feed.Name) None)) Feed.Place ≡ cond i Feed.Place (cond j Feed.Name Feed.Place)
       go true j = refl
       go false true = refl
       go false false = refl
 
-  pub fed_none : StructsFed Feed.NameThenPlace space s t floor l r None → Asks fields_have_same_names space s t floor l r false
-  fed_none f a o up lf rf h c = go (same_order lf rf) (fields_have_same_names lf rf) (f a o up lf rf h c)
-    where
-      go : (i j : Bool) → ◌≡◌ {A = Option Feed} None (cond i (Some Feed.Place) (cond j (Some Feed.NameThenPlace) None)) → false ≡ j
-      go true j e = absurd (none-some Feed.Place e)
-      go false true e = absurd (none-some Feed.NameThenPlace e)
-      go false false e = refl
-
-  fed_ordered : StructsFed Feed.NameThenPlace space s t floor l r (Some Feed.Place) → Asks same_order space s t floor l r true
-  unfolding is_place
-  fed_ordered f a o up lf rf h c = go (same_order lf rf) (fields_have_same_names lf rf) (f a o up lf rf h c)
-    where
-      go : (i j : Bool) → Some Feed.Place ≡ cond i (Some Feed.Place) (cond j (Some Feed.NameThenPlace) None) → true ≡ i
-      go true j e = refl
-      go false true e = never (sym (ap is_place (same_Some _ _ e)))
-      go false false e = absurd (none-some Feed.Place (sym e))
-
-  fed_named : StructsFed Feed.NameThenPlace space s t floor l r (Some Feed.NameThenPlace) → Asks fields_have_same_names space s t floor l r true
-  unfolding is_place
-  fed_named f a o up lf rf h c = go (same_order lf rf) (fields_have_same_names lf rf) (f a o up lf rf h c)
-    where
-      go : (i j : Bool) → Some Feed.NameThenPlace ≡ cond i (Some Feed.Place) (cond j (Some Feed.NameThenPlace) None) → true ≡ j
-      go true j e = never (ap is_place (same_Some _ _ e))
-      go false true e = refl
-      go false false e = absurd (none-some Feed.NameThenPlace (sym e))
+-- what no feed says of two tests
+fed_none : (i j : Bool) → ◌≡◌ {A = Option Feed} None (cond i (Some Feed.Place) (cond j (Some Feed.NameThenPlace) None)) → j ≡ false
+fed_none true j e = absurd (none-some Feed.Place e)
+fed_none false true e = absurd (none-some Feed.NameThenPlace e)
+fed_none false false e = refl
 
 and_assoc : (i j k : Bool) → (i && (j && k)) ≡ ((i && j) && k)
 and_assoc true j k = refl
@@ -140,7 +115,7 @@ module _ (c : DataType → DataType → Option DataType) (space : Space) (left :
 
   -- two Structs, by the fields that feed theirs
   module _ (h : ((eqb x.kind 35 && eqb y.kind 35) && alike) ≡ true) (known : Option ℕ) (by_names : Bool) {feed : Feed}
-      (ff : StructFed space (side swap s w) (side (not swap) s w) l x.first y.first feed) (v : List ℕ) (o : Out)
+      (ff : StructFed (known_names by_names known) space (side swap s w) (side (not swap) s w) l x.first y.first feed) (v : List ℕ) (o : Out)
       (u : Under known by_names c space left swap s w v feed (shape_for 35 0 0 0 false) x.first y.first y.first g o) where
     module _ {X Y : DataType} (a : Typed space (side swap s w) l X) (b : Typed space (side (not swap) s w) r Y) (q : size X + size Y ≤ left + 1) (d : Known known by_names l X Y) where
       abbrev Merged : Type 0
@@ -184,82 +159,66 @@ module _ (c : DataType → DataType → Option DataType) (space : Space) (left :
           means =
               λ X Y a b q d.
               by_feed a b q d (same_order X.parts Y.parts) (fields_have_same_names X.parts Y.parts) refl refl
-              (ff _ _ _ X.parts Y.parts (held_first a.chain.held x ex) (chain_first y ey b.chain));
+              (ff _ _ _ X.parts Y.parts (held_first a.chain.held x ex) (chain_first y ey b.chain) (names_known known by_names x.first X.parts Y.parts (parts_known known by_names X Y a x ex d)));
         }
 
   -- two Structs of a list
   pub listed_unlike : {known : Option ℕ} {by_names : Bool} → alike ≡ false → MergesKnown known by_names (list_struct c) space (left + 1) swap s w w l r g (Err NoType)
   listed_unlike {known} h = any_known known swap (merges_none (list_struct c) space (left + 1) swap s w l r g (λ X Y a b q. rw (sym (arities a b) ∙ h) refl))
 
-  module _ (h : alike ≡ true) where
-    module _ {named : Bool} (fn : Asks fields_have_same_names space (side swap s w) (side (not swap) s w) l x.first y.first named) where
-      names : {X Y : DataType} → Typed space (side swap s w) l X → Typed space (side (not swap) s w) r Y → named ≡ fields_have_same_names X.parts Y.parts
-      names {X} {Y} a b = fn _ _ _ X.parts Y.parts (held_first a.chain.held x ex) (chain_first y ey b.chain)
+  module _ (h : alike ≡ true) (known : Option ℕ) (by_names : Bool) where
+    abbrev FedBy : Option Feed → Type 0
+    FedBy o = StructsFed (known_names by_names known) Feed.NameThenPlace space (side swap s w) (side (not swap) s w) l x.first y.first o
 
-      pub listed_none : {known : Option ℕ} {by_names : Bool} → named ≡ false → MergesKnown known by_names (list_struct c) space (left + 1) swap s w w l r g (Err NoType)
-      listed_none {known} e =
-          any_known known swap (merges_none (list_struct c) space (left + 1) swap s w l r g
-          (λ X Y a b q. rw (sym (arities a b) ∙ h) (rw (names_missing X.parts Y.parts (sym (names a b) ∙ e)) refl)))
+    fed_by : {o : Option Feed} → FedBy o → {X Y : DataType} → Typed space (side swap s w) l X → Typed space (side (not swap) s w) r Y → Known known by_names l X Y
+        → o ≡ structs_feed Feed.NameThenPlace X.parts Y.parts
+    fed_by f {X} {Y} a b d =
+        f _ _ _ X.parts Y.parts (held_first a.chain.held x ex) (chain_first y ey b.chain) (names_known known by_names x.first X.parts Y.parts (parts_known known by_names X Y a x ex d))
 
-      pub listed_named : (known : Option ℕ) (by_names : Bool) → named ≡ true → (head_at (side swap s w) l).kind ≡ 35 → (head_at (side (not swap) s w) r).kind ≡ 35 → (v : List ℕ) (o : Out)
-          → Under known by_names c space left swap s w v Feed.NameThenPlace (shape_for 35 0 0 0 false) x.first y.first y.first g o
-          → MergesKnown known by_names (list_struct c) space (left + 1) swap s w v l r g o
-      listed_named known by_names e k k' v o u =
-          record {
-            writes = u.writes;
-            means =
-                λ X Y a b q d.
-                let f = names_found X.parts Y.parts (sym (names a b) ∙ e) in
-                let right = chain_first y ey b.chain in
-                let fits = by_name_fits X.parts Y.parts f.fields (struct_differ ((typed_reads a refl).kind ∙ k) a) right.held.differ f.is in
-                means_for space w v g (size X + size Y) (letters X + letters Y) o (omega (arith, fits.0)) (omega (arith, fits.1))
-                (struct_list (join_fields c X.parts f.fields Y.parts) ∙ rw (sym (arities a b) ∙ h) (rw f.is refl))
-                (u.means X.parts Y.parts Y.parts f.fields Y.parts (chain_first x ex a.chain) right right
-                (f.is, (refl, (end_self Y.parts, struct_differ ((typed_reads b refl).kind ∙ k') b))) (omega (arith, fits.0)) (parts_known known by_names X Y a x ex d));
-          }
+    pub listed_none : FedBy None → MergesKnown known by_names (list_struct c) space (left + 1) swap s w w l r g (Err NoType)
+    listed_none f =
+        known_none (list_struct c) space (left + 1) swap s w l r g known by_names
+        (λ X Y a b q d.
+        rw (sym (arities a b) ∙ h) (rw (names_missing X.parts Y.parts (fed_none (same_order X.parts Y.parts) (fields_have_same_names X.parts Y.parts) (fed_by f a b d))) refl))
 
-    pub listed_ordered : {ordered : Bool} → Asks same_order space (side swap s w) (side (not swap) s w) l x.first y.first ordered → (known : Option ℕ) (by_names : Bool)
-        → ordered ≡ true → (head_at (side (not swap) s w) r).kind ≡ 35 → (v : List ℕ) (o : Out)
-        → Under known by_names c space left swap s w v Feed.Place (shape_for 35 0 0 0 false) x.first y.first y.first g o
-        → MergesKnown known by_names (list_struct c) space (left + 1) swap s w v l r g o
-    listed_ordered fo known by_names e k v o u =
-        record {
-          writes = u.writes;
-          means =
-              λ X Y a b q d.
-              let right = chain_first y ey b.chain in
-              let same = sym (arities a b) ∙ h in
-              let order = sym (fo _ _ _ X.parts Y.parts (held_first a.chain.held x ex) right) ∙ e in
-              let by = order_by_name X.parts Y.parts order (eqb-true _ _ same) (struct_differ ((typed_reads b refl).kind ∙ k) b) in
-              means_for space w v g (size X + size Y) (letters X + letters Y) o (omega arith) (omega arith)
-              (struct_list (join_fields c X.parts Y.parts Y.parts) ∙ rw same (rw by refl))
-              (u.means X.parts Y.parts Y.parts Y.parts Y.parts (chain_first x ex a.chain) right right (refl, refl) (omega arith) (parts_known known by_names X Y a x ex d));
-        }
+    module _ {feed : Feed} (f : FedBy (Some feed)) (k : (head_at (side swap s w) l).kind ≡ 35) (k' : (head_at (side (not swap) s w) r).kind ≡ 35) (v : List ℕ) (o : Out)
+        (u : Under known by_names c space left swap s w v feed (shape_for 35 0 0 0 false) x.first y.first y.first g o) where
+      module _ {X Y : DataType} (a : Typed space (side swap s w) l X) (b : Typed space (side (not swap) s w) r Y) (q : size X + size Y ≤ left + 1) (d : Known known by_names l X Y) where
+        abbrev ListMerged : Type 0
+        ListMerged = Means space w v g (size X + size Y) (letters X + letters Y) o (list_struct c X Y)
 
-    pub listed_fed : (known : Option ℕ) (by_names : Bool) {feed : Feed} → StructsFed Feed.NameThenPlace space (side swap s w) (side (not swap) s w) l x.first y.first (Some feed)
-        → (head_at (side swap s w) l).kind ≡ 35 → (head_at (side (not swap) s w) r).kind ≡ 35 → (v : List ℕ) (o : Out)
-        → Under known by_names c space left swap s w v feed (shape_for 35 0 0 0 false) x.first y.first y.first g o
-        → MergesKnown known by_names (list_struct c) space (left + 1) swap s w v l r g o
-    listed_fed known by_names {feed} f k k' v o u =
-        record {
-          writes = u.writes;
-          means =
-              λ X Y a b q d.
-              (go (same_order X.parts Y.parts) (fields_have_same_names X.parts Y.parts)
-              (f _ _ _ X.parts Y.parts (held_first a.chain.held x ex) (chain_first y ey b.chain))).means X Y a b q d;
-        }
-      where
-        Fed : Feed → Type 0
-        Fed i = StructsFed Feed.NameThenPlace space (side swap s w) (side (not swap) s w) l x.first y.first (Some i)
+        other : Chain space (side (not swap) s w) y.first Y.parts
+        other = chain_first y ey b.chain
 
-        Merged : Feed → Type 0
-        Merged i = Under known by_names c space left swap s w v i (shape_for 35 0 0 0 false) x.first y.first y.first g o
+        alike_lem : eqb (arity X.parts) (arity Y.parts) ≡ true
+        alike_lem = sym (arities a b) ∙ h
 
-        go : (i j : Bool) → Some feed ≡ cond i (Some Feed.Place) (cond j (Some Feed.NameThenPlace) None) → MergesKnown known by_names (list_struct c) space (left + 1) swap s w v l r g o
-        go true j e =
-            let i = same_Some _ _ e in
-            listed_ordered (fed_ordered (subst (λ (p : Feed). Fed p) i f)) known by_names refl k' v o (subst (λ (p : Feed). Merged p) i u)
-        go false true e =
-            let i = same_Some _ _ e in
-            listed_named (fed_named (subst (λ (p : Feed). Fed p) i f)) known by_names refl k k' v o (subst (λ (p : Feed). Merged p) i u)
-        go false false e = absurd (none-some feed (sym e))
+        unlike_names : repeats Y.parts ≡ false
+        unlike_names = struct_differ ((typed_reads b refl).kind ∙ k') b
+
+        listed_place : same_order X.parts Y.parts ≡ true → feed ≡ Feed.Place → ListMerged
+        listed_place e i =
+            let by = order_by_name X.parts Y.parts e (eqb-true _ _ alike_lem) unlike_names in
+            means_for space w v g (size X + size Y) (letters X + letters Y) o (omega arith) (omega arith)
+            (struct_list (join_fields c X.parts Y.parts Y.parts) ∙ rw alike_lem (rw by refl))
+            (u.means X.parts Y.parts Y.parts Y.parts Y.parts (chain_first x ex a.chain) other other
+            (subst (λ (m : Feed). Feeds m X.parts Y.parts Y.parts Y.parts Y.parts) (sym i) (refl, refl)) (omega arith) (parts_known known by_names X Y a x ex d))
+
+        listed_name : fields_have_same_names X.parts Y.parts ≡ true → feed ≡ Feed.NameThenPlace → ListMerged
+        listed_name e i =
+            let n = names_found X.parts Y.parts e in
+            let fits = by_name_fits X.parts Y.parts n.fields (struct_differ ((typed_reads a refl).kind ∙ k) a) other.held.differ n.is in
+            means_for space w v g (size X + size Y) (letters X + letters Y) o (omega (arith, fits.0)) (omega (arith, fits.1))
+            (struct_list (join_fields c X.parts n.fields Y.parts) ∙ rw alike_lem (rw n.is refl))
+            (u.means X.parts Y.parts Y.parts n.fields Y.parts (chain_first x ex a.chain) other other
+            (subst (λ (m : Feed). Feeds m X.parts Y.parts Y.parts n.fields Y.parts) (sym i) (n.is, (refl, (end_self Y.parts, unlike_names)))) (omega (arith, fits.0))
+            (parts_known known by_names X Y a x ex d))
+
+        listed_by : (i j : Bool) → same_order X.parts Y.parts ≡ i → fields_have_same_names X.parts Y.parts ≡ j
+            → Some feed ≡ cond i (Some Feed.Place) (cond j (Some Feed.NameThenPlace) None) → ListMerged
+        listed_by true j e n is = listed_place e (same_Some _ _ is)
+        listed_by false true e n is = listed_name n (same_Some _ _ is)
+        listed_by false false e n is = absurd (none-some feed (sym is))
+
+      pub listed_fed : MergesKnown known by_names (list_struct c) space (left + 1) swap s w v l r g o
+      listed_fed = record { writes = u.writes; means = λ X Y a b q d. listed_by a b q d _ _ refl refl (fed_by f a b d) }

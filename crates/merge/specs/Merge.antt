@@ -1,5 +1,5 @@
 -- What the merge of two fields and of two chains says, whatever types stand at its links.
-use Rattle.std.specs.Prelude.{◌≡◌, ℕ, ◌+◌, ◌≤◌, Bool, cond, not, List, length}
+use Rattle.std.specs.Prelude.{◌≡◌, ℕ, ◌+◌, ◌≤◌, Bool, true, cond, not, List, length}
 use Rattle.std.specs.Prelude.{Option, None, Some}
 use Rattle.sheet.specs.Types.{Shape, Fields, end, field, count, labels}
 use Rattle.coercion.specs.Data.{DataType, size}
@@ -11,7 +11,8 @@ use Rattle.buffers.specs.Typed.{Chain, Typed, ChainIs}
 use Rattle.buffers.specs.Feeds.{Feeds}
 use Rattle.buffers.specs.Partners.{Partners, same_order}
 use Rattle.wrappers.specs.Ways.{Hint}
-use Rattle.merge.specs.Known.{Known, RowsKnown}
+use Rattle.buffers.specs.Differ.{RowsKnown}
+use Rattle.merge.specs.Known.{Known}
 use Rattle.buffers.specs.declared.Space.{Space}
 use Rattle.buffers.specs.declared.Spot.{Spot}
 use Rattle.buffers.specs.declared.Goal.{Goal}
@@ -26,16 +27,10 @@ pub record Tabled (space : Space) (s w table : List ℕ) : Type 0 where
 abbrev pub struct_feed : Fields → Fields → Feed
 struct_feed l r = cond (same_order l r) Feed.Place (cond (fields_have_same_names l r) Feed.Name Feed.Place)
 
--- the same of whatever chains stand at two links
-abbrev pub StructFed : Space → List ℕ → List ℕ → ℕ → ℕ → ℕ → Feed → Type 0
-StructFed space s t floor l r feed = (a o up : ℕ) (lf rf : Fields) → Held space s floor l a o up lf → Chain space t r rf → feed ≡ struct_feed lf rf
-
--- the same where names in another order say another feed, and names that are not the same say none
-abbrev pub structs_feed : Feed → Fields → Fields → Option Feed
-structs_feed by_name l r = cond (same_order l r) (Some Feed.Place) (cond (fields_have_same_names l r) (Some by_name) None)
-
-abbrev pub StructsFed : Feed → Space → List ℕ → List ℕ → ℕ → ℕ → ℕ → Option Feed → Type 0
-StructsFed by_name space s t floor l r feed = (a o up : ℕ) (lf rf : Fields) → Held space s floor l a o up lf → Chain space t r rf → feed ≡ structs_feed by_name lf rf
+-- the same of whatever chains stand at two links, where something may be known of their names
+abbrev pub StructFed : Option ℕ → Space → List ℕ → List ℕ → ℕ → ℕ → ℕ → Feed → Type 0
+StructFed known space s t floor l r feed =
+    (a o up : ℕ) (lf rf : Fields) → Held space s floor l a o up lf → Chain space t r rf → RowsKnown known true l lf rf → feed ≡ struct_feed lf rf
 
 -- two types, of which something may be known, were merged as a rule says, where no more than `left` records are left in both
 pub record MergesKnown (known : Option ℕ) (named : Bool) (answer : DataType → DataType → Option DataType) (space : Space) (left : ℕ) (swap : Bool) (s w v : List ℕ) (l r : ℕ) (g : Goal) (o : Out) : Type 0 where

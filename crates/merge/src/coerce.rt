@@ -12,7 +12,9 @@ ghost use Rattle.buffers.specs.Plain.{asked, rules_of, is_list_question, plain_r
 ghost use Rattle.wrappers.specs.Ways.{is_wrapper};
 ghost use Rattle.turns.specs.Turns.{resolved, unwrapped, wrapper_rule, either_wrapped, nested_of, both_wrapped, rewrapped, list_rule, map_rule};
 ghost use Rattle.buffers.specs.Typed.{Merges};
-ghost use Rattle.merge.specs.Merge.{Tabled, MergesKnown, MergesHinted, StructsFed, MergesField, Rowed, Under};
+ghost use Rattle.partners.specs.Naming.{StructsFed};
+ghost use Rattle.merge.specs.Known.{known_names};
+ghost use Rattle.merge.specs.Merge.{Tabled, MergesKnown, MergesHinted, MergesField, Rowed, Under};
 
 use crate::Merger;
 use crate::known::row_known;
@@ -26,17 +28,17 @@ use buffers::write::{kind_at, look, value_at};
 use buffers::{Failure, Feed, Goal, Out, Shape, Spot};
 use coercion::Figures;
 use kinds::tests::is_list;
-use partners::names::{have_same_names, in_order, same_arity};
+use partners::names::{same_arity, struct_feed};
 use partners::rows::row;
 use sheet::Head;
 use wrappers::walk::way;
 
 // Whether the type at a link has few records. It ends where the chain goes on, or with the last record.
 fn is_small(n: usize, link: usize, next: usize) -> bool
-    ensures { result ≡ ltb (cond (eqb next 0) n next - link) 17 }
+    ensures { result ≡ ltb (cond (eqb next 0) n next - link) 33 }
 {
     let end = if next == 0 { n } else { next };
-    end.saturating_sub(link) < 17
+    end.saturating_sub(link) < 33
 }
 
 // Whether the entries of two maps are sorted.
@@ -47,7 +49,7 @@ fn are_sorted(x: Head, y: Head) -> bool
 }
 
 impl<'a> Merger<'a> {
-    // The common type of two types, of which something may be known, or none. The table of partners has no room where the left type is small.
+    // The common type of two types, of which something may be known, or none. The table of partners is small where the left type has at most 32 records.
     pub fn coerce(
         &self,
         work: &mut [u8],
@@ -62,9 +64,9 @@ impl<'a> Merger<'a> {
         ensures { MergesKnown known (is_list_question (asked self.now.question)) (coercion (rules_of self.now.question self.now.mask)) self.now.space left swap self.now.sheet.now work.old work.new l r g result }
     {
         if is_small(self.space.n, l, look(self.sheet, &*work, swap, l).next) {
-            return self.common(work, &mut [0u32; 0], left, swap, known, 0, l, r, g);
+            return self.common(work, &mut [0u32; 64], left, swap, known, 0, l, r, g);
         }
-        // No heap: the table is in the frame.
+        // No heap: the tables are in the frame.
         self.common(work, &mut [0u32; 2048], left, swap, known, 0, l, r, g)
     }
 
@@ -110,6 +112,7 @@ impl<'a> Merger<'a> {
         work: &[u8],
         table: &mut [u32],
         swap: bool,
+        known: Option<usize>,
         by_name: Feed,
         floor: usize,
         l: usize,
@@ -117,16 +120,13 @@ impl<'a> Merger<'a> {
     ) -> Option<Feed>
         requires few { self.now.space.n ≤ 1024 }
         requires tabled { Tabled self.now.space self.now.sheet.now work.now table.old }
-        ensures struct_fed { StructsFed by_name self.now.space (side swap self.now.sheet.now work.now) (side (not swap) self.now.sheet.now work.now) floor l r result }
+        ensures struct_fed { StructsFed (known_names (is_list_question (asked self.now.question)) known) by_name self.now.space (side swap self.now.sheet.now work.now) (side (not swap) self.now.sheet.now work.now) floor l r result }
         ensures stays_tabled { Tabled self.now.space self.now.sheet.now work.now table.new }
     {
-        if in_order(self.sheet, work, self.space, swap, floor, l, r) {
-            return Some(Feed::Place);
-        }
-        if have_same_names(self.sheet, work, self.space, swap, floor, l, r, table) {
-            return Some(by_name);
-        }
-        None
+        let known = self.known_names(known);
+        struct_feed(
+            self.sheet, work, self.space, swap, known, by_name, floor, l, r, table,
+        )
     }
 
     // The common type of two types, of which something may be known, or none.
@@ -550,7 +550,7 @@ impl<'a> Merger<'a> {
             && same_arity(self.sheet, &*work, self.space, swap, l, a, b)
         {
             let feed = self
-                .struct_feed(&*work, table, swap, Feed::Name, l, a, b)
+                .struct_feed(&*work, table, swap, known, Feed::Name, l, a, b)
                 .unwrap_or(Feed::Place);
             let shape = Shape::from(Figures::of_kind(35));
             return self.under(work, table, left, swap, known, feed, shape, a, b, g);
@@ -583,7 +583,7 @@ impl<'a> Merger<'a> {
             return Err(Failure::NoType);
         }
         let shape = Shape::from(Figures::of_kind(35));
-        match self.struct_feed(&*work, table, swap, Feed::NameThenPlace, l, a, b) {
+        match self.struct_feed(&*work, table, swap, known, Feed::NameThenPlace, l, a, b) {
             Some(feed) => self.under(work, table, left, swap, known, feed, shape, a, b, g),
             None => Err(Failure::NoType),
         }
@@ -685,7 +685,10 @@ impl<'a> Merger<'a> {
             return Err(Failure::NoType);
         }
         let x = look(self.sheet, &*work, swap, l);
-        let row = row(self.sheet, &*work, self.space, swap, feed, l, r, p, &*table);
+        let names = self.known_names(known);
+        let row = row(
+            self.sheet, &*work, self.space, swap, names, feed, l, r, p, &*table,
+        );
         let partner = row.partner;
         let own = row_known(known, l, x.next, partner, p);
         if partner == 0 {

@@ -2,7 +2,7 @@
 ghost use Rattle.std.specs.Prelude.{◌≡◌, not, ◌<◌};
 ghost use Rattle.buffers.specs.Plain.{asked, is_list_question};
 ghost use Rattle.buffers.specs.Writes.{side};
-ghost use Rattle.merge.specs.Known.{row_known, FirstDifference};
+ghost use Rattle.merge.specs.Known.{row_known, known_names, FirstDifference};
 
 use crate::Merger;
 use buffers::alike::differ_sides;
@@ -26,6 +26,17 @@ impl<'a> Merger<'a> {
         }
         let named = is_list_question(self.question);
         differ_sides(self.sheet, work, self.space.n, swap, l, r, named)
+    }
+
+    // What is known of the names of two chains by where they differ: in a list alone names are compared.
+    pub(crate) fn known_names(&self, known: Option<usize>) -> Option<usize>
+        ensures { result ≡ known_names (is_list_question (asked self.now.question)) known }
+    {
+        if is_list_question(self.question) {
+            known
+        } else {
+            None
+        }
     }
 }
 

@@ -1,10 +1,10 @@
 -- The rows of a chain that is fed, by each way of feeding. Assumes nothing.
 use mathlib.Core.Path.{◌≡◌, refl, ap₂, sym, subst, ◌∙◌}
 use Rattle.std.proofs.lemmas.Option.{same_Some}
-use mathlib.Core.Bool.{Bool, false, not, ◌||◌}
+use mathlib.Core.Bool.{Bool, true, false, not, ◌||◌}
 use mathlib.Core.List.{List}
 use mathlib.Core.Logic.{inl, inr}
-use Rattle.std.specs.Prelude.{Some}
+use Rattle.std.specs.Prelude.{Option, Some}
 use Prim.Native.Nat.{ℕ, ◌<◌}
 use native.Mathlib.Omega.{arith}
 use Rattle.sheet.specs.Types.{Shape, Fields, end, field, arity}
@@ -14,16 +14,17 @@ use Rattle.sheet.specs.declared.Head.{Head}
 use Rattle.coercion.specs.Nested.{by_name}
 use Rattle.buffers.specs.Writes.{side}
 use Rattle.buffers.specs.Goal.{type_of}
-use Rattle.buffers.specs.Feeds.{Feeds, Fed, RowIs}
+use Rattle.buffers.specs.Differ.{RowsKnown}
+use Rattle.buffers.specs.Feeds.{EndOf, Feeds, Fed, RowIs}
 use Rattle.buffers.specs.Typed.{Chain}
-use Rattle.partners.specs.Naming.{Picks, Pairs, row_of}
+use Rattle.partners.specs.Naming.{Picks, RowPairs, row_of}
 use Rattle.buffers.specs.declared.Space.{Space}
 use Rattle.buffers.specs.declared.Row.{Row}
 use Rattle.buffers.specs.declared.Feed.{Feed}
 use Rattle.buffers.proofs.Rows.{chain_end, chain_typed, chain_next, chain_nullable}
 use Rattle.partners.proofs.Naming.{some_not_none, name_missing, Stepped, by_name_step, end_next, end_takes}
 
-module _ (space : Space) (swap : Bool) (s w : List ℕ) (l r : ℕ) (x : Head) (ex : x ≡ head_at (side swap s w) l) where
+module _ (known : Option ℕ) (space : Space) (swap : Bool) (s w : List ℕ) (l r : ℕ) (x : Head) (ex : x ≡ head_at (side swap s w) l) where
   abbrev S : List ℕ
   S = side swap s w
 
@@ -31,14 +32,14 @@ module _ (space : Space) (swap : Bool) (s w : List ℕ) (l r : ℕ) (x : Head) (
   T = side (not swap) s w
 
   module _ (p : ℕ) (y : Head) (ey : y ≡ head_at T p) where
-    pub row_place : {row : Row} → row ≡ row_of p x y y.next → RowIs space swap s w Feed.Place l r p row
-    row_place e = subst (RowIs space swap s w Feed.Place l r p) (sym e) (record { fed = go; unfed = λ name nullable shape parts rest rf pf tf nf a b c f z. inl (f.0 ∙ chain_end z c) })
+    pub row_place : {row : Row} → row ≡ row_of p x y y.next → RowIs known space swap s w Feed.Place l r p row
+    row_place e = subst (RowIs known space swap s w Feed.Place l r p) (sym e) (record { fed = go; unfed = λ name nullable shape parts rest rf pf tf nf a b c f d z. inl (f.0 ∙ chain_end z c) })
       where
         go : (name : List ℕ) (nullable : Bool) (shape : Shape) (parts rest rf pf tf nf : Fields) → Chain space S l (field name nullable shape parts rest)
             → Chain space T r rf → Chain space T p pf → Feeds Feed.Place (field name nullable shape parts rest) rf pf tf nf
-            → 0 < p → Fed space T Feed.Place nullable rest rf (row_of p x y y.next) tf nf
-        go name nullable shape parts rest rf end tf nf a b c f q = absurd (omega (arith, c.held.source.leads.is))
-        go name nullable shape parts rest rf (field name' nullable' shape' parts' rest') tf nf a b c f q =
+            → RowsKnown known true l (field name nullable shape parts rest) pf → 0 < p → Fed space T Feed.Place nullable rest rf (row_of p x y y.next) tf nf
+        go name nullable shape parts rest rf end tf nf a b c f d q = absurd (omega (arith, c.held.source.leads.is))
+        go name nullable shape parts rest rf (field name' nullable' shape' parts' rest') tf nf a b c f d q =
             record {
               name = name';
               own = nullable';
@@ -58,14 +59,14 @@ module _ (space : Space) (swap : Bool) (s w : List ℕ) (l r : ℕ) (x : Head) (
               feeds = (refl, refl);
             }
 
-    pub row_own : {row : Row} → row ≡ row_of p x x y.next → RowIs space swap s w Feed.Own l r p row
-    row_own e = subst (RowIs space swap s w Feed.Own l r p) (sym e) (record { fed = go; unfed = λ name nullable shape parts rest rf pf tf nf a b c f z. inl (f.0 ∙ chain_end z c) })
+    pub row_own : {row : Row} → row ≡ row_of p x x y.next → RowIs known space swap s w Feed.Own l r p row
+    row_own e = subst (RowIs known space swap s w Feed.Own l r p) (sym e) (record { fed = go; unfed = λ name nullable shape parts rest rf pf tf nf a b c f d z. inl (f.0 ∙ chain_end z c) })
       where
         go : (name : List ℕ) (nullable : Bool) (shape : Shape) (parts rest rf pf tf nf : Fields) → Chain space S l (field name nullable shape parts rest)
             → Chain space T r rf → Chain space T p pf → Feeds Feed.Own (field name nullable shape parts rest) rf pf tf nf
-            → 0 < p → Fed space T Feed.Own nullable rest rf (row_of p x x y.next) tf nf
-        go name nullable shape parts rest rf end tf nf a b c f q = absurd (omega (arith, c.held.source.leads.is))
-        go name nullable shape parts rest rf (field name' nullable' shape' parts' rest') tf nf a b c f q =
+            → RowsKnown known true l (field name nullable shape parts rest) pf → 0 < p → Fed space T Feed.Own nullable rest rf (row_of p x x y.next) tf nf
+        go name nullable shape parts rest rf end tf nf a b c f d q = absurd (omega (arith, c.held.source.leads.is))
+        go name nullable shape parts rest rf (field name' nullable' shape' parts' rest') tf nf a b c f d q =
             record {
               name = name';
               own = nullable';
@@ -87,11 +88,11 @@ module _ (space : Space) (swap : Bool) (s w : List ℕ) (l r : ℕ) (x : Head) (
 
   -- a row that is fed by name
   module _ (p : ℕ) (y : Head) (ey : y ≡ head_at T p) where
-    module _ (found : ℕ) (k : Pairs space S T l r found) where
-      module _ {name : List ℕ} {nullable : Bool} {shape : Shape} {parts rest rf tf : Fields} (a : Chain space S l (field name nullable shape parts rest))
-          (b : Chain space T r rf) (f : by_name (field name nullable shape parts rest) rf ≡ Some tf) (d : repeats rf ≡ false) where
+    module _ (found : ℕ) (k : RowPairs known space S T l r p found) where
+      module _ {name : List ℕ} {nullable : Bool} {shape : Shape} {parts rest rf pf tf : Fields} (a : Chain space S l (field name nullable shape parts rest))
+          (b : Chain space T r rf) (c : Chain space T p pf) (i : EndOf pf rf) (j : RowsKnown known true l (field name nullable shape parts rest) pf) (f : by_name (field name nullable shape parts rest) rf ≡ Some tf) (d : repeats rf ≡ false) where
         picks : Picks space T name rf found
-        picks = k name nullable shape parts rest rf a b
+        picks = k name nullable shape parts rest rf pf a b c i j
 
         step : Stepped name rest rf tf
         step = by_name_step name nullable shape parts rest rf tf f
@@ -104,20 +105,20 @@ module _ (space : Space) (swap : Bool) (s w : List ℕ) (l r : ℕ) (x : Head) (
             let m = picks.present q in
             same_Some _ _ (sym step.takes ∙ end_takes name m.nullable m.shape m.parts m.rest rf m.ends d step.more)
 
-      pub row_named : (h : Head) → h ≡ head_at T found → {row : Row} → row ≡ row_of found x h y.next → RowIs space swap s w Feed.Name l r p row
+      pub row_named : (h : Head) → h ≡ head_at T found → {row : Row} → row ≡ row_of found x h y.next → RowIs known space swap s w Feed.Name l r p row
       unfolding arity
       row_named h eh e =
-          subst (RowIs space swap s w Feed.Name l r p) (sym e)
-          (record { fed = go; unfed = λ name nullable shape parts rest rf pf tf nf a b c f z. lacking a b f.0 f.1.1.0.1 z })
+          subst (RowIs known space swap s w Feed.Name l r p) (sym e)
+          (record { fed = go; unfed = λ name nullable shape parts rest rf pf tf nf a b c f d z. lacking a b c f.1.1.0.0 d f.0 f.1.1.0.1 z })
         where
           go : (name : List ℕ) (nullable : Bool) (shape : Shape) (parts rest rf pf tf nf : Fields) → Chain space S l (field name nullable shape parts rest)
               → Chain space T r rf → Chain space T p pf → Feeds Feed.Name (field name nullable shape parts rest) rf pf tf nf
-              → 0 < found → Fed space T Feed.Name nullable rest rf (row_of found x h y.next) tf nf
-          go name nullable shape parts rest rf end tf nf a b c f q = absurd (omega (arith, f.1.1.1))
-          go name nullable shape parts rest rf (field name' nullable' shape' parts' rest') tf nf a b c f q =
-              let m = (picks a b f.0 f.1.1.0.1).present q in
-              let st = step a b f.0 f.1.1.0.1 in
-              let ty = types_are a b f.0 f.1.1.0.1 q in
+              → RowsKnown known true l (field name nullable shape parts rest) pf → 0 < found → Fed space T Feed.Name nullable rest rf (row_of found x h y.next) tf nf
+          go name nullable shape parts rest rf end tf nf a b c f d q = absurd (omega (arith, f.1.1.1))
+          go name nullable shape parts rest rf (field name' nullable' shape' parts' rest') tf nf a b c f d q =
+              let m = (picks a b c f.1.1.0.0 d f.0 f.1.1.0.1).present q in
+              let st = step a b c f.1.1.0.0 d f.0 f.1.1.0.1 in
+              let ty = types_are a b c f.1.1.0.0 d f.0 f.1.1.0.1 q in
               record {
                 name = name;
                 own = m.nullable;
@@ -137,24 +138,24 @@ module _ (space : Space) (swap : Bool) (s w : List ℕ) (l r : ℕ) (x : Head) (
                 feeds = (st.behind, (refl, ((end_next name' nullable' shape' parts' rest' rf f.1.1.0.0, f.1.1.0.1), omega (arith, f.1.1.1))));
               }
 
-      pub row_named_place : ¬ (p ≡ 0) → {row : Row} → row ≡ row_of found x y y.next → RowIs space swap s w Feed.NameThenPlace l r p row
+      pub row_named_place : ¬ (p ≡ 0) → {row : Row} → row ≡ row_of found x y y.next → RowIs known space swap s w Feed.NameThenPlace l r p row
       row_named_place z {row} e =
-          subst (RowIs space swap s w Feed.NameThenPlace l r p) (sym e)
-          (record { fed = go; unfed = λ name nullable shape parts rest rf pf tf nf a b c f z. lacking a b f.0 f.1.1.1 z })
+          subst (RowIs known space swap s w Feed.NameThenPlace l r p) (sym e)
+          (record { fed = go; unfed = λ name nullable shape parts rest rf pf tf nf a b c f d z. lacking a b c f.1.1.0 d f.0 f.1.1.1 z })
         where
           go : (name : List ℕ) (nullable : Bool) (shape : Shape) (parts rest rf pf tf nf : Fields) → Chain space S l (field name nullable shape parts rest)
               → Chain space T r rf → Chain space T p pf → Feeds Feed.NameThenPlace (field name nullable shape parts rest) rf pf tf nf
-              → 0 < found → Fed space T Feed.NameThenPlace nullable rest rf (row_of found x y y.next) tf nf
-          go name nullable shape parts rest rf end tf nf a b c f q = absurd (z c.held.source.leads.is)
-          go name nullable shape parts rest rf (field name' nullable' shape' parts' rest') tf nf a b c f q =
-              let m = (picks a b f.0 f.1.1.1).present q in
-              let st = step a b f.0 f.1.1.1 in
+              → RowsKnown known true l (field name nullable shape parts rest) pf → 0 < found → Fed space T Feed.NameThenPlace nullable rest rf (row_of found x y y.next) tf nf
+          go name nullable shape parts rest rf end tf nf a b c f d q = absurd (z c.held.source.leads.is)
+          go name nullable shape parts rest rf (field name' nullable' shape' parts' rest') tf nf a b c f d q =
+              let m = (picks a b c f.1.1.0 d f.0 f.1.1.1).present q in
+              let st = step a b c f.1.1.0 d f.0 f.1.1.1 in
               record {
                 name = name;
                 own = m.nullable;
                 type = type_of m.shape m.parts;
                 more = st.more;
-                types = types_are a b f.0 f.1.1.1 q;
+                types = types_are a b c f.1.1.0 d f.0 f.1.1.1 q;
                 partner = chain_typed m.chain;
                 name' = name';
                 joined = nullable';
@@ -168,10 +169,10 @@ module _ (space : Space) (swap : Bool) (s w : List ℕ) (l r : ℕ) (x : Head) (
                 feeds = (st.behind, (refl, (end_next name' nullable' shape' parts' rest' rf f.1.1.0, f.1.1.1)));
               }
 
-    pub row_no_place : p ≡ 0 → {row : Row} → row ≡ row_of 0 x y y.next → RowIs space swap s w Feed.NameThenPlace l r p row
+    pub row_no_place : p ≡ 0 → {row : Row} → row ≡ row_of 0 x y y.next → RowIs known space swap s w Feed.NameThenPlace l r p row
     row_no_place z {row} e =
-        subst (RowIs space swap s w Feed.NameThenPlace l r p) (sym e)
+        subst (RowIs known space swap s w Feed.NameThenPlace l r p) (sym e)
         (record {
-          fed = λ name nullable shape parts rest rf pf tf nf a b c f q. absurd (omega arith);
-          unfed = λ name nullable shape parts rest rf pf tf nf a b c f q. inr (f.1.0 ∙ chain_end z c);
+          fed = λ name nullable shape parts rest rf pf tf nf a b c f d q. absurd (omega arith);
+          unfed = λ name nullable shape parts rest rf pf tf nf a b c f d q. inr (f.1.0 ∙ chain_end z c);
         })

@@ -1,3 +1,4 @@
 pub mod Naming
 pub mod Noting
 pub mod Feeding
+mod Walking

@@ -32,7 +32,7 @@ use Rattle.partners.specs.Naming.{Picks, Finds, Pairs, Tried, Within, Member, Li
 use Rattle.buffers.specs.declared.Space.{Space}
 use Rattle.buffers.proofs.Sources.{source_none, source_lower, link_inside, read_name}
 use Rattle.buffers.proofs.Chained.{held_next}
-use Rattle.partners.proofs.Noting.{noted_long, notes_trans, noted_says}
+use Rattle.partners.proofs.Noting.{picks_end, noted_long, notes_trans, noted_says}
 
 -- a name has at most 255 bytes
 pub label_short : (s : List ℕ) (n : ℕ) {h : Head} {u : List ℕ} → Bounded h → u ≡ label_at s n h.name h.nlen → length u ≤ 255
@@ -125,7 +125,7 @@ pub chain_held : {space : Space} {s : List ℕ} {link : ℕ} {t : Fields} (c : C
 chain_held c = held_lower 0 (omega arith) c.held
 
 -- a link that is past floor and past the records
-held_past : {space : Space} {s : List ℕ} {floor link r o up : ℕ} (t : Fields) → floor < link → space.n ≤ link → Held space s floor link r o up t → ⊥
+pub held_past : {space : Space} {s : List ℕ} {floor link r o up : ℕ} (t : Fields) → floor < link → space.n ≤ link → Held space s floor link r o up t → ⊥
 held_past end lo hi a = omega (arith, a.source.leads.is)
 held_past (field name nullable shape parts rest) lo hi a = omega (arith, link_inside a.source)
 
@@ -180,19 +180,7 @@ module _ (n : ℕ) (s want : List ℕ) (link : ℕ) (h : Head) (e : h ≡ head_a
       → EndOf (field label nullable shape parts rest) t → Picks space s want t link
   picks_here past b space en {label} {nullable} {shape} {parts} {rest} t c k =
       let q : label ≡ want = sym (same_equal want label (name_is b space en c.held.source)) in
-      record {
-        missing = λ z. absurd (omega arith);
-        present =
-            λ p.
-            record {
-              nullable = nullable;
-              shape = shape;
-              parts = parts;
-              rest = rest;
-              chain = subst (λ (x : List ℕ). Chain space s link (field x nullable shape parts rest)) q c;
-              ends = subst (λ (x : List ℕ). EndOf (field x nullable shape parts rest) t) q k;
-            };
-      }
+      picks_end space s t c k q
 
 -- a search says so of whatever chain stands at a link above a floor
 abbrev Seeks : Space → List ℕ → List ℕ → ℕ → ℕ → ℕ → Type 0
@@ -281,6 +269,16 @@ module _ (n : ℕ) (s : List ℕ) (link : ℕ) where
         go end d k = absurd (omega (arith, d.held.source.leads.is))
         go (field label nullable shape parts rest) d k = picks_here n s want j h e past b space en t d k
 
+-- the name of record i of s, and what was found of it, in buffers of n records
+module _ (n : ℕ) (s : List ℕ) (i : ℕ) (g : Head) (e : g ≡ head_at s i) (want : List ℕ) (ew : want ≡ label_at s n g.name g.nlen) where
+  pub want_is : (space : Space) {floor a o up : ℕ} {name : List ℕ} {nullable : Bool} {shape : Shape} {parts rest : Fields} → n ≡ space.n
+      → Held space s floor i a o up (field name nullable shape parts rest) → want ≡ name
+  want_is space en x = ew ∙ ap (λ (m : ℕ). label_at s m g.name g.nlen) en ∙ read_name x.source g e
+
+  pub pairs_found : (t : List ℕ) (r found : ℕ) → Finds n t want r found → (space : Space) → n ≡ space.n → Pairs space s t i r found
+  pairs_found t r found f space en name nullable shape parts rest rf x y =
+      subst (λ (u : List ℕ). Picks space t u rf found) (want_is space en x.held) (f space rf en y)
+
 -- the test for all names under way, in buffers of n records: what its rest says of the whole, and what was noted
 pub record Matching (n : ℕ) (s t : List ℕ) (floor l r key : ℕ) (old : List ℕ) (low i : ℕ) (table : List ℕ) : Type 0 where
   pub long : length table ≡ length old
@@ -313,10 +311,6 @@ module _ (n : ℕ) (s t : List ℕ) (floor l r key : ℕ) (old : List ℕ) (low 
     match_past h = matched false (λ space en. asks_past fields_have_same_names space s t low i r false past (omega arith))
 
     module _ (g : Head) (e : g ≡ head_at s i) (want : List ℕ) (ew : want ≡ label_at s n g.name g.nlen) (found : ℕ) (f : Finds n t want r found) where
-      want_is : (space : Space) {floor a o up : ℕ} {name : List ℕ} {nullable : Bool} {shape : Shape} {parts rest : Fields} → n ≡ space.n
-          → Held space s floor i a o up (field name nullable shape parts rest) → want ≡ name
-      want_is space en x = ew ∙ ap (λ (m : ℕ). label_at s m g.name g.nlen) en ∙ read_name x.source g e
-
       pub match_lack : found ≡ 0 → Matched n s t floor l r key old table false
       unfolding fields_have_same_names
       match_lack z = matched false go
@@ -324,7 +318,7 @@ module _ (n : ℕ) (s t : List ℕ) (floor l r key : ℕ) (old : List ℕ) (low 
           go : (space : Space) → n ≡ space.n → Asks fields_have_same_names space s t low i r false
           go space en a o up end rf x y = absurd (omega (arith, x.source.leads.is))
           go space en a o up (field name nullable shape parts rest) rf x y =
-              rw (sym (ap (λ (m : List ℕ). has_name m rf) (want_is space en x)) ∙ (f space rf en y).missing z)
+              rw (sym (ap (λ (m : List ℕ). has_name m rf) (want_is n s i g e want ew space en x)) ∙ (f space rf en y).missing z)
 
       pub match_on : n ≤ 1024 → i < n → found < 1024 → ¬ (found ≡ 0) → {new : List ℕ} → new ≡ noted table (key + i) r found
           → Matching n s t floor l r key old i g.next new
@@ -340,8 +334,7 @@ module _ (n : ℕ) (s t : List ℕ) (floor l r key : ℕ) (old : List ℕ) (low 
           past_none = omega arith
 
           says : (space : Space) → n ≡ space.n → Pairs space s t i r found
-          says space es name nullable shape parts rest rf x y =
-              subst (λ (u : List ℕ). Picks space t u rf found) (want_is space es x.held) (f space rf es y)
+          says = pairs_found n s i g e want ew t r found f
 
           go : (b : Bool) → ((space : Space) → n ≡ space.n → Asks fields_have_same_names space s t i g.next r b)
               → (space : Space) → n ≡ space.n → Asks fields_have_same_names space s t low i r b
@@ -389,45 +382,6 @@ module _ (space : Space) (s t : List ℕ) (floor l r : ℕ) where
     arity_on g h z eg eh b k a o up (field name nullable shape parts rest) (field name' nullable' shape' parts' rest') x y =
         k _ _ _ rest rest' (held_next x g eg) (record { floor = r; at = _; label = _; up = _; held = held_next y.held h eh })
         ∙ sym (eqb_next (arity rest) (arity rest'))
-
--- what the rest of the test for one order says of the whole, in buffers of n records
-abbrev pub Ordered : ℕ → List ℕ → List ℕ → ℕ → ℕ → ℕ → ℕ → ℕ → ℕ → Type 0
-Ordered n s t floor l r low i j = (space : Space) → n ≡ space.n → (b : Bool) → Asks same_order space s t low i j b → Asks same_order space s t floor l r b
-
-module _ (space : Space) (s t : List ℕ) (floor l r : ℕ) where
-  pub order_none : l ≤ floor → Asks same_order space s t floor l r true
-  unfolding same_order
-  order_none h a o up end rf x y = refl
-  order_none h a o up (field name nullable shape parts rest) rf x y = absurd (omega (arith, x.source.leads.is, x.source.leads.above))
-
-  module _ (past : floor < l) where
-    pub order_short : r ≡ 0 → Asks same_order space s t floor l r false
-    unfolding same_order
-    order_short z a o up end rf x y = absurd (omega (arith, x.source.leads.is))
-    order_short z a o up (field name nullable shape parts rest) end x y = refl
-    order_short z a o up (field name nullable shape parts rest) (field name' nullable' shape' parts' rest') x y =
-        absurd (omega (arith, y.held.source.leads.is, y.held.source.leads.above))
-
-    module _ (n : ℕ) (en : n ≡ space.n) (g h : Head) (z : ¬ (r ≡ 0)) (eg : g ≡ head_at s l) (eh : h ≡ head_at t r) (want : List ℕ) (ew : want ≡ label_at s n g.name g.nlen) {named : Bool}
-        (k : named ≡ same_bytes want (label_at t n h.name h.nlen)) where
-      names_are : {a o up : ℕ} {name : List ℕ} {nullable : Bool} {shape : Shape} {parts rest : Fields} (name' : List ℕ) {nullable' : Bool} {shape' : Shape} {parts' rest' : Fields}
-          → Held space s floor l a o up (field name nullable shape parts rest) → Chain space t r (field name' nullable' shape' parts' rest') → same_bytes name name' ≡ named
-      names_are name' x y =
-          ap (λ (u : List ℕ). same_bytes u name') (sym (ew ∙ ap (λ (m : ℕ). label_at s m g.name g.nlen) en ∙ read_name x.source g eg))
-          ∙ name_is n t want r h eh k space en y.held.source
-
-      pub order_other : named ≡ false → Asks same_order space s t floor l r false
-      unfolding same_order
-      order_other e a o up end rf x y = absurd (omega (arith, x.source.leads.is))
-      order_other e a o up (field name nullable shape parts rest) end x y = refl
-      order_other e a o up (field name nullable shape parts rest) (field name' nullable' shape' parts' rest') x y = rw (names_are name' x y ∙ e)
-
-      pub order_on : named ≡ true → (b : Bool) → Asks same_order space s t l g.next h.next b → Asks same_order space s t floor l r b
-      unfolding same_order
-      order_on e b f a o up end rf x y = absurd (omega (arith, x.source.leads.is))
-      order_on e b f a o up (field name nullable shape parts rest) end x y = absurd (z y.held.source.leads.is)
-      order_on e b f a o up (field name nullable shape parts rest) (field name' nullable' shape' parts' rest') x y =
-          rw (names_are name' x y ∙ e) (f _ _ _ rest rest' (held_next x g eg) (record { floor = r; at = _; label = _; up = _; held = held_next y.held h eh }))
 
 -- names in one order are all there, and a chain of one arity is that of its names
 order_within : (lf pf rf : Fields) → EndOf pf rf → same_order lf pf ≡ true → fields_have_same_names lf rf ≡ true

@@ -1,5 +1,5 @@
 -- The search for a name in a chain, the table of what was found, and the rows that it feeds.
-use Rattle.std.specs.Prelude.{◌≡◌, ℕ, ◌+◌, ◌*◌, ◌-◌, ◌/◌, ◌<◌, ◌≤◌, Bool, false, cond, ◌&&◌, ◌||◌, List, ◌⊎◌, length, get_or, set, ltb}
+use Rattle.std.specs.Prelude.{◌≡◌, ℕ, ◌+◌, ◌*◌, ◌/◌, ◌%◌, ◌<◌, ◌≤◌, Bool, true, false, cond, ◌&&◌, ◌||◌, List, Option, None, Some, ◌⊎◌, length, get_or, set, eqb, ltb}
 use Rattle.std.specs.List.{All}
 use Rattle.sheet.specs.Types.{Shape, Fields, field}
 use Rattle.sheet.specs.Head.{head_at, nullable_in}
@@ -7,12 +7,14 @@ use Rattle.sheet.specs.Read.{label_at}
 use Rattle.sheet.specs.Names.{has_name, mixed}
 use Rattle.sheet.specs.declared.Head.{Head}
 use Rattle.coercion.specs.Nested.{fields_have_same_names}
+use Rattle.buffers.specs.Differ.{RowsKnown}
 use Rattle.buffers.specs.Region.{Held}
 use Rattle.buffers.specs.Typed.{Chain}
 use Rattle.buffers.specs.Feeds.{EndOf}
-use Rattle.buffers.specs.Partners.{Present, key_of, Partner}
+use Rattle.buffers.specs.Partners.{Present, key_of, Partner, same_order}
 use Rattle.buffers.specs.declared.Space.{Space}
 use Rattle.buffers.specs.declared.Row.{Row}
+use Rattle.buffers.specs.declared.Feed.{Feed}
 
 -- what a search for a name in a chain says: the link of a field of that name, or 0
 pub record Picks (space : Space) (s : List ℕ) (name : List ℕ) (t : Fields) (found : ℕ) : Type 0 where
@@ -31,6 +33,12 @@ Pairs space s t l r found =
 -- the name of record j
 abbrev pub name_of : List ℕ → ℕ → ℕ → List ℕ
 name_of s n j = label_at s n (head_at s j).name (head_at s j).nlen
+
+-- the same for a row, where p stands at the place of l and something may be known of the names of both chains
+abbrev pub RowPairs : Option ℕ → Space → List ℕ → List ℕ → ℕ → ℕ → ℕ → ℕ → Type 0
+RowPairs known space s t l r p found =
+    (name : List ℕ) (nullable : Bool) (shape : Shape) (parts rest rf pf : Fields) → Chain space s l (field name nullable shape parts rest) → Chain space t r rf → Chain space t p pf
+    → EndOf pf rf → RowsKnown known true l (field name nullable shape parts rest) pf → Picks space t name rf found
 
 -- a record of a chain, whose name is tried before the chain is searched
 pub record Tried (space : Space) (s : List ℕ) (link : ℕ) (t : Fields) : Type 0 where
@@ -58,29 +66,54 @@ Lists n s link = All (Member n s link)
 abbrev pub Indexed : ℕ → List ℕ → ℕ → List ℕ → List ℕ → Type 0
 Indexed n s link heads olds = Lists n s link heads × Lists n s link olds
 
--- what a table says of record i of a side; 0 where it has no place for it
-abbrev pub entry_of : List ℕ → Bool → ℕ → ℕ
-entry_of table swap i = cond (ltb i 1024) (get_or table (key_of swap i) 0) 0
+-- the place of a record's number in a table: there is one for each, or in a small table one for 32 of a side
+abbrev pub place_in : ℕ → ℕ → ℕ
+place_in len k = cond (ltb len 2048) (k % 32 + 32 * (k / 1024)) k
 
--- a table after record j of the chain at r was noted at place k, where there is one
+-- the partner of the record of number k in the chain at r, as an entry e says; 0 where it is of another record or chain
+abbrev pub own_partner : ℕ → ℕ → ℕ → ℕ
+own_partner k r e = cond (eqb (e / 1024) (1024 * k + r)) (e % 1024) 0
+
+-- the same of record i of a side, as a table says
+abbrev pub partner_in : List ℕ → Bool → ℕ → ℕ → ℕ
+partner_in table swap i r = cond (ltb i 1024 && ltb r 1024) (own_partner (key_of swap i) r (get_or table (place_in (length table) (key_of swap i)) 0)) 0
+
+-- a table after record j of the chain at r was noted for the record of number k, where there is a place for it
 abbrev pub noted : List ℕ → ℕ → ℕ → ℕ → List ℕ
-noted table k r j = cond (ltb k (length table) && ltb r 65536) (set table k (65536 * r + j)) table
+noted table k r j =
+    cond (ltb k 2048 && (ltb r 1024 && ltb (place_in (length table) k) (length table))) (set table (place_in (length table) k) (1048576 * k + 1024 * r + j)) table
 
--- a true entry at place k, of a record of s, whose first record has place key
-pub record News (space : Space) (s t : List ℕ) (key k e : ℕ) : Type 0 where
-  pub low : key ≤ k
-  pub high : k < key + 1024
-  pub says : Partner space s t (k - key) e
+-- a true entry e, of a record of s, of which the first has number key
+pub record News (space : Space) (s t : List ℕ) (key e : ℕ) : Type 0 where
+  pub at : ℕ
+  pub low : at < 1024
+  pub own : e / 1048576 ≡ key + at
+  pub says : Partner space s t at e
 
 -- each entry that was noted is true
 abbrev pub Notes : ℕ → List ℕ → List ℕ → ℕ → List ℕ → List ℕ → Type 0
-Notes n s t key old new = (space : Space) → n ≡ space.n → (k : ℕ) → (get_or new k 0 ≡ get_or old k 0) ⊎ News space s t key k (get_or new k 0)
+Notes n s t key old new = (space : Space) → n ≡ space.n → (k : ℕ) → (get_or new k 0 ≡ get_or old k 0) ⊎ News space s t key (get_or new k 0)
 
--- the names of the chain at l of s were looked for in the chain at r of t, and noted from place key on
+-- the names of the chain at l of s were looked for in the chain at r of t, and noted from number key on
 pub record Matched (n : ℕ) (s t : List ℕ) (floor l r key : ℕ) (old new : List ℕ) (b : Bool) : Type 0 where
   pub long : length new ≡ length old
   pub notes : Notes n s t key old new
   pub asks : (space : Space) → n ≡ space.n → (a o up : ℕ) (lf rf : Fields) → Held space s floor l a o up lf → Chain space t r rf → b ≡ fields_have_same_names lf rf
+
+-- which fields feed those of a Struct: the ones at their places where the names stand in one order, by_name's where they are the same in another
+abbrev pub structs_feed : Feed → Fields → Fields → Option Feed
+structs_feed by_name l r = cond (same_order l r) (Some Feed.Place) (cond (fields_have_same_names l r) (Some by_name) None)
+
+-- the same of whatever chains stand at two links, where something may be known of their names
+abbrev pub StructsFed : Option ℕ → Feed → Space → List ℕ → List ℕ → ℕ → ℕ → ℕ → Option Feed → Type 0
+StructsFed known by_name space s t floor l r feed =
+    (a o up : ℕ) (lf rf : Fields) → Held space s floor l a o up lf → Chain space t r rf → RowsKnown known true l lf rf → feed ≡ structs_feed by_name lf rf
+
+-- the names of the chain at l of s were looked at beside those of the chain at r of t, and noted from number key on
+pub record Walked (n : ℕ) (s t : List ℕ) (known : Option ℕ) (by_name : Feed) (floor l r key : ℕ) (old new : List ℕ) (feed : Option Feed) : Type 0 where
+  pub long : length new ≡ length old
+  pub notes : Notes n s t key old new
+  pub feeds : (space : Space) → n ≡ space.n → StructsFed known by_name space s t floor l r feed
 
 -- the row of a field whose nullability is that of two heads
 abbrev pub row_of : ℕ → Head → Head → ℕ → Row

@@ -1,67 +1,22 @@
-// Whether the fields of two chains have the same names, and how many they are. Slices and links stand one by one: floor and l move on in the loops, and
+// What feeds the fields of a chain by their names, and how many they are. Slices and links stand one by one: floor and l move on in the loops, and
 // `are_searched` hands them on as they stand.
 ghost use Rattle.std.specs.Prelude.{◌≡◌, not, ℕ, ◌≤◌, length, eqb};
 ghost use Rattle.sheet.specs.Types.{Fields, arity};
-ghost use Rattle.coercion.specs.Nested.{fields_have_same_names};
 ghost use Rattle.buffers.specs.Writes.{side};
 ghost use Rattle.buffers.specs.Region.{Held};
 ghost use Rattle.buffers.specs.Typed.{Chain};
-ghost use Rattle.buffers.specs.Partners.{Partners, same_order};
+ghost use Rattle.buffers.specs.Partners.{Partners};
 ghost use Rattle.buffers.specs.declared.Space.{Space};
-ghost use Rattle.partners.specs.Naming.{Indexed, Matched};
+ghost use Rattle.partners.specs.Naming.{Indexed, Matched, Walked, StructsFed};
 
 use crate::index::Index;
 use crate::order::are_ordered;
-use crate::search::{find, is_named};
+use crate::search::{are_known, find, is_field_named};
 use crate::table::{key_of, note};
-use buffers::Space;
 use buffers::write::sides;
+use buffers::{Feed, Space};
 use sheet::label::label_at;
 use sheet::record::head_at;
-
-// Whether the chains at a link of s and at one of t have the same names place by place, as far as the first goes.
-fn are_in_order(s: &[u8], t: &[u8], n: usize, floor: usize, l: usize, r: usize) -> bool
-    requires { n ≤ 1024 }
-    ensures { (space : Space) → n ≡ space.n → (a o up : ℕ) (lf rf : Fields) → Held space s.now floor l a o up lf → Chain space t.now r rf → result ≡ same_order lf rf }
-{
-    let mut low = floor;
-    let mut i = l;
-    let mut j = r;
-    while low < i {
-        if n <= i {
-            return false;
-        }
-        if j == 0 {
-            return false;
-        }
-        let g = head_at(s, i);
-        let h = head_at(t, j);
-        if !is_named(t, n, h, label_at(s, n, g.name, g.nlen)) {
-            return false;
-        }
-        low = i;
-        i = g.next;
-        j = h.next;
-    }
-    true
-}
-
-// The same of a side and the other.
-pub fn in_order(
-    sheet: &[u8],
-    work: &[u8],
-    space: Space,
-    swap: bool,
-    floor: usize,
-    l: usize,
-    r: usize,
-) -> bool
-    requires { space.n ≤ 1024 }
-    ensures { (a o up : ℕ) (lf rf : Fields) → Held space (side swap sheet.now work.now) floor l a o up lf → Chain space (side (not swap) sheet.now work.now) r rf → result ≡ same_order lf rf }
-{
-    let (s, t) = sides(sheet, work, swap);
-    are_in_order(s, t, space.n, floor, l, r)
-}
 
 // Whether each name of the chain at a link of s is one of the chain at a link of t, of which there is an index. Those that are found are noted in a table,
 // from a key on. Where a row of the index is long, the rest are looked for in order.
@@ -154,23 +109,75 @@ fn are_searched(
     true
 }
 
-// Whether each name of the chain at a link of a side is one of the chain at a link of the other. Those that are found are noted in a table of partners.
-pub fn have_same_names(
+// What feeds the fields of the chain at a link of s: those at their places in the chain at a link of t where the names stand in one order, by_name where they are
+// the same in another. Names that stand in order are noted on the way, and the search goes on from the first that does not.
+fn feed_along(
+    s: &[u8],
+    t: &[u8],
+    n: usize,
+    known: Option<usize>,
+    by_name: Feed,
+    floor: usize,
+    l: usize,
+    r: usize,
+    key: usize,
+    table: &mut [u32],
+) -> Option<Feed>
+    requires { (n ≤ 1024) × (key ≤ 1024) }
+    ensures { Walked n s.now t.now known by_name floor l r key table.old table.new result }
+{
+    let mut low = floor;
+    let mut i = l;
+    let mut j = r;
+    while low < i {
+        if n <= i {
+            return None;
+        }
+        let g = head_at(s, i);
+        let h = head_at(t, j);
+        if !are_known(known, i, j) {
+            if !is_field_named(t, n, j, h, label_at(s, n, g.name, g.nlen)) {
+                return are_searched(s, t, n, low, i, r, key, table).then_some(by_name);
+            }
+            note(table, key + i, r, j);
+        }
+        low = i;
+        i = g.next;
+        j = h.next;
+    }
+    Some(Feed::Place)
+}
+
+// What feeds the fields of the chain at a link of a side, where that of the other is the right of two Structs. Partners that are found are noted in a table.
+pub fn struct_feed(
     sheet: &[u8],
     work: &[u8],
     space: Space,
     swap: bool,
+    known: Option<usize>,
+    by_name: Feed,
     floor: usize,
     l: usize,
     r: usize,
     table: &mut [u32],
-) -> bool
+) -> Option<Feed>
     requires { space.n ≤ 1024 }
-    ensures by_index { (a o up : ℕ) (lf rf : Fields) → Held space (side swap sheet.now work.now) floor l a o up lf → Chain space (side (not swap) sheet.now work.now) r rf → result ≡ fields_have_same_names lf rf }
-    ensures table_len_unchanged { (length table.new ≡ length table.old) × (Partners space sheet.now work.now table.old → Partners space sheet.now work.now table.new) }
+    ensures fed { StructsFed known by_name space (side swap sheet.now work.now) (side (not swap) sheet.now work.now) floor l r result }
+    ensures table_stays { (length table.new ≡ length table.old) × (Partners space sheet.now work.now table.old → Partners space sheet.now work.now table.new) }
 {
     let (s, t) = sides(sheet, work, swap);
-    are_searched(s, t, space.n, floor, l, r, key_of(swap, 0), table)
+    feed_along(
+        s,
+        t,
+        space.n,
+        known,
+        by_name,
+        floor,
+        l,
+        r,
+        key_of(swap, 0),
+        table,
+    )
 }
 
 // Whether the chains at a link of s and at one of t have as many fields.

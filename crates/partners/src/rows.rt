@@ -6,23 +6,24 @@ ghost use Rattle.sheet.specs.Bounds.{Bounded};
 ghost use Rattle.buffers.specs.Writes.{side};
 ghost use Rattle.buffers.specs.Feeds.{RowIs};
 ghost use Rattle.buffers.specs.Partners.{Partners};
-ghost use Rattle.partners.specs.Naming.{Finds, Pairs, row_of};
+ghost use Rattle.partners.specs.Naming.{Finds, RowPairs, row_of};
 
-use crate::search::find;
-use crate::table::entry;
+use crate::search::{are_known, find};
+use crate::table::partner_in;
 use buffers::copy::is_nullable;
 use buffers::write::{look, sides};
 use buffers::{Feed, Row, Space};
 use sheet::Head;
 use sheet::label::label_at;
 
-// The sources of two chains, the left in the work space where swap is set, and a table of partners.
+// The sources of two chains, the left in the work space where swap is set, what is known of their names, and a table of partners.
 #[derive(Clone, Copy)]
 struct Rows<'a> {
     sheet: &'a [u8],
     work: &'a [u8],
     space: Space,
     swap: bool,
+    known: Option<usize>,
     table: &'a [u32],
     ghost few: { space.n ≤ 1024 },
 }
@@ -49,14 +50,17 @@ impl Rows<'_> {
         find(t, n, label_at(s, n, x.name, x.nlen), r)
     }
 
-    // The same of record l. Where the table says which it is, no name is compared.
-    fn partner(&self, x: Head, l: usize, r: usize) -> usize
+    // The same of record l, where p is the record at its place. Where it is known or the table says which it is, no name is compared.
+    fn partner(&self, x: Head, l: usize, r: usize, p: usize) -> usize
         requires { Bounded x }
-        ensures { x ≡ head_at (side self.now.swap self.now.sheet.now self.now.work.now) l → Partners self.now.space self.now.sheet.now self.now.work.now self.now.table.now → Pairs self.now.space (side self.now.swap self.now.sheet.now self.now.work.now) (side (not self.now.swap) self.now.sheet.now self.now.work.now) l r result }
+        ensures { x ≡ head_at (side self.now.swap self.now.sheet.now self.now.work.now) l → Partners self.now.space self.now.sheet.now self.now.work.now self.now.table.now → RowPairs self.now.known self.now.space (side self.now.swap self.now.sheet.now self.now.work.now) (side (not self.now.swap) self.now.sheet.now self.now.work.now) l r p result }
     {
-        let e = entry(self.table, self.swap, l);
-        if 0 < e && e / 65536 == r {
-            return e % 65536;
+        if are_known(self.known, l, p) {
+            return p;
+        }
+        let j = partner_in(self.table, self.swap, l, r);
+        if 0 < j {
+            return j;
         }
         self.searched(x, r)
     }
@@ -64,9 +68,9 @@ impl Rows<'_> {
     // The row of a field that is fed by name.
     fn named_row(&self, x: Head, y: Head, l: usize, r: usize, p: usize) -> Row
         requires { Bounded x }
-        ensures { x ≡ head_at (side self.now.swap self.now.sheet.now self.now.work.now) l → y ≡ head_at (side (not self.now.swap) self.now.sheet.now self.now.work.now) p → Partners self.now.space self.now.sheet.now self.now.work.now self.now.table.now → RowIs self.now.space self.now.swap self.now.sheet.now self.now.work.now Feed.Name l r p result }
+        ensures { x ≡ head_at (side self.now.swap self.now.sheet.now self.now.work.now) l → y ≡ head_at (side (not self.now.swap) self.now.sheet.now self.now.work.now) p → Partners self.now.space self.now.sheet.now self.now.work.now self.now.table.now → RowIs self.now.known self.now.space self.now.swap self.now.sheet.now self.now.work.now Feed.Name l r p result }
     {
-        let j = self.partner(x, l, r);
+        let j = self.partner(x, l, r, p);
         let h = look(self.sheet, self.work, !self.swap, j);
         row_of(j, x, h, y.next)
     }
@@ -74,22 +78,24 @@ impl Rows<'_> {
     // The row of a field that takes its type by name and its nullability by place.
     fn named_place(&self, x: Head, y: Head, l: usize, r: usize, p: usize) -> Row
         requires { Bounded x }
-        ensures { x ≡ head_at (side self.now.swap self.now.sheet.now self.now.work.now) l → y ≡ head_at (side (not self.now.swap) self.now.sheet.now self.now.work.now) p → Partners self.now.space self.now.sheet.now self.now.work.now self.now.table.now → RowIs self.now.space self.now.swap self.now.sheet.now self.now.work.now Feed.NameThenPlace l r p result }
+        ensures { x ≡ head_at (side self.now.swap self.now.sheet.now self.now.work.now) l → y ≡ head_at (side (not self.now.swap) self.now.sheet.now self.now.work.now) p → Partners self.now.space self.now.sheet.now self.now.work.now self.now.table.now → RowIs self.now.known self.now.space self.now.swap self.now.sheet.now self.now.work.now Feed.NameThenPlace l r p result }
     {
         let next = y.next;
         if p == 0 {
             return row_of(0, x, y, next);
         }
-        row_of(self.partner(x, l, r), x, y, next)
+        row_of(self.partner(x, l, r, p), x, y, next)
     }
 }
 
-// What feeds the field at a link of the left. A feed is a value and no closure: it goes down with the rows, and contracts say what it means.
+// What feeds the field at a link of the left, where something may be known of the names of both chains from it on. A feed is a value and no closure: it goes
+// down with the rows, and contracts say what it means.
 pub fn row(
     sheet: &[u8],
     work: &[u8],
     space: Space,
     swap: bool,
+    known: Option<usize>,
     feed: Feed,
     l: usize,
     r: usize,
@@ -97,7 +103,7 @@ pub fn row(
     table: &[u32],
 ) -> Row
     requires { space.n ≤ 1024 }
-    ensures { Partners space sheet.now work.now table.now → RowIs space swap sheet.now work.now feed l r p result }
+    ensures { Partners space sheet.now work.now table.now → RowIs known space swap sheet.now work.now feed l r p result }
 {
     let x = look(sheet, work, swap, l);
     let y = look(sheet, work, !swap, p);
@@ -106,6 +112,7 @@ pub fn row(
         work,
         space,
         swap,
+        known,
         table,
     };
     match feed {

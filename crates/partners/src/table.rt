@@ -1,14 +1,27 @@
-// A table of partners: for a record of a side, the record of a chain of the other side that has its name.
+// A table of partners: for a record of a side, the record of a chain of the other side that has its name. An entry is one number, 1,048,576 times the number of
+// the record, and 1,024 times the link of the chain, and the partner: so a table may be short, where records share a place, and what another left there says
+// nothing. Only this file makes an entry and takes it apart.
 ghost use Rattle.std.specs.Prelude.{◌≡◌, ◌<◌, get_or};
 ghost use Rattle.buffers.specs.Partners.{key_of};
-ghost use Rattle.partners.specs.Naming.{entry_of, noted};
+ghost use Rattle.partners.specs.Naming.{place_in, partner_in, noted};
 
-// The place of record i of a side: the one place that chooses a half of the table.
+// The number of record i of a side.
 pub(crate) fn key_of(swap: bool, i: usize) -> usize
     requires { i < 65536 }
     ensures { result ≡ key_of swap i }
 {
     if swap { 1024 + i } else { i }
+}
+
+// The place of a record's number in a table of a length.
+fn place_in(len: usize, k: usize) -> usize
+    ensures { result ≡ place_in len k }
+{
+    if len < 2048 {
+        k % 32 + 32 * (k / 1024)
+    } else {
+        k
+    }
 }
 
 fn at(table: &[u32], k: usize) -> usize
@@ -17,23 +30,29 @@ fn at(table: &[u32], k: usize) -> usize
     table.get(k).map_or(0, |&e| e as usize)
 }
 
-// What a table says of record i of a side; 0 where it says nothing.
-pub(crate) fn entry(table: &[u32], swap: bool, i: usize) -> usize
-    ensures { result ≡ entry_of table.now swap i }
+// The partner of record i of a side in the chain at r, as a table says; 0 where it says nothing of them.
+pub(crate) fn partner_in(table: &[u32], swap: bool, i: usize, r: usize) -> usize
+    ensures { result ≡ partner_in table.now swap i r }
 {
-    if 1024 <= i {
+    if 1024 <= i || 1024 <= r {
         return 0;
     }
-    at(table, key_of(swap, i))
+    let k = key_of(swap, i);
+    let e = at(table, place_in(table.len(), k));
+    if e / 1024 == 1024 * k + r {
+        e % 1024
+    } else {
+        0
+    }
 }
 
-// Notes at a key of a table that record j of the chain at r is a partner, where there is room for it. An entry is one number, 65,536 times r and then j: only
-// this makes it and only `Rows::partner` takes it apart, so a struct would be no plainer.
+// Notes that record j of the chain at r is the partner of the record of number k, where there is a place for it.
 pub(crate) fn note(table: &mut [u32], k: usize, r: usize, j: usize)
-    requires { j < 65536 }
+    requires { j < 1024 }
     ensures { table.new ≡ noted table.old k r j }
 {
-    if k < table.len() && r < 65536 {
-        table[k] = (65536 * r + j) as u32;
+    let place = place_in(table.len(), k);
+    if k < 2048 && r < 1024 && place < table.len() {
+        table[place] = (1048576 * k + 1024 * r + j) as u32;
     }
 }

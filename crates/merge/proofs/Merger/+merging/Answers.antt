@@ -11,7 +11,7 @@ use Rattle.merge.proofs.Merging.{any_known, any_hint, none_hint, tabled_over}
 use Rattle.merge.proofs.Names.{stopped, goal_ready}
 use Rattle.merge.proofs.Parents.{head_stopped, both_on, field_alone, field_on, map_left_end, map_right_end, map_on, after_passes, under_on}
 use Rattle.merge.proofs.Rewrapping.{index_stopped, value_stopped, wrapper_on, viewed_tabled}
-use Rattle.merge.proofs.Structs.{fed_none, fed_or_placed, struct_none, struct_other, struct_merged, listed_unlike, listed_none, listed_fed}
+use Rattle.merge.proofs.Structs.{fed_or_placed, struct_none, struct_other, struct_merged, listed_unlike, listed_none, listed_fed}
 use Rattle.merge.proofs.Turning.{both_true, left_false, right_false, both_are, not_both, one_is, none_is, is_37_or_38, both_below, resolve_dictionary, resolve_runs, resolve_nested, wrap_both, wrap_left, wrap_right, wrap_none, unwrap_done, unwrap_full, unwrap_nested, way_merged, way_spent, wrapper_none, wrapper_both, wrapper_left_same, wrapper_left, wrapper_right_same, wrapper_right, nested_list, nested_listed, nested_struct, nested_map, nested_plain, list_merged}
 use Rattle.merge.proofs.Merger.+merging.Goals.{nested-else-is_list-via-else-is_list, nested-else-is_list-via-then-is_list+else-is_list-2, struct_rule-else-x-eq35-via-else-x-eq35, struct_rule-else-x-eq35-via-then-x-eq35+else-y-eq35, struct_rule-else-x-eq35-via-then-x-eq35+then-y-eq35+else-same_arity}
 use Rattle.merge.proofs.Merger.+merging.Goals as goal
@@ -110,7 +110,7 @@ list_struct-returns-in-Some-clause-merges_known t c =
 
 pub list_struct-returns-in-None-clause-merges_known : goal.list_struct-returns-in-None-clause-merges_known
 list_struct-returns-in-None-clause-merges_known t c =
-    listed_none _ _ _ c.args.swap _ _ _ _ _ _ _ c.heads.ensures.left.0 c.heads.ensures.right.0 c.same_arity.ensures c.if-not-same_arity.false (fed_none c.in-None.ensures.struct_fed) refl
+    listed_none _ _ _ c.args.swap _ _ _ _ _ _ _ c.heads.ensures.left.0 c.heads.ensures.right.0 c.same_arity.ensures c.if-not-same_arity.false c.args.known _ c.in-None.ensures.struct_fed
 
 pub map_rule-returns-then-a-eq0-clause-merges_known : goal.map_rule-returns-then-a-eq0-clause-merges_known
 map_rule-returns-then-a-eq0-clause-merges_known t c =
@@ -218,11 +218,11 @@ rows-returns-then-left-eq0-clause-rowed t c =
 
 pub rows-returns-then-partner-eq0-clause-rowed : goal.rows-returns-then-partner-eq0-clause-rowed
 rows-returns-then-partner-eq0-clause-rowed t c =
-    rows_unfed c.args.known _ _ c.args.self.now.space c.args.left c.args.swap _ _ c.args.feed _ _ _ _ _ c.if-l-eq0.false (c.row-row.ensures c.requires.tabled.partners) c.if-partner-eq0.true
+    rows_unfed c.args.known _ _ c.args.self.now.space c.args.left c.args.swap _ _ c.args.feed _ _ _ _ _ c.if-l-eq0.false (rw c.known_names-names.ensures at (c.row-row.ensures c.requires.tabled.partners)) c.if-partner-eq0.true
 
 pub rows-returns-in_err-g-clause-rowed : goal.rows-returns-in_err-g-clause-rowed
 rows-returns-in_err-g-clause-rowed t c =
-    rw (stopped _ c.from_residual.ensures.1) (rw c.in_err-g.ensures.goal (rows_crowded c.args.known _ _ c.args.self.now.space c.args.left c.args.swap _ _ c.args.feed _ _ _ _ c.requires.room.0 c.requires.room.1 _ c.look-x.ensures.0 c.if-l-eq0.false _ (c.row-row.ensures c.requires.tabled.partners) c.if-partner-eq0.false _ _ c.in_err-g.ensures.named refl))
+    rw (stopped _ c.from_residual.ensures.1) (rw c.in_err-g.ensures.goal (rows_crowded c.args.known _ _ c.args.self.now.space c.args.left c.args.swap _ _ c.args.feed _ _ _ _ c.requires.room.0 c.requires.room.1 _ c.look-x.ensures.0 c.if-l-eq0.false _ (rw c.known_names-names.ensures at (c.row-row.ensures c.requires.tabled.partners)) c.if-partner-eq0.false _ _ c.in_err-g.ensures.named refl))
 
 pub rows-returns-in_err-g-clause-stays_tabled : goal.rows-returns-in_err-g-clause-stays_tabled
 rows-returns-in_err-g-clause-stays_tabled t c =
@@ -235,17 +235,17 @@ rows-common-requires t c =
 pub rows-returns-in_err-d-clause-rowed : goal.rows-returns-in_err-d-clause-rowed
 rows-returns-in_err-d-clause-rowed t c =
     let one = none_hint c.args.swap (rw c.in_ok-g.ensures.goal at c.in_err-d.ensures.merges_hinted) in
-    rw (stopped _ c.from_residual-in_err-d.ensures.1) (rows_stopped c.args.known _ _ c.args.self.now.space c.args.left c.args.swap _ _ c.args.feed _ _ _ _ c.requires.room.0 c.requires.room.1 _ c.look-x.ensures.0 c.if-l-eq0.false _ (c.row-row.ensures c.requires.tabled.partners) c.if-partner-eq0.false _ _ c.in_ok-g.ensures.named _ c.row_known-own.ensures refl _ _ one)
+    rw (stopped _ c.from_residual-in_err-d.ensures.1) (rows_stopped c.args.known _ _ c.args.self.now.space c.args.left c.args.swap _ _ c.args.feed _ _ _ _ c.requires.room.0 c.requires.room.1 _ c.look-x.ensures.0 c.if-l-eq0.false _ (rw c.known_names-names.ensures at (c.row-row.ensures c.requires.tabled.partners)) c.if-partner-eq0.false _ _ c.in_ok-g.ensures.named _ c.row_known-own.ensures refl _ _ one)
 
 pub rows-returns-in_err-e-clause-rowed : goal.rows-returns-in_err-e-clause-rowed
 rows-returns-in_err-e-clause-rowed t c =
     let one = none_hint c.args.swap (rw c.in_ok-g.ensures.goal at c.in_ok-d.ensures.merges_hinted) in
-    rw (stopped _ c.from_residual-in_err-e.ensures.1) (rows_rest_stopped c.args.known _ _ c.args.self.now.space c.args.left c.args.swap _ _ c.args.feed _ _ _ _ c.requires.room.0 c.requires.room.1 _ c.look-x.ensures.0 c.if-l-eq0.false _ (c.row-row.ensures c.requires.tabled.partners) c.if-partner-eq0.false _ _ c.in_ok-g.ensures.named _ c.row_known-own.ensures refl _ _ one _ _ c.in_err-e.ensures.rowed)
+    rw (stopped _ c.from_residual-in_err-e.ensures.1) (rows_rest_stopped c.args.known _ _ c.args.self.now.space c.args.left c.args.swap _ _ c.args.feed _ _ _ _ c.requires.room.0 c.requires.room.1 _ c.look-x.ensures.0 c.if-l-eq0.false _ (rw c.known_names-names.ensures at (c.row-row.ensures c.requires.tabled.partners)) c.if-partner-eq0.false _ _ c.in_ok-g.ensures.named _ c.row_known-own.ensures refl _ _ one _ _ c.in_err-e.ensures.rowed)
 
 pub rows-returns-clause-rowed : goal.rows-returns-clause-rowed
 rows-returns-clause-rowed t c =
     let one = none_hint c.args.swap (rw c.in_ok-g.ensures.goal at c.in_ok-d.ensures.merges_hinted) in
-    rows_done c.args.known _ _ c.args.self.now.space c.args.left c.args.swap _ _ c.args.feed _ _ _ _ c.requires.room.0 c.requires.room.1 _ c.look-x.ensures.0 c.if-l-eq0.false _ (c.row-row.ensures c.requires.tabled.partners) c.if-partner-eq0.false _ _ c.in_ok-g.ensures.named _ c.row_known-own.ensures refl _ _ one _ _ _ _ c.in_ok-e.ensures.rowed c.next_link.ensures.0 c.tie.ensures
+    rows_done c.args.known _ _ c.args.self.now.space c.args.left c.args.swap _ _ c.args.feed _ _ _ _ c.requires.room.0 c.requires.room.1 _ c.look-x.ensures.0 c.if-l-eq0.false _ (rw c.known_names-names.ensures at (c.row-row.ensures c.requires.tabled.partners)) c.if-partner-eq0.false _ _ c.in_ok-g.ensures.named _ c.row_known-own.ensures refl _ _ one _ _ _ _ c.in_ok-e.ensures.rowed c.next_link.ensures.0 c.tie.ensures
 
 pub rows-returns-clause-stays_tabled : goal.rows-returns-clause-stays_tabled
 rows-returns-clause-stays_tabled t c =

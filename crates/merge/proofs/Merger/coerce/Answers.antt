@@ -1,6 +1,10 @@
 use Rattle.merge.proofs.Merging.{tabled_zeros}
 use Rattle.merge.proofs.Merger.coerce.Goals as goal
 
+pub common-requires-clause-tabled : goal.common-requires-clause-tabled
+common-requires-clause-tabled c =
+    tabled_zeros 64
+
 pub common-requires-2-clause-tabled : goal.common-requires-2-clause-tabled
 common-requires-2-clause-tabled c =
     tabled_zeros 2048

@@ -1,10 +1,10 @@
 use Prim.Native.Nat.{◌-◌}
-use Rattle.partners.proofs.Naming.{Ordered}
-use Rattle.partners.proofs.names.are_in_order.Given as goal
+use Rattle.partners.proofs.Walking.{Walking}
+use Rattle.partners.proofs.names.feed_along.Given as goal
 
 abbrev pub invariant-loop-low : goal.invariant-loop-low
 invariant-loop-low l =
-    Ordered l.n l.s l.t l.floor l.l l.r l.low l.i l.j
+    Walking l.n l.s l.t l.known l.by_name l.floor l.l l.r l.key l.initial.table l.low l.i l.j l.table
 
 abbrev pub decreases-loop-low : goal.decreases-loop-low
 decreases-loop-low l =
