@@ -2,7 +2,6 @@
 use mathlib.Core.Path.{◌≡◌, refl, ap, sym, subst, ◌∙◌}
 use mathlib.Core.Bool.{Bool, true, false, cond}
 use mathlib.Core.List.{List}
-use Rattle.std.specs.Prelude.{Option}
 use Prim.Native.Nat.{ℕ, ◌+◌, ◌*◌, ◌-◌, ◌/◌, ◌<◌, ◌≤◌}
 use native.Mathlib.Omega.{arith}
 use borrow.Author.Tests.{ltb-true}
@@ -26,7 +25,6 @@ use Rattle.buffers.specs.declared.Spot.{Spot}
 use Rattle.buffers.proofs.Frames.{head_bytes}
 use Rattle.buffers.proofs.Chained.{labels_sum}
 use Rattle.buffers.proofs.Rows.{chain_typed}
-use Rattle.values.specs.Keeps.{CoreAt, CoreIf}
 use Rattle.resolution.specs.Reached.{Shifted, Candidate, Mirrored}
 
 -- a record that has a kind lies inside
@@ -167,7 +165,7 @@ mirrored_typed space s w v {t = t} room m a =
 
 -- the second half as a part of the work space, and the candidate in it
 module _ (space : Space) (w : List ℕ) where
-  abbrev second : List ℕ
+  abbrev pub second : List ℕ
   second = take (length w - space.half) (region space w)
 
   second_half : second ≡ region space w
@@ -176,11 +174,9 @@ module _ (space : Space) (w : List ℕ) where
   pub head_second : (h : Head) (r : ℕ) → h ≡ head_at second r → h ≡ head_at (region space w) r
   head_second h r e = e ∙ ap (λ (u : List ℕ). head_at u r) second_half
 
-  pub core_second : (k : Option ℕ) {l : ℕ} → (CoreIf space second k → CoreAt space second 1 l) → CoreIf space (region space w) k → CoreAt space (region space w) 1 l
-  core_second k {l} f a = subst (λ (u : List ℕ). CoreAt space u 1 l) second_half (f (subst (λ (u : List ℕ). CoreIf space u k) (sym second_half) a))
+  pub to_second : (P : List ℕ → Type 0) → P (region space w) → P second
+  to_second P = subst P (sym second_half)
 
-  pub on_candidate : {P : DataType → DataType → Type 0} {s : List ℕ} {link k : ℕ} {d : Spot} → Room w space → Inside space d → CoreAt space (region space w) 1 k
-      → (CoreAt space second 1 k → (x c : DataType) → Typed space s link x → Typed space second 1 c → P x c) → (x c : DataType) → Typed space s link x → Candidate space w d c → P x c
-  on_candidate {k = k} {d} room inside at f x c a b =
-      f (subst (λ (u : List ℕ). CoreAt space u 1 k) (sym second_half) at) x c a
-      (subst (λ (u : List ℕ). Typed space u 1 c) (sym second_half) (candidate_stands space w d c room inside b))
+  pub on_candidate : {P : DataType → DataType → Type 0} {s : List ℕ} {link : ℕ} {d : Spot} → Room w space → Inside space d
+      → ((x c : DataType) → Typed space s link x → Typed space second 1 c → P x c) → (x c : DataType) → Typed space s link x → Candidate space w d c → P x c
+  on_candidate {d = d} room inside f x c a b = f x c a (to_second (λ u. Typed space u 1 c) (candidate_stands space w d c room inside b))

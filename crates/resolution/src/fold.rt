@@ -15,7 +15,7 @@ use buffers::field::copy_field;
 use buffers::{Failure, Out, Question, Spot};
 use merge::Merger;
 use sheet::record::head_at;
-use values::keep::{core_of, is_core_alone, keeps};
+use values::keep::{bottom_of, is_core_alone, keeps};
 use values::taken::{is_taken, taken_kinds};
 use values::value::{Leaf, common_type, is_plain, leaf_of};
 
@@ -97,11 +97,11 @@ impl<'a> Resolver<'a> {
             let h = head_at(self.sheet, at);
             if h.kind != 1 {
                 let second = &work[self.space.half..];
-                let core = core_of(second, self.space, known);
-                if keeps(self.sheet, second, self.space, self.mask, at, core) {
-                    known = Some(core);
+                let bottom = bottom_of(second, self.space, known);
+                if keeps(self.sheet, second, self.space, self.mask, at, bottom) {
+                    known = Some(bottom);
                 } else {
-                    end = self.step_list(work, core, at, end)?;
+                    end = self.step_list(work, bottom.core, at, end)?;
                     known = None;
                 }
             }

@@ -44,9 +44,10 @@ use Rattle.buffers.proofs.Turns.{turns, spoken}
 use Rattle.wrappers.specs.Ways.{is_wrapper, wrappers_of}
 use Rattle.wrappers.proofs.Cores.{missing, wrapper_is, two_parts, bare_wrappers, wrap_wrappers}
 use Rattle.wrappers.proofs.Values.{Two, typed_two, value_of}
+use Rattle.values.specs.declared.keep.Bottom.{Bottom}
 use Rattle.values.specs.declared.value.Leaf.{Leaf}
 use Rattle.values.specs.Value.{is_plain, leaf_of, Valued}
-use Rattle.values.specs.Keeps.{core_of, with_core, CoreAlone, lays_view, CoreAt, InnerAt, inner_kind, gives_way, stays_zoned}
+use Rattle.values.specs.Keeps.{core_of, with_core, CoreAlone, lays_view, CoreAt, BottomAt, inner_kind, gives_way, stays_zoned}
 use Rattle.values.proofs.Valuing.{typed_right, no_parts, leaf_low, plain_valued, plain_coercion}
 
 pub by_test : {A : Type 0} (b : Bool) → (b ≡ true → A) → (b ≡ false → A) → A
@@ -125,16 +126,16 @@ a_wrapper : (k : ℕ) → 37 ≤ k → is_kind k ≡ true → is_wrapper k ≡ t
 unfolding is_kind between
 a_wrapper k h e = grind (arith, nat_tests)
 
--- what the walk down the wrappers, past a last one, finds of the type at the record where it is: where its core stands, and the kind of the wrapper around that
-pub record Found (space : Space) (s : List ℕ) (at : ℕ) (last : Option ℕ) (core : ℕ) (kind : Option ℕ) : Type 0 where
-  pub is : (t : DataType) → Typed space s at t → Typed space s core (core_of t.shape t.parts) × (last_or last (wrappers_of t.shape t.parts) ≡ kind)
+-- where the walk down the wrappers, past a last one, ends for the type at the record where it is
+pub record Found (space : Space) (s : List ℕ) (at : ℕ) (last : Option ℕ) (bottom : Bottom) : Type 0 where
+  pub is : (t : DataType) → Typed space s at t → Typed space s bottom.core (core_of t.shape t.parts) × (last_or last (wrappers_of t.shape t.parts) ≡ bottom.wrapper)
 
 module _ {space : Space} {s : List ℕ} {at : ℕ} where
-  pub found_past : {last : Option ℕ} → space.n ≤ at → Found space s at last at last
+  pub found_past : {last : Option ℕ} → space.n ≤ at → Found space s at last (record { core = at; wrapper = last })
   found_past h = record { is = λ t a. absurd (omega (arith, link_inside a.chain.held.source)) }
 
   module _ (h : Head) (e : h ≡ head_at s at) where
-    pub found_here : {last : Option ℕ} → h.kind < 37 → Found space s at last at last
+    pub found_here : {last : Option ℕ} → h.kind < 37 → Found space s at last (record { core = at; wrapper = last })
     found_here {last} z =
         record {
           is =
@@ -151,26 +152,26 @@ module _ {space : Space} {s : List ℕ} {at : ℕ} where
       value_above : {t : DataType} → Typed space s at t → at < g.next
       value_above a = second_above (typed_two (wraps a) refl a) (held_first a.chain.held h e) g eg
 
-      pub found_lost : {last : Option ℕ} → g.next ≤ at → Found space s at last at last
+      pub found_lost : {last : Option ℕ} → g.next ≤ at → Found space s at last (record { core = at; wrapper = last })
       found_lost h = record { is = λ t a. absurd (omega (arith, value_above a)) }
 
-      pub found_down : {last : Option ℕ} {core : ℕ} {kind : Option ℕ} → Found space s g.next (Some h.kind) core kind → Found space s at last core kind
-      found_down {last} {core} {kind} f =
+      pub found_down : {last : Option ℕ} {bottom : Bottom} → Found space s g.next (Some h.kind) bottom → Found space s at last bottom
+      found_down {last} {bottom} f =
           record {
             is =
                 λ t a.
                 let v = value_of (wraps a) refl (ap (λ (x : Head). x.next) eg ∙ ap (λ (x : Head). (head_at s x.first).next) e) a in
                 let below = f.is v.type v.typed in (
-                  subst (Typed space s core) (sym (core_wrap t.shape t.parts v.type (wraps a) v.is)) below.0,
+                  subst (Typed space s bottom.core) (sym (core_wrap t.shape t.parts v.type (wraps a) v.is)) below.0,
                   ap (last_or last) (wrap_wrappers t.shape t.parts v.type (wraps a) v.is)
                       ∙ ap (λ (k : ℕ). last_or (Some k) (wrappers_of v.type.shape v.type.parts)) (typed_reads a e).kind
                       ∙ below.1,
                 );
           }
 
--- what it finds of the type at the record where it begins
-pub found_from : {space : Space} {s : List ℕ} {r core : ℕ} {kind : Option ℕ} → Found space s r None core kind → CoreAt space s r core × InnerAt space s r kind
-found_from f = (record { is = λ t a. (f.is t a).0 }, record { is = λ t a. (f.is t a).1 })
+-- where it ends for the type at the record where it begins
+pub found_from : {space : Space} {s : List ℕ} {r : ℕ} {bottom : Bottom} → Found space s r None bottom → BottomAt space s r bottom
+found_from f = record { core = record { is = λ t a. (f.is t a).0 }; inner = λ t a. (f.is t a).1 }
 
 -- a Timestamp is its unit and its zone
 module _ (t : DataType) (h : FieldRight 0 [] false t.shape t.parts) (e : t.shape.kind ≡ 22) where

@@ -14,6 +14,7 @@ use Rattle.buffers.specs.Typed.{Typed}
 use Rattle.buffers.specs.declared.Space.{Space}
 use Rattle.buffers.specs.declared.Step.{Step}
 use Rattle.wrappers.specs.Ways.{is_wrapper, wrappers_of}
+use Rattle.values.specs.declared.keep.Bottom.{Bottom}
 
 -- the core of a type: the value below all its wrappers
 unfoldable pub core_of : Shape → Fields → DataType
@@ -46,18 +47,19 @@ lays_view None = false
 pub record CoreAt (space : Space) (s : List ℕ) (r k : ℕ) : Type 0 where
   pub is : (t : DataType) → Typed space s r t → Typed space s k (core_of t.shape t.parts)
 
--- so does the core of the type of record 1, where its record is known
-abbrev pub CoreIf : Space → List ℕ → Option ℕ → Type 0
-CoreIf space s (Some k) = CoreAt space s 1 k
-CoreIf space s None = Unit
-
 -- the kind of the wrapper directly around the core of a type, if there is one
 abbrev pub inner_kind : DataType → Option ℕ
 inner_kind t = last_or None (wrappers_of t.shape t.parts)
 
--- that kind, or none, is the one of the type of record r, whatever type that is
-pub record InnerAt (space : Space) (s : List ℕ) (r : ℕ) (kind : Option ℕ) : Type 0 where
-  pub is : (t : DataType) → Typed space s r t → inner_kind t ≡ kind
+-- where the walk down the wrappers of the type of record r ends, whatever type that is
+pub record BottomAt (space : Space) (s : List ℕ) (r : ℕ) (bottom : Bottom) : Type 0 where
+  pub core : CoreAt space s r bottom.core
+  pub inner : (t : DataType) → Typed space s r t → inner_kind t ≡ bottom.wrapper
+
+-- so it does for the type of record 1, where that is known
+abbrev pub BottomIf : Space → List ℕ → Option Bottom → Type 0
+BottomIf space s (Some bottom) = BottomAt space s 1 bottom
+BottomIf space s None = Unit
 
 -- whether a core of kind k, in a wrapper of kind w if there is one, is Utf8View in a Dictionary
 abbrev pub gives_way : ℕ → Option ℕ → Bool

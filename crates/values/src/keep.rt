@@ -5,7 +5,7 @@ ghost use Rattle.coercion.specs.Answers.{coercion};
 ghost use Rattle.buffers.specs.Plain.{rules_of};
 ghost use Rattle.buffers.specs.Typed.{Typed};
 ghost use Rattle.values.specs.Value.{Valued};
-ghost use Rattle.values.specs.Keeps.{CoreAt, CoreIf, InnerAt, inner_kind, gives_way, stays_zoned, CoreAlone, lays_view};
+ghost use Rattle.values.specs.Keeps.{CoreAt, BottomAt, BottomIf, gives_way, stays_zoned, CoreAlone, lays_view};
 
 use crate::value::{Leaf, common_type, is_plain, leaf_of};
 use buffers::plain::plain;
@@ -16,15 +16,15 @@ use sheet::record::head_at;
 
 // Where the walk down a type's wrappers ends: at the record of its core. The wrapper is the one directly around that, by its kind, if there is one.
 #[derive(Clone, Copy)]
-struct Bottom {
-    core: usize,
-    wrapper: Option<u8>,
+pub struct Bottom {
+    pub core: usize,
+    pub wrapper: Option<u8>,
 }
 
 // The core of the type of record r. A link is followed only upward. Other walks to a core end otherwise: those of `rules` and `wrappers` give its kind, 0 where
 // there is none, and the last reads either buffer and counts the records that may be left.
 fn bottom_at(s: &[u8], space: Space, r: usize) -> Bottom
-    ensures { CoreAt space s.now r result.core × InnerAt space s.now r result.wrapper }
+    ensures { BottomAt space s.now r result }
 {
     let mut core = r;
     let mut wrapper = None;
@@ -43,18 +43,18 @@ fn bottom_at(s: &[u8], space: Space, r: usize) -> Bottom
     Bottom { core, wrapper }
 }
 
-// The record of the candidate's core, which may be known already.
-pub fn core_of(second: &[u8], space: Space, core: Option<usize>) -> usize
-    ensures { CoreIf space second.now core → CoreAt space second.now 1 result }
+// The bottom of the candidate's type, which may be known already.
+pub fn bottom_of(second: &[u8], space: Space, known: Option<Bottom>) -> Bottom
+    ensures { BottomIf space second.now known → BottomAt space second.now 1 result }
 {
-    core.unwrap_or_else(|| bottom_at(second, space, 1).core)
+    known.unwrap_or_else(|| bottom_at(second, space, 1))
 }
 
-// Whether the candidate, whose core has the head v, has Utf8View directly in a Dictionary, which would give way to it.
-fn gives_way(second: &[u8], space: Space, v: Head) -> bool
-    ensures { (c : DataType) → Typed space second.now 1 c → result ≡ gives_way v.kind (inner_kind c) }
+// Whether a candidate with this bottom, whose core has the head v, has Utf8View directly in a Dictionary, which would give way to it.
+fn gives_way(v: Head, bottom: Bottom) -> bool
+    ensures { result ≡ gives_way v.kind bottom.wrapper }
 {
-    v.kind == 27 && bottom_at(second, space, 1).wrapper == Some(37)
+    v.kind == 27 && bottom.wrapper == Some(37)
 }
 
 // Whether the common type of two types without parts, in a list, is a third.
@@ -72,20 +72,27 @@ fn stays_zoned(x: Head, y: Head) -> bool
     x.kind == 22 && x.zoned() && y.kind == 22 && timeunit_coercion(x.figure, y.figure) == x.figure
 }
 
-// Whether the candidate at record 1 of the second half, whose core is at a record, stays as it is under the type at a link of the sheet. Below a wrapper the
-// core goes left, and a Dictionary of Utf8View gives way to Utf8View, as run ends do not. Nothing is said of other types with parts, zone or order. A struct
-// of what this and `is_core_alone` take would be made anew at each of the two calls, as the work space is lent to `step_list` in between.
-pub fn keeps(sheet: &[u8], second: &[u8], space: Space, mask: u64, link: usize, core: usize) -> bool
-    ensures { result ≡ true → CoreAt space second.now 1 core → (x c : DataType) → Typed space sheet.now link x → Typed space second.now 1 c → coercion (rules_of Question.List mask) x c ≡ Some c }
+// Whether the candidate at record 1 of the second half, with this bottom, stays as it is under the type at a link of the sheet. Below a wrapper the core goes
+// left, and a Dictionary of Utf8View gives way to Utf8View, as run ends do not. Nothing is said of other types with parts, zone or order. A struct of what this
+// and `is_core_alone` take would be made anew at each of the two calls, as the work space is lent to `step_list` in between.
+pub fn keeps(
+    sheet: &[u8],
+    second: &[u8],
+    space: Space,
+    mask: u64,
+    link: usize,
+    bottom: Bottom,
+) -> bool
+    ensures { result ≡ true → BottomAt space second.now 1 bottom → (x c : DataType) → Typed space sheet.now link x → Typed space second.now 1 c → coercion (rules_of Question.List mask) x c ≡ Some c }
 {
     let x = head_at(sheet, link);
-    let v = head_at(second, core);
+    let v = head_at(second, bottom.core);
     let wrapped = 32 <= head_at(second, 1).kind;
     if is_plain(x) && is_plain(v) {
         let new = leaf_of(x);
         let old = leaf_of(v);
         if wrapped {
-            !gives_way(second, space, v) && is_common(mask, old, new, old)
+            !gives_way(v, bottom) && is_common(mask, old, new, old)
         } else {
             is_common(mask, new, old, old)
         }

@@ -3,20 +3,20 @@ use Rattle.values.proofs.keep.bottom_at.Goals as goal
 
 pub loop-core-init : goal.loop-core-init
 loop-core-init c =
-    λ k w f. found_from f
+    λ b f. found_from f
 
 pub returns-then-h-lt37 : goal.returns-then-h-lt37
 returns-then-h-lt37 c =
-    c.loop-core.invariant _ _ (found_here _ c.head_at-h.ensures.0 c.if-h-lt37.true)
+    c.loop-core.invariant _ (found_here _ c.head_at-h.ensures.0 c.if-h-lt37.true)
 
 pub returns-then-value-core : goal.returns-then-value-core
 returns-then-value-core c =
-    c.loop-core.invariant _ _ (found_lost _ c.head_at-h.ensures.0 c.if-h-lt37.false _ c.head_at-value.ensures.0 c.if-value-core.true)
+    c.loop-core.invariant _ (found_lost _ c.head_at-h.ensures.0 c.if-h-lt37.false _ c.head_at-value.ensures.0 c.if-value-core.true)
 
 pub loop-core-preserved : goal.loop-core-preserved
 loop-core-preserved c =
-    λ k w f. c.loop-core.invariant k w (found_down _ c.head_at-h.ensures.0 c.if-h-lt37.false _ c.head_at-value.ensures.0 f)
+    λ b f. c.loop-core.invariant b (found_down _ c.head_at-h.ensures.0 c.if-h-lt37.false _ c.head_at-value.ensures.0 f)
 
 pub returns : goal.returns
 returns c =
-    c.loop-core.invariant _ _ (found_past c.loop-core-test.false)
+    c.loop-core.invariant _ (found_past c.loop-core-test.false)

@@ -2,7 +2,7 @@ use Rattle.std.proofs.Common.{◌∙◌}
 use Rattle.std.proofs.lemmas.Result.{err_from_is_err_and}
 use Rattle.buffers.specs.Plain.{rules_of}
 use Rattle.buffers.specs.declared.Question.TheVariants as Question
-use Rattle.resolution.proofs.Shifting.{core_second, on_candidate}
+use Rattle.resolution.proofs.Shifting.{on_candidate}
 use Rattle.resolution.proofs.Folding.{candidate_right, room_within, folds_end, folds_lost, folds_null, folds_kept, folds_on, folds_failed}
 use Rattle.resolution.proofs.resolver.Resolver.fold_from.Goals as goal
 
@@ -17,13 +17,13 @@ returns-in_err-end c =
 
 pub loop-last-preserved-then-keeps : goal.loop-last-preserved-then-keeps
 loop-last-preserved-then-keeps c =
-    let core = core_second c.args.self.now.space c.loop-last.work c.loop-last.known c.core_of-core.ensures c.loop-last.invariant.core in
+    let bottom = c.bottom_of-bottom.ensures c.loop-last.invariant.bottom in
     record {
       room = c.loop-last.invariant.room;
       inside = c.loop-last.invariant.inside;
       long = c.loop-last.invariant.long;
-      core = core;
-      onward = λ v o g. c.loop-last.invariant.onward v o (folds_kept (rules_of Question.List _) _ _ c.loop-last-test.true _ c.head_at-h.ensures.0 o c.if-h-ne1.true (on_candidate c.args.self.now.space c.loop-last.work c.loop-last.invariant.room c.loop-last.invariant.inside core (c.keeps.ensures c.if-keeps.true)) g);
+      bottom = bottom;
+      onward = λ v o g. c.loop-last.invariant.onward v o (folds_kept (rules_of Question.List _) _ _ c.loop-last-test.true _ c.head_at-h.ensures.0 o c.if-h-ne1.true (on_candidate c.args.self.now.space c.loop-last.work c.loop-last.invariant.room c.loop-last.invariant.inside (c.keeps.ensures c.if-keeps.true bottom)) g);
     }
 
 pub loop-last-preserved-in_ok-end : goal.loop-last-preserved-in_ok-end
@@ -33,7 +33,7 @@ loop-last-preserved-in_ok-end c =
       room = room_within m.within c.loop-last.invariant.room;
       long = m.within.long ∙ c.loop-last.invariant.long;
       inside = m.inside;
-      core = tt;
+      bottom = tt;
       onward = λ v o g. c.loop-last.invariant.onward v o (folds_on (rules_of Question.List _) _ _ c.loop-last-test.true _ c.head_at-h.ensures.0 c.if-h-ne1.true candidate_right o m g);
     }
 
@@ -43,7 +43,7 @@ loop-last-preserved c =
       room = c.loop-last.invariant.room;
       inside = c.loop-last.invariant.inside;
       long = c.loop-last.invariant.long;
-      core = c.loop-last.invariant.core;
+      bottom = c.loop-last.invariant.bottom;
       onward = λ v o g. c.loop-last.invariant.onward v o (folds_null (rules_of Question.List _) _ _ c.loop-last-test.true _ c.head_at-h.ensures.0 o c.if-h-ne1.false g);
     }
 

@@ -1,10 +1,11 @@
 use Rattle.std.proofs.Common.{◌≡◌, ◌-◌, length}
 use Rattle.coercion.specs.Answers.{fold_from}
-use Rattle.buffers.specs.Region.{Room, region, Inside}
+use Rattle.buffers.specs.Region.{Room, Inside}
 use Rattle.buffers.specs.Plain.{rules_of}
 use Rattle.buffers.specs.declared.Question.TheVariants as Question
-use Rattle.values.specs.Keeps.{CoreIf}
+use Rattle.values.specs.Keeps.{BottomIf}
 use Rattle.resolution.specs.Reached.{Candidate}
+use Rattle.resolution.proofs.Shifting.{second}
 use Rattle.resolution.proofs.Folding.{FoldsOn}
 use Rattle.resolution.proofs.resolver.Resolver.fold_from.Given as goal
 
@@ -14,7 +15,7 @@ invariant-loop-last l =
       room : Room l.work l.self.space;
       long : length l.work ≡ length l.initial.work;
       inside : Inside l.self.space l.end;
-      core : CoreIf l.self.space (region l.self.space l.work) l.known;
+      bottom : BottomIf l.self.space (second l.self.space l.work) l.known;
       onward : FoldsOn (fold_from (rules_of Question.List l.self.mask)) l.self.space l.self.sheet.now (Candidate l.self.space l.initial.work l.initial.end) l.initial.work l.initial.last l.initial.at (Candidate l.self.space l.work l.end) l.work l.last l.at;
     }
 
