@@ -37,7 +37,7 @@ pub fn lay(work: &mut [u8], space: Space, g: Goal, shape: Shape, first: usize)
 }
 
 // Writes a type that has neither parts nor a zone.
-pub(crate) fn lay_plain(work: &mut [u8], space: Space, g: Goal, f: Figures) -> Out
+pub fn lay_plain(work: &mut [u8], space: Space, g: Goal, f: Figures) -> Out
     requires { Room work.old space × Ready space g }
     ensures { LaidPlain space work.old work.new g (shape_for f.kind f.figure f.scale 0 false) result }
 {

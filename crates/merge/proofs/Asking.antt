@@ -1,14 +1,13 @@
 -- The common type of two types: the test for sameness, and then the rules of the question. Assumes nothing.
-use mathlib.Core.Path.{◌≡◌, refl, sym, subst, ◌∙◌}
-use mathlib.Core.Bool.{Bool, true, false, cond, not, ◌&&◌}
+use mathlib.Core.Path.{◌≡◌, refl, ap, ap₂, sym, subst, ◌∙◌}
+use mathlib.Core.Bool.{Bool, true, false, cond, not, ◌&&◌, ◌||◌}
 use mathlib.Core.List.{List}
-use mathlib.Core.Logic.{◌⊎◌, inl, inr, ⊎_elim}
 use Rattle.std.specs.Prelude.{Option, None, Some}
 use Rattle.std.proofs.lemmas.Option.{same_Some}
-use Prim.Native.Nat.{ℕ, ◌+◌, ◌-◌, ◌<◌, ◌≤◌}
+use Prim.Native.Nat.{ℕ, ◌+◌, ◌-◌, ◌<◌}
 use native.Mathlib.Omega.{arith}
-use lib.Dec.{ltb}
-use borrow.Author.Tests.{ltb-true, eq-eqb, ne_eqb}
+use lib.Dec.{eqb, ltb}
+use borrow.Author.Tests.{eqb-true, ltb-true, eq-eqb, ne_eqb}
 use Rattle.sheet.specs.Head.{head_at}
 use Rattle.sheet.proofs.Tests.{never, and_fst, and_snd}
 use Rattle.coercion.specs.Data.{DataType, Rules}
@@ -22,6 +21,7 @@ use Rattle.buffers.specs.Goal.{CopiedType}
 use Rattle.buffers.specs.Typed.{Typed, Merges}
 use Rattle.buffers.specs.Plain.{asked, rules_of, is_list_question, plain_rules}
 use Rattle.turns.specs.Turns.{nested_of, resolved, unwrapped, either_wrapped, rewrapped, turns_for, turns_of}
+use Rattle.merge.specs.Descent.{passes}
 use Rattle.merge.specs.Known.{Known, FirstDifference}
 use Rattle.merge.specs.Merge.{MergesKnown, MergesHinted}
 use Rattle.buffers.specs.declared.Space.{Space}
@@ -29,12 +29,9 @@ use Rattle.buffers.specs.declared.Goal.{Goal}
 use Rattle.buffers.specs.declared.Question.{Question}
 use Rattle.buffers.specs.Out.{Out}
 use Rattle.turns.proofs.Orders.{ask_turns, bare_turns, plain_turns}
-use Rattle.merge.proofs.Merging.{chain_some, nothing_known, typed_differs, any_known, none_known, hinted_within, known_as, as_known, merges_left}
-use Rattle.merge.proofs.Turning.{resolve_dictionary, resolve_runs, wrap_left}
+use Rattle.merge.proofs.Merging.{chain_some, nothing_known, typed_differs, none_known, hinted_within, known_as, as_known, merges_left}
 use Rattle.buffers.proofs.Sameness.{shapes_unlike}
 use Rattle.buffers.proofs.Differing.{type_same}
-use Rattle.wrappers.specs.Ways.{is_wrapper}
-use Rattle.wrappers.proofs.Cores.{wrapper_is}
 use Rattle.wrappers.proofs.Values.{kind_of_lem}
 
 -- the rules of a question that looks at names, and of one that does not
@@ -51,6 +48,49 @@ pair_turns Data.compare rules c x y h = refl
 types_unlike : (named : Bool) (x y : DataType) → ¬ (x.shape.kind ≡ y.shape.kind) → same_type named x y ≡ false
 unfolding same_type
 types_unlike named x y ne = rw (shapes_unlike x.shape y.shape ne) refl
+
+-- the two kinds, and what they meet
+data Passed (k j : ℕ) : Type 0 where
+  dictionary : k ≡ 37 → ¬ (j ≡ 37) → Passed k j
+  run_ends : k ≡ 38 → j < 37 → Passed k j
+
+passed : (k j : ℕ) → passes k j ≡ true → Passed k j
+passed k j h = go (eqb k 37) refl (eqb j 37) refl (eqb k 38) refl (ltb j 37) refl h
+  where
+    go : (a : Bool) → eqb k 37 ≡ a → (b : Bool) → eqb j 37 ≡ b → (c : Bool) → eqb k 38 ≡ c → (d : Bool) → ltb j 37 ≡ d → (a && not b) || (c && d) ≡ true → Passed k j
+    go true p true q true r true t h = run_ends (eqb-true k 38 r) (ltb-true j 37 t)
+    go true p true q true r false t h = never h
+    go true p true q false r d t h = never h
+    go true p false q c r d t h = dictionary (eqb-true k 37 p) (λ e. never (sym q ∙ eq-eqb j 37 e))
+    go false p b q true r true t h = run_ends (eqb-true k 38 r) (ltb-true j 37 t)
+    go false p b q true r false t h = never h
+    go false p b q false r d t h = never h
+
+-- a wrapper of a list that is passed comes to the rule for one wrapper of its kind
+module _ (question : Question) (mask : ℕ) (of_list : is_list_question (asked question) ≡ true) where
+  abbrev list_both : DataType → DataType → Option DataType
+  list_both = coercion (rules_of question mask)
+
+  listed : (x y : DataType) → ¬ (x.shape.kind ≡ y.shape.kind) → list_both x y ≡ resolved (rules_of question mask) list_both x y
+  listed x y ne =
+      coercion_asks (rules_of question mask) x y ∙ ask_turns (rules_of question mask) list_both x y ∙ rw (types_unlike (is_list_question (asked question)) x y ne)
+      (sym (list_turns (asked question) (rules_of question mask) list_both x y of_list))
+
+  dictionary_rule : (x y : DataType) → x.shape.kind ≡ 37 → ¬ (y.shape.kind ≡ 37) → resolved (rules_of question mask) list_both x y ≡ rewrapped 37 list_both x y
+  unfolding resolved either_wrapped
+  dictionary_rule x y p q = rw (eq-eqb x.shape.kind 37 p) (rw (ne_eqb y.shape.kind 37 q) refl)
+
+  run_ends_rule : (x y : DataType) → x.shape.kind ≡ 38 → y.shape.kind < 37 → resolved (rules_of question mask) list_both x y ≡ rewrapped 38 list_both x y
+  unfolding resolved either_wrapped
+  run_ends_rule x y p q =
+      rw (ne_eqb x.shape.kind 37 (λ e. omega arith), ne_eqb y.shape.kind 37 (λ e. omega arith), eq-eqb x.shape.kind 38 p, ne_eqb y.shape.kind 38 (λ e. omega arith)) refl
+
+  by_kind : (x y : DataType) → Passed x.shape.kind y.shape.kind → list_both x y ≡ rewrapped x.shape.kind list_both x y
+  by_kind x y (dictionary p q) = listed x y (λ e. q (sym e ∙ p)) ∙ dictionary_rule x y p q ∙ ap (λ (k : ℕ). rewrapped k list_both x y) (sym p)
+  by_kind x y (run_ends p q) = listed x y (λ e. omega arith) ∙ run_ends_rule x y p q ∙ ap (λ (k : ℕ). rewrapped k list_both x y) (sym p)
+
+  pub by_rule : (x y : DataType) → passes x.shape.kind y.shape.kind ≡ true → coercion (rules_of question mask) x y ≡ rewrapped x.shape.kind (coercion (rules_of question mask)) x y
+  by_rule x y h = by_kind x y (passed x.shape.kind y.shape.kind h)
 
 -- where two types first differ, by the flag for their names
 pub told : {space : Space} {s t : List ℕ} {l r e : ℕ} {known : Option ℕ} {flag names : Bool} → flag ≡ names → FirstDifference known flag space s l t r e
@@ -133,30 +173,15 @@ module _ (question : Question) (mask : ℕ) (space : Space) (left : ℕ) (swap :
         → Merges both space left swap s w v l r g o
     coerce_unlike v o h m = none_known swap (coerce_plain {known = None} {d = None} unlike v o ek ej h m)
 
-  -- a wrapper in a list, and a type that is none: they are not the same, and come to the rule for one wrapper
-  module _ {k j : ℕ} (ek : k ≡ (head_at (side swap s w) l).kind) (ej : j ≡ (head_at (side (not swap) s w) r).kind) (is : is_wrapper k ≡ true) (lt : j < 37) where
-    high : 37 ≤ k
-    high = ⊎_elim (λ e. omega arith) (λ e. omega arith) (wrapper_is k is)
-
-    apart : ¬ (k ≡ j)
-    apart q = omega (arith, high, lt)
-
-    one : (v : List ℕ) (o : Out) → MergesKnown None names (rewrapped k both) space (left - 1 + 1) swap s w v l r g o → MergesKnown None names (either_wrapped k both) space (left - 1 + 1) swap s w v l r g o
-    one v o m = wrap_left None both space (left - 1) swap s w l r g ek ej is v o refl (λ q. apart (sym q)) m
-
-    by_kind : (v : List ℕ) (o : Out) → (k ≡ 37) ⊎ (k ≡ 38) → MergesKnown None names (rewrapped k both) space (left - 1 + 1) swap s w v l r g o
-        → MergesKnown None names (resolved (rules_of question mask) both) space (left - 1 + 1) swap s w v l r g o
-    by_kind v o (inl e) m =
-        resolve_dictionary None names (rules_of question mask) both space (left - 1) swap s w l r g ek ej v o (rw (eq-eqb k 37 e) refl)
-        (subst (λ (i : ℕ). MergesKnown None names (either_wrapped i both) space (left - 1 + 1) swap s w v l r g o) e (one v o m))
-    by_kind v o (inr e) m =
-        resolve_runs None names (rules_of question mask) both space (left - 1) swap s w l r g ek ej v o
-        (rw (ne_eqb k 37 (λ q. omega arith)) (ne_eqb j 37 (λ q. omega (arith, lt)))) (rw (eq-eqb k 38 e) refl)
-        (subst (λ (i : ℕ). MergesKnown None names (either_wrapped i both) space (left - 1 + 1) swap s w v l r g o) e (one v o m))
-
-    pub coerce_wrapper : (v : List ℕ) (o : Out) → names ≡ true → ¬ (left ≡ 0) → Merges (rewrapped k both) space (left - 1 + 1) swap s w v l r g o
-        → Merges both space left swap s w v l r g o
-    coerce_wrapper v o f more m = none_known swap (coerce_list {known = None} {d = None} (unlike ek ej apart) v o f more (by_kind v o (wrapper_is k is) (any_known None swap m)))
+  -- a wrapper in a list that comes to its rule
+  pub coerce_wrapper : {k j : ℕ} → k ≡ (head_at (side swap s w) l).kind → j ≡ (head_at (side (not swap) s w) r).kind → passes k j ≡ true → (v : List ℕ) (o : Out) → names ≡ true
+      → Merges (rewrapped k both) space (left - 1 + 1) swap s w v l r g o → Merges both space left swap s w v l r g o
+  coerce_wrapper {k} {j} ek ej h v o f m =
+      none_known {named = names} swap
+      (as_known both space swap s w v l r g o None left (omega arith)
+      (λ x y a b d.
+      let p = kind_of_lem ek a in
+      ap (λ (i : ℕ). rewrapped i both x y) (sym p) ∙ sym (by_rule question mask f x y (ap₂ passes p (kind_of_lem ej b) ∙ h))) m)
 
 -- what was found
 pub difference_found : (named : Bool) {space : Space} {s t : List ℕ} {l r : ℕ} (known : Option ℕ) {e : ℕ} → DifferTypes s space.n l t space.n r named e → FirstDifference known named space s l t r e

@@ -7,3 +7,7 @@ pub mod Structs
 pub mod Parents
 pub mod Names
 pub mod Rewrapping
+pub mod Descending
+pub mod Filling
+pub mod Passing
+pub mod Viewing

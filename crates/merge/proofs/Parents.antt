@@ -191,6 +191,21 @@ module _ (known : Option ℕ) {named : Bool} (c : DataType → DataType → Opti
       over : (way : Bool) {i : ℕ} {t : Fields} → Chain space (side way s w) i t → Chain space (side way s v) i t
       over way a = chain_side way space s w v g.at (g.label + g.nlen) room m.kept a
 
+-- what was written at the goal of a field, from the field's place on
+pub goal_grows : (space : Space) (to : Spot) (nlen : ℕ) (nullable : Bool) (o : Out) → Passes space (goal_at to nlen nullable) o → Grows space to o
+goal_grows space to nlen nullable (Ok d) p = (p.0, (omega (arith, p.1.0), omega (arith, p.1.1)))
+goal_grows space to nlen nullable (Err NoType) p = tt
+goal_grows space to nlen nullable (Err Full) p = tt
+
+-- what is said of a field by what is said of its type under its name
+pub field_told : (space : Space) (v u : List ℕ) (to : Spot) {nlen : ℕ} {own : Bool} {name : List ℕ} {nullable : Bool} (z y y' : ℕ) (o : Out) (t : Option DataType) → nlen ≡ length name → own ≡ nullable → length name + y ≤ y'
+    → Named space v (goal_at to nlen own) name → Means space v u (goal_at to nlen own) z y o t → ChainIs space u to z y' o (field_of name nullable t)
+field_told space v u to z y y' (Ok d) None en eb le nm a = absurd a
+field_told space v u to {name = name} z y y' (Ok d) (Some t) en eb le nm a = subst (λ (b : Bool). Wrote space u to d (field name b t.shape t.parts end)) eb (a name nm)
+field_told space v u to z y y' (Err NoType) None en eb le nm a = tt
+field_told space v u to z y y' (Err NoType) (Some t) en eb le nm a = absurd a
+field_told space v u to z y y' (Err Full) t en eb le nm a = ⊎_elim (λ i. inl (omega arith)) (λ i. inr (omega arith)) a
+
 -- a field that was merged with a type: its name, and then its type
 module _ (A : DataType → DataType → Option DataType) (space : Space) (left : ℕ) (swap : Bool) (s w : List ℕ) (l r : ℕ) (to : Spot) (h : Head) (eh : h ≡ head_at (side swap s w) l)
     (v : List ℕ) (b : Bool) (named : NamedAt space (side swap s w) w v h to b) where
@@ -202,26 +217,13 @@ module _ (A : DataType → DataType → Option DataType) (space : Space) (left :
   field_merged told-known u o own room z eo m =
       record {
         kept = kept_trans named.kept (kept_wider to.at to.label (omega arith) (omega arith) m.writes.kept);
-        grows = grown o m.writes.passes;
+        grows = goal_grows space to h.nlen own o m.writes.passes;
         means =
             λ name nullable x y rest a t q d.
-            told name nullable _ (letters x) (letters y) o (A x y) (sym (name_length_lem a h eh)) (eo ∙ chain_nullable a h eh) (named.named z l name nullable own x.shape x.parts rest a eh)
+            field_told space v u to (size x + size y) (letters x + letters y) (length name + letters x + letters y) o (A x y) (sym (name_length_lem a h eh)) (eo ∙ chain_nullable a h eh) (omega arith) (named.named z l name nullable own x.shape x.parts rest a eh)
             (m.means x y (chain_typed (chain_side swap space s w v to.at to.label room named.kept a)) (typed_side (not swap) space s w v to.at to.label room named.kept t) q
             (told-known name nullable x y rest a t d));
       }
-    where
-      grown : (o : Out) → Passes space (goal_at to h.nlen own) o → Grows space to o
-      grown (Ok d) p = (p.0, (omega (arith, p.1.0), omega (arith, p.1.1)))
-      grown (Err NoType) p = tt
-      grown (Err Full) p = tt
-
-      told : (name : List ℕ) (nullable : Bool) (z y₁ y₂ : ℕ) (o : Out) (t : Option DataType) → h.nlen ≡ length name → own ≡ nullable → Named space v (goal_at to h.nlen own) name
-          → Means space v u (goal_at to h.nlen own) z (y₁ + y₂) o t → ChainIs space u to z (length name + y₁ + y₂) o (field_of name nullable t)
-      told name nullable z y₁ y₂ (Ok d) None en eb nm a = absurd a
-      told name nullable z y₁ y₂ (Ok d) (Some t) en eb nm a = subst (λ (y : Bool). Wrote space u to d (field name y t.shape t.parts end)) eb (a name nm)
-      told name nullable z y₁ y₂ (Err NoType) None en eb nm a = tt
-      told name nullable z y₁ y₂ (Err NoType) (Some t) en eb nm a = absurd a
-      told name nullable z y₁ y₂ (Err Full) t en eb nm a = ⊎_elim (λ i. inl (omega arith)) (λ i. inr (omega arith)) a
 
   module _ {by_names : Bool} (u : List ℕ) (o : Out) (own : Bool) (room : Room w space) (z : b ≡ true) (eo : own ≡ nullable_in h) where
     -- nothing was known of its type

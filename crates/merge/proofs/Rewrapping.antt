@@ -1,55 +1,56 @@
--- A wrapper whose value was merged with another type. Assumes nothing.
+-- A wrapper that was rewritten with another core. Assumes nothing.
 use mathlib.Core.Path.{◌≡◌, refl, ap, ap₂, sym, subst, subst₂, ◌∙◌}
 use mathlib.Core.Bool.{Bool, true, false, not, ◌&&◌}
-use mathlib.Core.List.{List, [], ◌∷◌}
-use mathlib.Core.Logic.{◌⊎◌, inl, inr, ⊎_elim}
-use Rattle.std.specs.Prelude.{Option, None, Some}
+use mathlib.Core.List.{List, [], ◌∷◌, ◌++◌}
+use mathlib.Core.Logic.{inl, inr, ⊎_elim}
+use Rattle.std.specs.Prelude.{Option, None, Some, Ok, Err}
 use Rattle.std.proofs.lemmas.Option.{none-some}
+use Rattle.std.proofs.lemmas.Bool.{cases_lt}
+use Rattle.std.proofs.lemmas.List.{append-nil}
 use Prim.Native.Nat.{ℕ, ◌+◌, ◌<◌, ◌≤◌}
 use native.Mathlib.Omega.{arith}
 use lib.ListN.{length, length-append}
 use lib.Dec.{eqb, leb}
-use borrow.Author.Tests.{eq-eqb, ne_eqb, eqb-true, leb-true}
-use Rattle.sheet.specs.Kind.{is_decimal, sized, last_unit, parts_right, names_parts}
+use borrow.Author.Tests.{eq-eqb, eqb-true, leb-true}
+use Rattle.sheet.specs.Kind.{is_decimal, sized, last_unit, parts_right}
 use Rattle.sheet.specs.Tests.{between}
 use Rattle.sheet.specs.Types.{Zone, absent, Shape, Fields, end, field, arity, count, zone_bytes, labels}
 use Rattle.sheet.specs.Head.{head_at}
+use Rattle.sheet.specs.Encode.{link_to}
 use Rattle.sheet.specs.Refusals.{figure_right, size_right, figures_right}
-use Rattle.sheet.specs.Carried.{is_named, is_zoned, FieldRight, FieldsRight}
+use Rattle.sheet.specs.Carried.{is_zoned, FieldsRight}
 use Rattle.sheet.specs.declared.Head.{Head}
-use Rattle.sheet.proofs.Tests.{never, all_at, and_fst, and_snd}
-use Rattle.coercion.specs.Data.{DataType, Rules, size, and_then}
-use Rattle.coercion.specs.Answers.{coercion}
-use Rattle.coercion.specs.Nested.{before}
+use Rattle.sheet.proofs.Tests.{never, all_at, and_snd}
+use Rattle.coercion.specs.Data.{DataType, size}
 use Rattle.coercion.proofs.Maybe.{If}
 use Rattle.coercion.proofs.PlainRight.{Sound, own_right}
 use Rattle.coercion.proofs.NestedRight.{coercion_sound}
 use Rattle.buffers.specs.Writes.{side}
 use Rattle.buffers.specs.Region.{Room, region, Kept, Grows, Wrote, CopiedHead}
-use Rattle.buffers.specs.Goal.{letters, Means, Writes, type_of, shape_for, Tied}
-use Rattle.turns.specs.Turns.{rewrap, rewrapped}
-use Rattle.buffers.specs.Typed.{Chain, Typed, Merges, ChainIs, CopiedField, is_view, Viewed}
-use Rattle.merge.specs.Merge.{Tabled, MergesField, field_of}
+use Rattle.buffers.specs.Goal.{letters, Means, Writes, type_of, shape_for, LaidPlain}
+use Rattle.buffers.specs.Plain.{asked, rules_of, is_list_question}
+use Rattle.buffers.specs.Span.{CopiedSpan}
+use Rattle.buffers.specs.Typed.{Chain, Typed, Merges, ChainIs}
 use Rattle.buffers.specs.declared.Space.{Space}
 use Rattle.buffers.specs.declared.Spot.{Spot}
 use Rattle.buffers.specs.declared.Goal.{Goal}
+use Rattle.buffers.specs.declared.Question.{Question}
 use Rattle.buffers.specs.Out.{Out}
-use Rattle.std.specs.Prelude.{Ok, Err}
 use Rattle.buffers.specs.declared.Failure.{Failure}
 use Rattle.buffers.specs.declared.Failure.TheVariants.{NoType, Full}
-use Rattle.buffers.proofs.Frames.{kept_trans, kept_wider, wrote_frame}
-use Rattle.buffers.proofs.Chained.{labels_sum}
-use Rattle.buffers.proofs.Tying.{tied_kept, chain_tied}
-use Rattle.merge.proofs.Merging.{chain_side, typed_side, tabled_over, typed_kind, means_for, means_after}
-use Rattle.buffers.proofs.Rows.{chain_next}
+use Rattle.buffers.proofs.Frames.{kept_trans, kept_wider}
+use Rattle.buffers.proofs.Chained.{room_kept, labels_sum}
+use Rattle.turns.specs.Turns.{rewrapped}
 use Rattle.wrappers.specs.Ways.{is_wrapper}
-use Rattle.wrappers.proofs.Cores.{implies_no, absent_is, wrapper_is, two_parts}
-use Rattle.wrappers.proofs.Values.{chain_first}
-use Rattle.merge.proofs.Parents.{Parent, parent_copied, parent_wrote, kept_on, writes_on}
-
-unnamed_is : (name : List ℕ) → is_named name ≡ false → name ≡ []
-unnamed_is [] e = refl
-unnamed_is (b ∷ bs) e = never (sym e)
+use Rattle.wrappers.proofs.Cores.{implies_no, absent_is}
+use Rattle.merge.specs.declared.descent.Descent.{Descent}
+use Rattle.merge.specs.Descent.{Wrapper, alone, nest, AllPass, AllDictionaries, innermost, Descends, Descended, view, PlacedView, gives_way, Settled}
+use Rattle.merge.specs.Merge.{Tabled, MergesField, field_of}
+use Rattle.merge.proofs.Merging.{chain_side, typed_side, tabled_over, typed_kind, means_for, means_after}
+use Rattle.merge.proofs.Parents.{Parent, parent_copied, parent_wrote, parent_means, kept_on, writes_on}
+use Rattle.merge.proofs.Descending.{nest_append, pass_append}
+use Rattle.merge.proofs.Filling.{Cut, with_type, alone_count, parts_short, span_records, span_letters, parts_wrote}
+use Rattle.merge.proofs.Passing.{both, none_through, kept_through, gone_through, Sole, sole}
 
 pub end_is : (t : Fields) → arity t ≡ 0 → t ≡ end
 unfolding arity
@@ -87,244 +88,316 @@ view_plain t h e =
     (subst (λ (k : ℕ). parts_right k (arity t.parts) ≡ true) e h.0.filled)
     (subst (λ (k : ℕ). figures_right k t.shape.figure t.shape.scale t.shape.size t.shape.sorted (is_zoned t.shape.zone) ≡ true) e h.0.figures)
 
--- the parts of a Dictionary have neither a name nor a nullability
-bare_part : {name : List ℕ} {nullable : Bool} {shape : Shape} {parts : Fields} → FieldRight 37 name nullable shape parts → (name ≡ []) × (nullable ≡ false)
-unfolding names_parts between
-bare_part {name} {nullable} f = (unnamed_is name (implies_no (is_named name) f.may_be_named), implies_no nullable f.may_be_null)
+-- wrappers about a field have its records
+count_nest : (zs : List Wrapper) (f : Fields) → count f ≤ count (nest zs f)
+unfolding nest count
+count_nest [] f = omega arith
+count_nest (z ∷ zs) f = omega (arith, count_nest zs f)
 
--- a wrapper, taken apart
-record Two : Type 0 where
-  shape : Shape
-  name₁ : List ℕ
-  null₁ : Bool
-  shape₁ : Shape
-  parts₁ : Fields
-  name₂ : List ℕ
-  null₂ : Bool
-  shape₂ : Shape
-  parts₂ : Fields
-  rest : Fields
+nest_longer : (z : Wrapper) (zs : List Wrapper) (f : Fields) → count f < count (nest (z ∷ zs) f)
+unfolding nest count
+nest_longer z zs f = omega (arith, count_nest zs f)
 
-abbrev behind : Two → Fields
-behind z = field z.name₂ z.null₂ z.shape₂ z.parts₂ z.rest
+-- a run that adds no records has no wrappers
+none_between : (zs : List Wrapper) (f : Fields) → count (nest zs f) ≡ count f → zs ≡ []
+none_between [] f e = refl
+none_between (z ∷ zs) f e = absurd (omega (arith, e, nest_longer z zs f))
 
-abbrev parts_of : Two → Fields
-parts_of z = field z.name₁ z.null₁ z.shape₁ z.parts₁ (behind z)
+module _ (question : Question) (mask : ℕ) (of_list : is_list_question (asked question) ≡ true) (space : Space) (left : ℕ) (swap : Bool) (s w : List ℕ) (k l r : ℕ) (g : Goal) (room : Room w space)
+    (is : is_wrapper k ≡ true) (h : Head) (eh : h ≡ head_at (side swap s w) l) (ek : (head_at (side swap s w) l).kind ≡ k)
+    (way : Descent) (down : Descended space (side swap s w) k (head_at (side (not swap) s w) r).kind l way) where
+  abbrev c : DataType → DataType → Option DataType
+  c = both question mask of_list
 
-abbrev wrapper_of : Two → DataType
-wrapper_of z = type_of z.shape (parts_of z)
-
-abbrev value_of : Two → DataType
-value_of z = type_of z.shape₂ z.parts₂
-
--- its parts with another value
-abbrev refilled : Two → DataType → Fields
-refilled z t = field z.name₁ z.null₁ z.shape₁ z.parts₁ (before z.name₂ z.null₂ t end)
-
-rewrap_view : (k : ℕ) (z : Two) (t : DataType) → eqb k 37 ≡ true → eqb t.shape.kind 27 ≡ true → rewrap k (wrapper_of z) t ≡ Some t
-rewrap_view k z t e q = rw e (rw q refl)
-
-rewrap_stays : (k : ℕ) (z : Two) (t : DataType) → (k ≡ 37) ⊎ (k ≡ 38) → (k ≡ 37 → (z.name₂ ≡ []) × (z.null₂ ≡ false)) → (eqb k 37 && eqb t.shape.kind 27) ≡ false
-    → rewrap k (wrapper_of z) t ≡ Some (type_of z.shape (refilled z t))
-rewrap_stays k z t (inl e) bare n =
-    let q : eqb k 37 ≡ true = eq-eqb k 37 e in
-    let n' : eqb t.shape.kind 27 ≡ false = rw q at n in
-    rw q (rw n' (ap₂ (λ (name : List ℕ) (nullable : Bool).
-    Some (type_of z.shape (field z.name₁ z.null₁ z.shape₁ z.parts₁ (before name nullable t end)))) (sym (bare e).0) (sym (bare e).1)))
-rewrap_stays k z t (inr e) bare n = rw (ne_eqb k 37 (λ q. omega arith)) refl
-
--- how long the labels of a wrapper are
-wrapper_letters : (z : Two)
-    → length (labels (parts_of z))
-    ≡ length z.name₁ + letters (type_of z.shape₁ z.parts₁) + (length z.name₂ + letters (value_of z) + length (labels z.rest))
-wrapper_letters z =
-    omega
-    (arith, labels_sum z.name₁ z.null₁ z.shape₁ z.parts₁ (behind z), labels_sum z.name₂ z.null₂ z.shape₂ z.parts₂ z.rest, length-append z.name₁ (zone_bytes z.shape₁.zone), length-append z.name₂ (zone_bytes z.shape₂.zone))
-
--- a table of partners stays true where a wrapper stays or gives way
-pub viewed_tabled : {space : Space} {u s w v : List ℕ} {kind i : ℕ} {g : Goal} {e : Spot} {o : Out} {table : List ℕ} → Room u space → Viewed space w v kind i g e o → Tabled space s w table
-    → Tabled space s v table
-viewed_tabled {space} {u} {s} {w} {v} {kind} {i} {table = table} room vw p = go (is_view space w kind i) refl
-  where
-    go : (c : Bool) → is_view space w kind i ≡ c → Tabled space s v table
-    go true q = tabled_over room (vw.view q).writes.kept p
-    go false q = subst (λ (x : List ℕ). Tabled space s x table) (sym (vw.stays q).1) p
-
-module _ (rules : Rules) (space : Space) (left : ℕ) (swap : Bool) (s w : List ℕ) (k l r : ℕ) (g : Goal) (room : Room w space) (is : is_wrapper k ≡ true)
-    (h : Head) (eh : h ≡ head_at (side swap s w) l) (ek : (head_at (side swap s w) l).kind ≡ k) (j : Head) (ej : j ≡ head_at (side swap s w) h.first) where
   abbrev answer : DataType → DataType → Option DataType
-  answer = rewrapped k (coercion rules)
+  answer = rewrapped k c
 
-  -- what is known of a wrapper at the link
-  record Pair (z : Two) : Type 0 where
-    whole : Typed space (side swap s w) l (wrapper_of z)
-    first : Chain space (side swap s w) h.first (parts_of z)
-    second : Chain space (side swap s w) j.next (behind z)
-    sound : Sound (value_of z)
-    bare : k ≡ 37 → (z.name₂ ≡ []) × (z.null₂ ≡ false)
+  -- the way down from a wrapper at the link
+  kind : {x : DataType} → Typed space (side swap s w) l x → x.shape.kind ≡ k
+  kind a = sym (typed_kind h eh a) ∙ ap (λ (y : Head). y.kind) eh ∙ ek
 
-  apart : (P : DataType → Type 0) → ((z : Two) → Pair z → P (wrapper_of z)) → (x : DataType) → Typed space (side swap s w) l x → P x
-  unfolding arity
-  apart P f x a =
-      go x.shape x.parts a (two_parts k (arity x.parts) is (subst (λ (i : ℕ). parts_right i (arity x.parts) ≡ true) (sym (typed_kind h eh a) ∙ ap (λ (y : Head). y.kind) eh ∙ ek) a.chain.held.source.right.0.filled))
-    where
-      go : (sh : Shape) (t : Fields) → Typed space (side swap s w) l (type_of sh t) → arity t ≡ 2 → P (type_of sh t)
-      go sh end a e = absurd (omega arith)
-      go sh (field n b s₁ p end) a e = absurd (omega arith)
-      go sh (field n b s₁ p (field n₂ b₂ s₂ p₂ q)) a e =
-          let c = chain_first h eh a.chain in
-          let right : FieldsRight sh.kind (field n b s₁ p (field n₂ b₂ s₂ p₂ q)) = a.chain.held.source.right.1.0 in
-          let own : FieldRight sh.kind n₂ b₂ s₂ p₂ = right.1.1.0 in
-          f (record { shape = sh; name₁ = n; null₁ = b; shape₁ = s₁; parts₁ = p; name₂ = n₂; null₂ = b₂; shape₂ = s₂; parts₂ = p₂; rest = q })
-          (record {
-            whole = a;
-            first = c;
-            second = chain_next c j ej;
-            sound = (own_right own, right.1.1.1.0);
-            bare = λ e'. bare_part (subst (λ (i : ℕ). FieldRight i n₂ b₂ s₂ p₂) (sym (typed_kind h eh a) ∙ ap (λ (y : Head). y.kind) eh ∙ ek ∙ e') own);
-          })
+  abbrev Way : DataType → Type 0
+  Way x = Descends space (side swap s w) (head_at (side (not swap) s w) r).kind l way x
 
+  -- what is said of a wrapper, with the way down from it
   abbrev Says : List ℕ → Out → DataType → Type 0
   Says v o x =
-      (y : DataType) → Typed space (side (not swap) s w) r y → size x + size y ≤ left + 1 → Means space w v g (size x + size y) (letters x + letters y) o (answer x y)
+      Typed space (side swap s w) l x → Way x → (y : DataType) → Typed space (side (not swap) s w) r y → size x + size y ≤ left + 1
+      → Means space w v g (size x + size y) (letters x + letters y) o (rewrapped x.shape.kind c x y)
 
-  merged : (v : List ℕ) (o : Out) → Writes space w v g o → ((z : Two) → Pair z → Says v o (wrapper_of z)) → Merges answer space (left + 1) swap s w v l r g o
-  merged v o wr f = record { writes = wr; means = λ x y a b q. apart (Says v o) f x a y b q }
+  merged : (v : List ℕ) (o : Out) → Writes space w v g o → ((x : DataType) → Says v o x) → Merges answer space (left + 1) swap s w v l r g o
+  merged v o wr f =
+      record {
+        writes = wr;
+        means =
+            λ x y a b q.
+            subst (λ (i : ℕ). Means space w v g (size x + size y) (letters x + letters y) o (rewrapped i c x y)) (kind a) (f x a (down x a (kind a)) y b q);
+      }
+
+  -- its core
+  abbrev cut : {x : DataType} → (d : Way x) → Cut l way.core x d.core
+  cut d =
+      record {
+        n = d.index_name;
+        b = d.index_nullable;
+        index = d.index;
+        p = d.index_parts;
+        zs = d.kept ++ d.run;
+        name = d.name;
+        nullable = d.nullable;
+        is = d.is ∙ ap (λ (f : Fields). field d.index_name d.index_nullable d.index d.index_parts f) (sym (nest_append d.kept d.run (alone d.name d.nullable d.core)));
+        ends = d.ends;
+      }
+
+  -- its wrappers are passed on the way to a type of the other side, and the parts are right
+  passed_on : {y : DataType} (zs : List Wrapper) → Typed space (side (not swap) s w) r y → AllPass (head_at (side (not swap) s w) r).kind zs → AllPass y.shape.kind zs
+  passed_on zs u a = subst (λ (i : ℕ). AllPass i zs) (typed_kind (head_at (side (not swap) s w) r) refl u) a
+
+  all_passed : {x y : DataType} (d : Way x) → Typed space (side (not swap) s w) r y → AllPass y.shape.kind (d.kept ++ d.run)
+  all_passed {y = y} d u = pass_append y.shape.kind d.kept d.run (passed_on d.kept u d.kept_pass) (passed_on d.run u d.run_pass)
+
+  wraps : {x : DataType} → Typed space (side swap s w) l x → is_wrapper x.shape.kind ≡ true
+  wraps t = subst (λ (i : ℕ). is_wrapper i ≡ true) (sym (kind t)) is
+
+  fields_right : {x : DataType} → Typed space (side swap s w) l x → {f : Fields} → x.parts ≡ f → FieldsRight x.shape.kind f
+  fields_right {x} t i = subst (FieldsRight x.shape.kind) i t.chain.held.source.right.1.0
+
+  with_parts : (x y : DataType) {f : Fields} → x.parts ≡ f → rewrapped x.shape.kind c x y ≡ rewrapped x.shape.kind c (type_of x.shape f) y
+  with_parts x y i = ap (λ (f : Fields). rewrapped x.shape.kind c (type_of x.shape f) y) i
+
+  -- the run begins behind others
+  abbrev Behind : {x : DataType} → Way x → Type 0
+  Behind {x} d =
+      (innermost x.shape.kind d.kept ≡ 38)
+      × (Chain space (side swap s w) way.run (nest d.run (alone d.name d.nullable d.core)) × (way.run + count (nest d.run (alone d.name d.nullable d.core)) ≡ l + size x))
+
+  -- where its core and its run begin
+  core_below : {x : DataType} (d : Way x) → size d.core < size x
+  unfolding count
+  core_below d = omega (arith, ap (λ (f : Fields). count f) (cut d).is, count_nest (d.kept ++ d.run) (alone d.name d.nullable d.core), alone_count d.name d.nullable d.core)
+
+  begins_behind : {x : DataType} (d : Way x) → way.first ≤ way.run → Behind d
+  begins_behind d le = ⊎_elim (λ i. absurd (omega (arith, i.1.1, d.first))) (λ i. i) d.begins
+
+  begins_whole : {x : DataType} (d : Way x) → way.run < way.first → (x.shape.kind ≡ 37) × ((d.kept ≡ []) × (way.run ≡ l))
+  unfolding count
+  begins_whole d lt =
+      ⊎_elim (λ i. i)
+      (λ i. absurd (omega (arith, i.1.1, d.first, ap (λ (f : Fields). count f) d.is, count_nest d.kept (nest d.run (alone d.name d.nullable d.core))))) d.begins
+
+  -- the common type, where the core has none
+  none_of : {x y : DataType} (d : Way x) → Typed space (side (not swap) s w) r y → c d.core y ≡ None → rewrapped x.shape.kind c x y ≡ None
+  none_of {x} {y} d u e =
+      with_parts x y (cut d).is
+      ∙ none_through question mask of_list d.name d.nullable d.core y x.shape d.index_name d.index_nullable d.index d.index_parts (d.kept ++ d.run) (all_passed d u) e
+
+  -- where the wrappers stay
+  kept_of : {x y : DataType} (t : Typed space (side swap s w) l x) (d : Way x) → Typed space (side (not swap) s w) r y → {m : DataType} → c d.core y ≡ Some m
+      → ¬ ((innermost x.shape.kind (d.kept ++ d.run) ≡ 37) × (m.shape.kind ≡ 27)) → rewrapped x.shape.kind c x y ≡ Some (type_of x.shape (with_type (cut d) m))
+  kept_of {x} {y} t d u {m} e n =
+      with_parts x y (cut d).is
+      ∙ kept_through question mask of_list d.name d.nullable d.core y x.shape d.index_name d.index_nullable d.index d.index_parts (d.kept ++ d.run) m (wraps t) (fields_right t (cut d).is) (all_passed d u) e n
+
+  stays_bare : {x : DataType} (d : Way x) (m : DataType) → (not (eqb way.run way.core) && eqb m.shape.kind 27) ≡ false → ¬ ((innermost x.shape.kind (d.kept ++ d.run) ≡ 37) × (m.shape.kind ≡ 27))
+  stays_bare {x} d m n q = ⊎_elim (λ i. omega (arith, i.1.1, same, d.ends, core_below d)) behind d.begins
+    where
+      here : (b : Bool) → (not b && true) ≡ false → b ≡ true
+      here true e = refl
+      here false e = never (sym e)
+
+      same : way.run ≡ way.core
+      same = eqb-true way.run way.core (here (eqb way.run way.core) (sym (ap (λ (i : Bool). not (eqb way.run way.core) && i) (eq-eqb m.shape.kind 27 q.1)) ∙ n))
+
+      behind : Behind d → ⊥
+      behind i =
+          let none : d.run ≡ [] = none_between d.run (alone d.name d.nullable d.core) (omega (arith, i.1.1, same, d.ends, alone_count d.name d.nullable d.core)) in
+          let last : innermost x.shape.kind (d.kept ++ d.run) ≡ innermost x.shape.kind d.kept = ap (λ (zs : List Wrapper). innermost x.shape.kind (d.kept ++ zs)) none ∙ ap (λ (zs : List Wrapper). innermost x.shape.kind zs) (append-nil d.kept) in
+          omega (arith, last, i.0, q.0)
+
+  -- where all give way to Utf8View, and where those of the run do
+  whole_of : {x y : DataType} (d : Way x) → Typed space (side (not swap) s w) r y → {m : DataType} → c d.core y ≡ Some m → m.shape.kind ≡ 27 → way.run < way.first → rewrapped x.shape.kind c x y ≡ Some m
+  whole_of {x} {y} d u {m} e v lt =
+      let i = begins_whole d lt in
+      with_parts x y (cut d).is
+      ∙ gone_through question mask of_list d.name d.nullable d.core y x.shape d.index_name d.index_nullable d.index d.index_parts (d.kept ++ d.run) m i.0
+      (subst (λ (zs : List Wrapper). AllDictionaries (zs ++ d.run)) (sym i.1.0) d.dictionaries) (all_passed d u) e v
+
+  part_of : {x y : DataType} (t : Typed space (side swap s w) l x) (d : Way x) → Typed space (side (not swap) s w) r y → {m : DataType} (f : Sole question mask of_list d.name d.nullable d.core y d.run)
+      → x.parts ≡ field d.index_name d.index_nullable d.index d.index_parts (nest d.kept (alone f.name₁ f.nullable₁ f.type)) → innermost x.shape.kind d.kept ≡ 38 → c f.type y ≡ Some m
+      → rewrapped x.shape.kind c x y ≡ Some (type_of x.shape (field d.index_name d.index_nullable d.index d.index_parts (nest d.kept (alone f.name₁ f.nullable₁ m))))
+  part_of {x} {y} t d u {m} f i last e =
+      with_parts x y i
+      ∙ kept_through question mask of_list f.name₁ f.nullable₁ f.type y x.shape d.index_name d.index_nullable d.index d.index_parts d.kept m (wraps t) (fields_right t i) (passed_on d.kept u d.kept_pass) e
+      (λ q. omega (arith, q.0, last))
 
   -- the record was copied
   module _ (v₁ : List ℕ) (a : Spot) (cp : CopiedHead space (side swap s w) w v₁ h l g 0 (Ok a)) where
-    over₁ : (way : Bool) {i : ℕ} {t : Fields} → Chain space (side way s w) i t → Chain space (side way s v₁) i t
-    over₁ way c = chain_side way space s w v₁ g.at (g.label + g.nlen) room cp.kept c
+    over₁ : {x : DataType} → Typed space (side swap s w) l x → Typed space (side swap s v₁) l x
+    over₁ t = typed_side swap space s w v₁ g.at (g.label + g.nlen) room cp.kept t
 
-    parent : (z : Two) → Pair z → Parent space w v₁ g z.shape (g.at + 1) a
-    parent z i = parent_copied eh cp i.whole.chain
+    parent : {x : DataType} → Typed space (side swap s w) l x → Parent space w v₁ g x.shape (link_to (g.at + 1) x.parts) a
+    parent t = parent_copied eh cp t.chain
 
-    pub index_none : (v₂ : List ℕ) → CopiedField space (side swap s v₁) v₁ v₂ h.first a (Err NoType) → Merges answer space (left + 1) swap s w v₂ l r g (Err NoType)
-    index_none v₂ cf =
-        merged v₂ (Err NoType) (writes_on g (Err NoType) cp.kept cp.passes cf.kept tt)
-        (λ z i y b q. absurd (cf.means z.name₁ z.null₁ z.shape₁ z.parts₁ (behind z) (over₁ swap i.first)))
+    span_at : {v : List ℕ} {o : Out} {x : DataType} → Way x → CopiedSpan space (side swap s v₁) v₁ v way.first way.core a o → CopiedSpan space (side swap s v₁) v₁ v (l + 1) way.core a o
+    span_at {v} {o} d sp = subst (λ (i : ℕ). CopiedSpan space (side swap s v₁) v₁ v i way.core a o) d.first sp
 
-    pub index_full : (v₂ : List ℕ) → CopiedField space (side swap s v₁) v₁ v₂ h.first a (Err Full) → Merges answer space (left + 1) swap s w v₂ l r g (Err Full)
-    unfolding count
-    index_full v₂ cf =
-        merged v₂ (Err Full) (writes_on g (Err Full) cp.kept cp.passes cf.kept tt)
-        (λ z i y b q.
-        let p = parent z i in
-        let e = wrapper_letters z in
-        ⊎_elim (λ u. inl (omega (arith, p.at))) (λ u. inr (omega (arith, p.label)))
-        (cf.means z.name₁ z.null₁ z.shape₁ z.parts₁ (behind z) (over₁ swap i.first)))
+    pub span_stopped : (v₂ : List ℕ) (f : Failure) → CopiedSpan space (side swap s v₁) v₁ v₂ way.first way.core a (Err f) → Merges answer space (left + 1) swap s w v₂ l r g (Err f)
+    span_stopped v₂ NoType sp = absurd sp.means
+    span_stopped v₂ Full sp =
+        merged v₂ (Err Full) (writes_on g (Err Full) cp.kept cp.passes sp.kept tt)
+        (λ x t d y u q.
+        let p = parent t in
+        ⊎_elim (λ z. inl (omega (arith, z, p.at))) (λ z. inr (omega (arith, z, p.label))) (parts_short (over₁ t) (cut d) (span_at d sp)))
 
-    pub index_stopped : (v₂ : List ℕ) (f : Failure) → CopiedField space (side swap s v₁) v₁ v₂ h.first a (Err f) → Merges answer space (left + 1) swap s w v₂ l r g (Err f)
-    index_stopped v₂ NoType cf = index_none v₂ cf
-    index_stopped v₂ Full cf = index_full v₂ cf
-
-    -- the first part was copied
-    module _ (v₂ : List ℕ) (b : Spot) (cf : CopiedField space (side swap s v₁) v₁ v₂ h.first a (Ok b)) where
+    -- the records behind it were copied
+    module _ (v₂ : List ℕ) (b : Spot) (sp : CopiedSpan space (side swap s v₁) v₁ v₂ way.first way.core a (Ok b)) where
       kept₂ : Kept space w v₂ g.at (g.label + g.nlen)
-      kept₂ = kept_on g cp.kept cp.passes cf.kept
+      kept₂ = kept_on g cp.kept cp.passes sp.kept
 
-      over₂ : (way : Bool) {i : ℕ} {t : Fields} → Chain space (side way s w) i t → Chain space (side way s v₂) i t
-      over₂ way c = chain_side way space s w v₂ g.at (g.label + g.nlen) room kept₂ c
-
-      other : {y : DataType} → Typed space (side (not swap) s w) r y → Typed space (side (not swap) s v₂) r y
-      other t = typed_side (not swap) space s w v₂ g.at (g.label + g.nlen) room kept₂ t
-
-      index : (z : Two) → Pair z → Wrote space v₂ a b (field z.name₁ z.null₁ z.shape₁ z.parts₁ end)
-      index z i = cf.means z.name₁ z.null₁ z.shape₁ z.parts₁ (behind z) (over₁ swap i.first)
-
-      -- writes from the second part on
+      -- writes from the core on
       wider : {u : List ℕ} → Kept space v₂ u b.at b.label → Kept space v₁ u a.at a.label
-      wider c = kept_trans cf.kept (kept_wider a.at a.label cf.grows.1.0 cf.grows.1.1 c)
+      wider m = kept_trans sp.kept (kept_wider a.at a.label sp.grows.1.0 sp.grows.1.1 m)
 
-      -- what is said of the second part
-      value : {named : Bool} {v₃ : List ℕ} {o : Out} → MergesField None named (coercion rules) space left swap s v₂ v₃ j.next r b o → (z : Two) → Pair z → (y : DataType)
-          → Typed space (side (not swap) s w) r y → size (wrapper_of z) + size y ≤ left + 1
-          → ChainIs space v₃ b (size (value_of z) + size y) (length z.name₂ + letters (value_of z) + letters y) o (field_of z.name₂ z.null₂ (coercion rules (value_of z) y))
-      unfolding count
-      value mf z i y t q = mf.means z.name₂ z.null₂ (value_of z) y z.rest (over₂ swap i.second) (other t) (omega arith) (λ d e. absurd (none-some d e))
+      -- what is said of the core
+      core : {named : Bool} {v₃ : List ℕ} {o : Out} → MergesField None named c space left swap s v₂ v₃ way.core r b o → {x : DataType} → Typed space (side swap s w) l x → (d : Way x)
+          → (y : DataType) → Typed space (side (not swap) s w) r y → size x + size y ≤ left + 1
+          → ChainIs space v₃ b (size d.core + size y) (length d.name + letters d.core + letters y) o (field_of d.name d.nullable (c d.core y))
+      core mf t d y u q =
+          mf.means d.name d.nullable d.core y end (chain_side swap space s w v₂ g.at (g.label + g.nlen) room kept₂ d.stands)
+          (typed_side (not swap) space s w v₂ g.at (g.label + g.nlen) room kept₂ u) (omega (arith, q, span_records (over₁ t) (cut d) (span_at d sp), sp.grows.1.0)) (λ i e. absurd (none-some i e))
 
-      pub value_none : {named : Bool} (v₃ : List ℕ) → MergesField None named (coercion rules) space left swap s v₂ v₃ j.next r b (Err NoType) → Merges answer space (left + 1) swap s w v₃ l r g (Err NoType)
-      value_none v₃ mf = merged v₃ (Err NoType) (writes_on g (Err NoType) cp.kept cp.passes (wider mf.kept) tt) (λ z i y t q. go z 0 0 0 0 (coercion rules (value_of z) y) (value mf z i y t q))
+      core_none : {named : Bool} (v₃ : List ℕ) → MergesField None named c space left swap s v₂ v₃ way.core r b (Err NoType) → Merges answer space (left + 1) swap s w v₃ l r g (Err NoType)
+      core_none v₃ mf =
+          merged v₃ (Err NoType) (writes_on g (Err NoType) cp.kept cp.passes (wider mf.kept) tt) (λ x t d y u q. go d u 0 0 0 0 (c d.core y) refl (core mf t d y u q))
         where
-          go : (z : Two) (z₀ y₀ z₁ y₁ : ℕ) (m : Option DataType) → ChainIs space v₃ b z₀ y₀ (Err NoType) (field_of z.name₂ z.null₂ m)
-              → Means space w v₃ g z₁ y₁ (Err NoType) (and_then m (λ t. rewrap k (wrapper_of z) t))
-          go z z₀ y₀ z₁ y₁ None c = tt
-          go z z₀ y₀ z₁ y₁ (Some t) c = absurd c
+          go : {x y : DataType} (d : Way x) → Typed space (side (not swap) s w) r y → (z₀ y₀ z₁ y₁ : ℕ) (m : Option DataType) → c d.core y ≡ m → ChainIs space v₃ b z₀ y₀ (Err NoType) (field_of d.name d.nullable m)
+              → Means space w v₃ g z₁ y₁ (Err NoType) (rewrapped x.shape.kind c x y)
+          go d u z₀ y₀ z₁ y₁ None e i = subst (Means space w v₃ g z₁ y₁ (Err NoType)) (sym (none_of d u e)) tt
+          go d u z₀ y₀ z₁ y₁ (Some t) e i = absurd i
 
-      pub value_full : {named : Bool} (v₃ : List ℕ) → MergesField None named (coercion rules) space left swap s v₂ v₃ j.next r b (Err Full) → Merges answer space (left + 1) swap s w v₃ l r g (Err Full)
-      unfolding count labels
-      value_full v₃ mf =
+      core_full : {named : Bool} (v₃ : List ℕ) → MergesField None named c space left swap s v₂ v₃ way.core r b (Err Full) → Merges answer space (left + 1) swap s w v₃ l r g (Err Full)
+      core_full v₃ mf =
           merged v₃ (Err Full) (writes_on g (Err Full) cp.kept cp.passes (wider mf.kept) tt)
-          (λ z i y t q.
-          let p = parent z i in
-          let e = wrapper_letters z in
-          let c = index z i in
-          let l₁ = labels_sum z.name₁ z.null₁ z.shape₁ z.parts₁ end in
-          let l₂ = length-append z.name₁ (zone_bytes z.shape₁.zone) in
-          ⊎_elim (λ u. inl (omega (arith, p.at, c.records))) (λ u. inr (omega (arith, p.label, c.letters))) (value mf z i y t q))
+          (λ x t d y u q.
+          let p = parent t in
+          let records = span_records (over₁ t) (cut d) (span_at d sp) in
+          let label = span_letters (over₁ t) (cut d) (span_at d sp) in
+          ⊎_elim (λ z. inl (omega (arith, z, p.at, records)))
+          (λ z. inr (omega (arith, z, p.label, label, labels_sum d.name d.nullable d.core.shape d.core.parts end, length-append d.name (zone_bytes d.core.shape.zone)))) (core mf t d y u q))
 
-      pub value_stopped : {named : Bool} (v₃ : List ℕ) (f : Failure) → MergesField None named (coercion rules) space left swap s v₂ v₃ j.next r b (Err f) → Merges answer space (left + 1) swap s w v₃ l r g (Err f)
-      value_stopped v₃ NoType mf = value_none v₃ mf
-      value_stopped v₃ Full mf = value_full v₃ mf
+      pub core_stopped : {named : Bool} (v₃ : List ℕ) (f : Failure) → MergesField None named c space left swap s v₂ v₃ way.core r b (Err f) → Merges answer space (left + 1) swap s w v₃ l r g (Err f)
+      core_stopped v₃ NoType mf = core_none v₃ mf
+      core_stopped v₃ Full mf = core_full v₃ mf
 
-      -- the second part was merged, and tied to the first
-      module _ {named : Bool} (v₃ : List ℕ) (e : Spot) (mf : MergesField None named (coercion rules) space left swap s v₂ v₃ j.next r b (Ok e)) (v₄ : List ℕ) (tied : Tied space v₃ v₄ a.at b.at)
-          (v₅ : List ℕ) (o : Out) (vw : Viewed space v₄ v₅ k b.at g e o) where
-        inside : a.at < space.n
-        inside = omega (arith, cf.further, cf.grows.0.records)
+      -- the core was merged, and the wrapper settled
+      module _ {named : Bool} (v₃ : List ℕ) (e : Spot) (mf : MergesField None named c space left swap s v₂ v₃ way.core r b (Ok e)) (v₄ : List ℕ) (o : Out)
+          (st : Settled space (side swap s v₃) v₃ v₄ way a g b.at e o) where
+        kept₃ : Kept space v₁ v₃ a.at a.label
+        kept₃ = wider mf.kept
 
-        kept₄ : Kept space v₁ v₄ a.at a.label
-        kept₄ = kept_trans (wider mf.kept) (tied_kept space v₃ v₄ a.at b.at tied a.label inside)
-
-        kept_all : Kept space w v₄ g.at (g.label + g.nlen)
-        kept_all = kept_on g cp.kept cp.passes kept₄
+        kept_all : Kept space w v₃ g.at (g.label + g.nlen)
+        kept_all = kept_on g cp.kept cp.passes kept₃
 
         grows : Grows space a (Ok e)
-        grows = (mf.grows.0, (omega (arith, cf.grows.1.0, mf.grows.1.0), omega (arith, cf.grows.1.1, mf.grows.1.1)))
+        grows = (mf.grows.0, (omega (arith, sp.grows.1.0, mf.grows.1.0), omega (arith, sp.grows.1.1, mf.grows.1.1)))
 
-        written : (c : Bool) → is_view space v₄ k b.at ≡ c → Writes space w v₅ g o
-        written false q =
-            subst₂ (λ (o : Out) (u : List ℕ). Writes space w u g o) (sym (vw.stays q).0) (sym (vw.stays q).1) (writes_on g (Ok e) cp.kept cp.passes kept₄ grows)
-        written true q = let m = (vw.view q).writes in record { kept = kept_trans kept_all m.kept; passes = m.passes }
+        -- the wrapper stays
+        module _ (gw : gives_way space v₃ way b.at ≡ false) where
+          stayed : Writes space w v₄ g o
+          stayed = subst₂ (λ (o : Out) (u : List ℕ). Writes space w u g o) (sym (st.stays gw).0) (sym (st.stays gw).1) (writes_on g (Ok e) cp.kept cp.passes kept₃ grows)
 
-        -- the parts of the wrapper, about the new value
-        parts_wrote : (z : Two) → Pair z → (t : DataType) → Wrote space v₃ b e (before z.name₂ z.null₂ t end) → Wrote space v₄ a e (refilled z t)
-        parts_wrote z i t c =
-            let d = index z i in
-            chain_tied space v₃ v₄ a.at b.at tied a.label b e z.name₁ z.null₁ z.shape₁ z.parts₁ (before z.name₂ z.null₂ t end) inside refl
-            (record {
-              records = d.records;
-              letters = d.letters;
-              holds = wrote_frame space v₂ v₃ b.at b.label a.at a.label (field z.name₁ z.null₁ z.shape₁ z.parts₁ end) (omega (arith, d.records)) (omega (arith, d.letters)) mf.kept d.holds;
-            }) c
+          said_stays : {x y : DataType} (t : Typed space (side swap s w) l x) (d : Way x) → Typed space (side (not swap) s w) r y → (z₁ y₁ : ℕ) (m : DataType) → c d.core y ≡ Some m
+              → Wrote space v₃ b e (alone d.name d.nullable m) → Means space w v₄ g z₁ y₁ o (rewrapped x.shape.kind c x y)
+          said_stays {x} t d u z₁ y₁ m q wrote =
+              let parts = parts_wrote (over₁ t) (cut d) (span_at d sp) room.few cp.passes.0 mf.kept m wrote in
+              let kind : (head_at (region space v₃) b.at).kind ≡ m.shape.kind = ap (λ (x : Head). x.kind) wrote.holds.0.head in
+              subst (Means space w v₄ g z₁ y₁ o) (sym (kept_of t d u q (stays_bare d m (ap₂ (λ (b : Bool) (i : ℕ). not b && eqb i 27) {x = eqb way.run way.core} refl (sym kind) ∙ gw))))
+              (subst₂ (λ (o : Out) (u : List ℕ). Means space w u g z₁ y₁ o (Some (type_of x.shape (with_type (cut d) m)))) (sym (st.stays gw).0) (sym (st.stays gw).1)
+              (parent_wrote v₃ (with_type (cut d) m) (parent t) (ap (link_to (g.at + 1)) (cut d).is) kept₃ parts))
 
-        value_kind : (z : Two) → Pair z → (t : DataType) → Wrote space v₄ a e (refilled z t) → (head_at (region space v₄) b.at).kind ≡ t.shape.kind
-        unfolding count
-        value_kind z i t c =
-            let at : b.at ≡ a.at + 1 + count z.parts₁ = omega (arith, (index z i).records) in
-            ap (λ (n : ℕ). (head_at (region space v₄) n).kind) at ∙ ap (λ (x : Head). x.kind) c.holds.1.1.0.head
+        -- the run of Dictionaries gives way
+        module _ (gw : gives_way space v₃ way b.at ≡ true) where
+          view_is : {m : DataType} {name : List ℕ} {nullable : Bool} → Wrote space v₃ b e (alone name nullable m) → m.shape.kind ≡ 27
+          view_is wrote =
+              sym (ap (λ (x : Head). x.kind) wrote.holds.0.head) ∙ eqb-true _ 27 (and_snd (not (eqb way.run way.core)) (eqb (head_at (region space v₃) b.at).kind 27) gw)
 
-        said : (z : Two) → Pair z → (z₁ y₁ : ℕ) → 1 ≤ z₁ → (t : DataType) → Sound t → Wrote space v₄ a e (refilled z t) → (c : Bool) → is_view space v₄ k b.at ≡ c
-            → Means space w v₅ g z₁ y₁ o (rewrap k (wrapper_of z) t)
-        said z i z₁ y₁ le t sound c false q =
-            let n = ap (λ (x : ℕ). eqb k 37 && eqb x 27) (sym (value_kind z i t c)) ∙ q in
-            let m : Means space w v₄ g z₁ y₁ (Ok e) (Some (type_of z.shape (refilled z t))) = parent_wrote v₄ (refilled z t) (parent z i) refl kept₄ c in
-            subst (λ (x : Option DataType). Means space w v₅ g z₁ y₁ o x) (sym (rewrap_stays k z t (wrapper_is k is) i.bare n))
-            (subst₂ (λ (o : Out) (u : List ℕ). Means space w u g z₁ y₁ o (Some (type_of z.shape (refilled z t)))) (sym (vw.stays q).0) (sym (vw.stays q).1) m)
-        said z i z₁ y₁ le t sound c true q =
-            let p = and_fst (eqb k 37) (eqb (head_at (region space v₄) b.at).kind 27) q in
-            let n = ap (λ (x : ℕ). eqb x 27) (sym (value_kind z i t c)) ∙ and_snd (eqb k 37) (eqb (head_at (region space v₄) b.at).kind 27) q in
-            means_for space w v₅ g z₁ y₁ o le (omega arith) (ap (λ (x : DataType). Some x) (sym (view_plain t sound (eqb-true t.shape.kind 27 n))) ∙ sym (rewrap_view k z t p n))
-            (means_after space w v₄ v₅ g 1 0 o (Some (type_of (shape_for 27 0 0 0 false) end)) kept_all (vw.view q).means)
+          -- and with it the whole wrapper
+          module _ (lt : way.run < way.first) where
+            laid : LaidPlain space v₃ v₄ g view.shape o
+            laid = st.whole gw lt
 
-        both : (z : Two) → Pair z → (z₀ y₀ z₁ y₁ : ℕ) → 1 ≤ z₁ → (m : Option DataType) → If Sound m → ChainIs space v₃ b z₀ y₀ (Ok e) (field_of z.name₂ z.null₂ m)
-            → Means space w v₅ g z₁ y₁ o (and_then m (λ t. rewrap k (wrapper_of z) t))
-        both z i z₀ y₀ z₁ y₁ le None sound c = absurd c
-        both z i z₀ y₀ z₁ y₁ le (Some t) sound c = said z i z₁ y₁ le t sound (parts_wrote z i t c) (is_view space v₄ k b.at) refl
+            replaced : Writes space w v₄ g o
+            replaced = record { kept = kept_trans kept_all laid.writes.kept; passes = laid.writes.passes }
 
-        pub wrapper_on : Merges answer space (left + 1) swap s w v₅ l r g o
-        wrapper_on =
-            merged v₅ o (written (is_view space v₄ k b.at) refl)
-            (λ z i y t q.
-            let right = t.chain.held.source.right in
-            both z i 0 0 _ _ (omega arith) (coercion rules (value_of z) y) (coercion_sound rules (value_of z) y i.sound (own_right right.0, right.1.0)) (value mf z i y t q))
+            said_whole : {x y : DataType} (t : Typed space (side swap s w) l x) (d : Way x) → Typed space (side (not swap) s w) r y → {z₁ : ℕ} (y₁ : ℕ) → 1 ≤ z₁ → (m : DataType) → c d.core y ≡ Some m → Sound m
+                → Wrote space v₃ b e (alone d.name d.nullable m) → Means space w v₄ g z₁ y₁ o (rewrapped x.shape.kind c x y)
+            said_whole t d u y₁ le m q sound wrote =
+                means_for space w v₄ g _ y₁ o le (omega arith) (ap (λ (x : DataType). Some x) (sym (view_plain m sound (view_is wrote))) ∙ sym (whole_of d u q (view_is wrote) lt))
+                (means_after space w v₃ v₄ g 1 0 o (Some view) kept_all laid.means)
+
+          -- behind others
+          module _ (le : way.first ≤ way.run) where
+            placed : PlacedView space (side swap s v₃) v₃ v₄ way.first way.run a o
+            placed = st.part gw le
+
+            kept₄ : Kept space v₁ v₄ a.at a.label
+            kept₄ = kept_trans kept₃ placed.kept
+
+            renewed : Writes space w v₄ g o
+            renewed = writes_on g o cp.kept cp.passes kept₄ placed.grows
+
+            said_part : {x y : DataType} (t : Typed space (side swap s w) l x) (d : Way x) → Typed space (side (not swap) s w) r y → {z₁ y₁ : ℕ} → size x ≤ z₁ → letters x ≤ y₁ → (m : DataType) → c d.core y ≡ Some m → Sound m
+                → Wrote space v₃ b e (alone d.name d.nullable m) → Means space w v₄ g z₁ y₁ o (rewrapped x.shape.kind c x y)
+            said_part {x} {y} t d u {z₁} {y₁} lz ly m q sound wrote = go (sole question mask of_list d.name d.nullable d.core y d.run d.dictionaries (passed_on d.run u d.run_pass)) (begins_behind d le)
+              where
+                go : Sole question mask of_list d.name d.nullable d.core y d.run → Behind d → Means space w v₄ g z₁ y₁ o (rewrapped x.shape.kind c x y)
+                go f i =
+                    let made = field d.index_name d.index_nullable d.index d.index_parts (nest d.kept (alone f.name₁ f.nullable₁ view)) in
+                    let is = d.is ∙ ap (λ (v : Fields). field d.index_name d.index_nullable d.index d.index_parts (nest d.kept v)) f.is in
+                    let stands = typed_side swap space s w v₃ g.at (g.label + g.nlen) room kept_all t in
+                    let chain = chain_side swap space s w v₃ g.at (g.label + g.nlen) room kept_all (subst (Chain space (side swap s w) way.run) f.is i.1.0) in
+                    let ends : way.run + size f.type ≡ l + size x = omega (arith, i.1.1, ap (λ (v : Fields). count v) f.is, alone_count f.name₁ f.nullable₁ f.type) in
+                    let parts : ChainIs space v₄ a (count x.parts) (length (labels x.parts)) o (Some made)
+                    = placed.means l x d.index_name d.index_nullable d.index d.index_parts d.kept f.name₁ f.nullable₁ f.type stands d.first is chain ends in
+                    let v = f.answers m q (view_is wrote) in
+                    let plain : m ≡ view = view_plain m sound (view_is wrote) in
+                    means_for space w v₄ g z₁ y₁ o lz (omega (arith, ly))
+                    (ap (λ (n : DataType). Some (type_of x.shape (field d.index_name d.index_nullable d.index d.index_parts (nest d.kept (alone f.name₁ f.nullable₁ n))))) (sym plain)
+                    ∙ sym (part_of t d u f is i.0 v))
+                    (parent_means v₄ (count x.parts) (length (labels x.parts)) o (Some made) (parent t) (ap (link_to (g.at + 1)) is) kept₄ parts)
+
+        -- whatever became of it
+        module _ (wr : Writes space w v₄ g o) (f : (x y : DataType) (t : Typed space (side swap s w) l x) (d : Way x) → Typed space (side (not swap) s w) r y → (m : DataType) → c d.core y ≡ Some m → Sound m
+            → Wrote space v₃ b e (alone d.name d.nullable m) → Means space w v₄ g (size x + size y) (letters x + letters y) o (rewrapped x.shape.kind c x y)) where
+          each : (x y : DataType) (t : Typed space (side swap s w) l x) (d : Way x) → Typed space (side (not swap) s w) r y → (z₀ y₀ : ℕ) (m : Option DataType) → c d.core y ≡ m → If Sound m
+              → ChainIs space v₃ b z₀ y₀ (Ok e) (field_of d.name d.nullable m) → Means space w v₄ g (size x + size y) (letters x + letters y) o (rewrapped x.shape.kind c x y)
+          each x y t d u z₀ y₀ None q sound i = absurd i
+          each x y t d u z₀ y₀ (Some m) q sound i = f x y t d u m q sound i
+
+          all : Merges answer space (left + 1) swap s w v₄ l r g o
+          all =
+              merged v₄ o wr
+              (λ x t d y u q.
+              let a = d.stands.held.source.right in
+              let i = u.chain.held.source.right in
+              each x y t d u 0 0 (c d.core y) refl (coercion_sound (rules_of question mask) d.core y (own_right a.0, a.1.0) (own_right i.0, i.1.0)) (core mf t d y u q))
+
+        pub settled_on : Merges answer space (left + 1) swap s w v₄ l r g o
+        settled_on = go (gives_way space v₃ way b.at) refl
+          where
+            go : (i : Bool) → gives_way space v₃ way b.at ≡ i → Merges answer space (left + 1) swap s w v₄ l r g o
+            go false h = all (stayed h) (λ x y t d u m q sound wrote. said_stays h t d u _ _ m q wrote)
+            go true h =
+                ⊎_elim (λ lt. all (replaced h lt) (λ x y t d u m q sound wrote. said_whole h lt t d u _ (omega arith) m q sound wrote))
+                (λ le. all (renewed h le) (λ x y t d u m q sound wrote. said_part h le t d u (omega arith) (omega arith) m q sound wrote)) (cases_lt way.run way.first)
+
+        -- the table of partners stays true
+        pub settled_tabled : {table : List ℕ} → Tabled space s v₃ table → Tabled space s v₄ table
+        settled_tabled {table} p = go (gives_way space v₃ way b.at) refl
+          where
+            room₃ : Room v₃ space
+            room₃ = room_kept kept_all room
+
+            go : (i : Bool) → gives_way space v₃ way b.at ≡ i → Tabled space s v₄ table
+            go false h = subst (λ (x : List ℕ). Tabled space s x table) (sym (st.stays h).1) p
+            go true h = ⊎_elim (λ lt. tabled_over room₃ (st.whole h lt).writes.kept p) (λ le. tabled_over room₃ (st.part h le).kept p) (cases_lt way.run way.first)

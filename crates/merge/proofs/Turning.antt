@@ -71,10 +71,6 @@ pub one_is : {k j i : ℕ} → (k ≡ i) ⊎ ((¬ (k ≡ i)) × (j ≡ i)) → (
 one_is {k} {j} {i} (inl e) = rw (eq-eqb k i e) refl
 one_is {k} {j} {i} (inr e) = rw (ne_eqb k i e.0) (rw (eq-eqb j i e.1) refl)
 
-pub is_37_or_38 : {k : ℕ} → (k ≡ 37) ⊎ ((¬ (k ≡ 37)) × (k ≡ 38)) → is_wrapper k ≡ true
-is_37_or_38 (inl e) = rw e refl
-is_37_or_38 (inr e) = rw e.1 refl
-
 pub none_is : {k j i : ℕ} → ¬ (k ≡ i) → ¬ (j ≡ i) → (eqb k i || eqb j i) ≡ false
 none_is {k} {j} {i} m n = rw (ne_eqb k i m) (rw (ne_eqb j i n) refl)
 

@@ -17,12 +17,14 @@ ghost use Rattle.merge.specs.Known.{known_names};
 ghost use Rattle.merge.specs.Merge.{Tabled, MergesKnown, MergesHinted, MergesField, Rowed, Under};
 
 use crate::Merger;
+use crate::descent::passes;
 use crate::known::row_known;
 use buffers::alike::same_sides;
 use buffers::copy::{copy_head, copy_parent, is_nullable};
-use buffers::field::{copy_index, first_link, keep_wrapper, name_goal, next_link, row_end};
+use buffers::field::{first_link, name_goal, next_link, row_end};
 use buffers::lay::{copy_type, lay, tie};
 use buffers::plain::{is_list_question, list_kind, list_size};
+use buffers::span::copy_span;
 use buffers::stamp::plain_rule;
 use buffers::write::{kind_at, look, value_at};
 use buffers::{Failure, Feed, Goal, Out, Shape, Spot};
@@ -269,7 +271,8 @@ impl<'a> Merger<'a> {
         )
     }
 
-    // A wrapper whose value is coerced with another type, the value on the left.
+    // A wrapper whose value is coerced with another type, the value on the left. The wrappers below it that would come here too are passed: their records are
+    // copied at once, and their core is coerced.
     #[cycle(merging)]
     fn rewrapped(
         &self,
@@ -294,12 +297,11 @@ impl<'a> Merger<'a> {
             return Err(Failure::Full);
         }
         let x = look(self.sheet, &*work, swap, l);
-        let second = look(self.sheet, &*work, swap, x.first).next;
+        let way = self.way_down(&*work, swap, kind, l, r);
         let a = copy_parent(self.sheet, work, space, swap, x, l, g)?;
-        let b = copy_index(self.sheet, work, space, swap, x.first, a)?;
-        let e = self.coerce_field(work, table, left, swap, second, r, b)?;
-        tie(work, space, a.at, b.at);
-        keep_wrapper(work, space, kind, b.at, g, e)
+        let b = copy_span(self.sheet, work, space, swap, way.first, way.core, a)?;
+        let e = self.coerce_field(work, table, left, swap, way.core, r, b)?;
+        self.settle(work, swap, way, a, g, b.at, e)
     }
 
     // The value of a wrapper, coerced with a type of the other side under its own name and nullability.
@@ -325,8 +327,8 @@ impl<'a> Merger<'a> {
         self.coerce_value(work, table, left, swap, l, r, g)
     }
 
-    // The common type of a value and another type, or none. A wrapper and a type that is none come to their rule at once, as do two types without parts
-    // whose kinds differ.
+    // The common type of a value and another type, or none. A wrapper that is passed and the other type come to their rule at once, as do two types without
+    // parts whose kinds differ.
     #[cycle(merging)]
     fn coerce_value(
         &self,
@@ -348,8 +350,7 @@ impl<'a> Merger<'a> {
             return Err(Failure::NoType);
         }
         let (k, j) = self.kinds(&*work, swap, l, r);
-        // By the two numbers: `j < 37` beside them is of the same form, so `is_wrapper(k)` would be no plainer.
-        if j < 37 && (k == 37 || k == 38) {
+        if passes(k, j) {
             return self.rewrapped(work, table, left - 1, swap, k, l, r, g);
         }
         if k != j && k < 32 && j < 32 {

@@ -2,6 +2,7 @@
 #![tactic(auto)]
 
 pub mod coerce;
+mod descent;
 mod known;
 
 use buffers::{Question, Space};

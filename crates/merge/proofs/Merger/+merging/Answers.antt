@@ -6,13 +6,14 @@ use Rattle.buffers.specs.Plain.{rules_of}
 use Rattle.buffers.proofs.Chained.{room_kept}
 use Rattle.buffers.proofs.Tying.{tied_kept}
 use Rattle.merge.proofs.Asking.{handed, coerce_same, coerce_plain, coerce_bare, coerce_list, coerce_pair, coerce_unlike, coerce_wrapper}
+use Rattle.merge.proofs.Descending.{passes_wrapper}
 use Rattle.merge.proofs.Joining.{rows_end, rows_spent, rows_unfed, rows_crowded, rows_stopped, rows_rest_stopped, rows_done}
 use Rattle.merge.proofs.Merging.{any_known, any_hint, none_hint, tabled_over}
 use Rattle.merge.proofs.Names.{stopped, goal_ready}
 use Rattle.merge.proofs.Parents.{head_stopped, both_on, field_alone, field_on, map_left_end, map_right_end, map_on, after_passes, under_on}
-use Rattle.merge.proofs.Rewrapping.{index_stopped, value_stopped, wrapper_on, viewed_tabled}
+use Rattle.merge.proofs.Rewrapping.{span_stopped, core_stopped, settled_on, settled_tabled}
 use Rattle.merge.proofs.Structs.{fed_or_placed, struct_none, struct_other, struct_merged, listed_unlike, listed_none, listed_fed}
-use Rattle.merge.proofs.Turning.{both_true, left_false, right_false, both_are, not_both, one_is, none_is, is_37_or_38, both_below, resolve_dictionary, resolve_runs, resolve_nested, wrap_both, wrap_left, wrap_right, wrap_none, unwrap_done, unwrap_full, unwrap_nested, way_merged, way_spent, wrapper_none, wrapper_both, wrapper_left_same, wrapper_left, wrapper_right_same, wrapper_right, nested_list, nested_listed, nested_struct, nested_map, nested_plain, list_merged}
+use Rattle.merge.proofs.Turning.{both_true, left_false, right_false, both_are, not_both, one_is, none_is, both_below, resolve_dictionary, resolve_runs, resolve_nested, wrap_both, wrap_left, wrap_right, wrap_none, unwrap_done, unwrap_full, unwrap_nested, way_merged, way_spent, wrapper_none, wrapper_both, wrapper_left_same, wrapper_left, wrapper_right_same, wrapper_right, nested_list, nested_listed, nested_struct, nested_map, nested_plain, list_merged}
 use Rattle.merge.proofs.Merger.+merging.Goals.{nested-else-is_list-via-else-is_list, nested-else-is_list-via-then-is_list+else-is_list-2, struct_rule-else-x-eq35-via-else-x-eq35, struct_rule-else-x-eq35-via-then-x-eq35+else-y-eq35, struct_rule-else-x-eq35-via-then-x-eq35+then-y-eq35+else-same_arity}
 use Rattle.merge.proofs.Merger.+merging.Goals as goal
 
@@ -44,9 +45,13 @@ pub coerce_field-returns-clause-merges_field : goal.coerce_field-returns-clause-
 coerce_field-returns-clause-merges_field t c =
     field_alone _ _ _ _ _ _ _ _ _ _ c.look-x.ensures.0 _ _ c.in_ok-g.ensures.named _ _ _ c.requires.room.0 refl c.is_nullable.ensures (rw c.in_ok-g.ensures.goal at c.coerce_value.ensures.merges)
 
-pub coerce_value-returns-then-k-eq38-clause-merges : goal.coerce_value-returns-then-k-eq38-clause-merges
-coerce_value-returns-then-k-eq38-clause-merges t c =
-    coerce_wrapper c.args.self.now.question c.args.self.now.mask c.args.self.now.space c.args.left c.args.swap _ _ _ _ _ c.kinds-k.ensures.left c.kinds-k.ensures.right (is_37_or_38 c.if-k-eq38.either) c.if-j-lt37.true _ _ c.requires.of_list c.if-left-eq0.false c.rewrapped.ensures.merges
+pub coerce_value-rewrapped-requires : goal.coerce_value-rewrapped-requires
+coerce_value-rewrapped-requires t c =
+    (omega (arith, c.decreases, c.if-left-eq0.false), (c.requires.room, (c.requires.of_list, ((passes_wrapper c.kinds-k.result.0 c.kinds-k.result.1 (sym c.passes.ensures ∙ c.if-passes.true), sym c.kinds-k.ensures.left), c.requires.tabled))))
+
+pub coerce_value-returns-then-passes-clause-merges : goal.coerce_value-returns-then-passes-clause-merges
+coerce_value-returns-then-passes-clause-merges t c =
+    coerce_wrapper c.args.self.now.question c.args.self.now.mask c.args.self.now.space c.args.left c.args.swap _ _ _ _ _ c.kinds-k.ensures.left c.kinds-k.ensures.right (sym c.passes.ensures ∙ c.if-passes.true) _ _ c.requires.of_list c.rewrapped.ensures.merges
 
 pub coerce_value-returns-then-j-lt32-clause-merges : goal.coerce_value-returns-then-j-lt32-clause-merges
 coerce_value-returns-then-j-lt32-clause-merges t c =
@@ -186,27 +191,27 @@ rewrapped-returns-in_err-a-clause-stays_tabled t c =
 
 pub rewrapped-returns-in_err-b-clause-merges : goal.rewrapped-returns-in_err-b-clause-merges
 rewrapped-returns-in_err-b-clause-merges t c =
-    rw (stopped _ c.from_residual-in_err-b.ensures.1) (index_stopped _ _ _ _ _ _ _ _ _ _ c.requires.room.0 c.requires.wrapper.0 _ c.look-x.ensures.0 c.requires.wrapper.1 _ c.look-second.ensures.0 _ _ c.in_ok-a.ensures _ _ c.in_err-b.ensures)
+    rw (stopped _ c.from_residual-in_err-b.ensures.1) (span_stopped _ _ c.requires.of_list _ _ _ _ _ _ _ _ _ c.requires.room.0 c.requires.wrapper.0 _ c.look-x.ensures.0 c.requires.wrapper.1 _ c.way_down-way.ensures.descended _ _ c.in_ok-a.ensures _ _ c.in_err-b.ensures)
 
 pub rewrapped-returns-in_err-b-clause-stays_tabled : goal.rewrapped-returns-in_err-b-clause-stays_tabled
 rewrapped-returns-in_err-b-clause-stays_tabled t c =
-    tabled_over c.requires.room.0 c.copy_index.ensures.kept (tabled_over c.requires.room.0 c.copy_parent.ensures.kept c.requires.tabled)
+    tabled_over c.requires.room.0 c.copy_span.ensures.kept (tabled_over c.requires.room.0 c.copy_parent.ensures.kept c.requires.tabled)
 
 pub rewrapped-coerce_field-requires : goal.rewrapped-coerce_field-requires
 rewrapped-coerce_field-requires t c =
-    (omega (arith, c.decreases), ((room_kept c.copy_index.ensures.kept (room_kept c.copy_parent.ensures.kept c.requires.room.0), c.in_ok-b.ensures.grows.0), (c.requires.of_list, tabled_over c.requires.room.0 c.copy_index.ensures.kept (tabled_over c.requires.room.0 c.copy_parent.ensures.kept c.requires.tabled))))
+    (omega (arith, c.decreases), ((room_kept c.copy_span.ensures.kept (room_kept c.copy_parent.ensures.kept c.requires.room.0), c.in_ok-b.ensures.grows.0), (c.requires.of_list, tabled_over c.requires.room.0 c.copy_span.ensures.kept (tabled_over c.requires.room.0 c.copy_parent.ensures.kept c.requires.tabled))))
 
 pub rewrapped-returns-in_err-e-clause-merges : goal.rewrapped-returns-in_err-e-clause-merges
 rewrapped-returns-in_err-e-clause-merges t c =
-    rw (stopped _ c.from_residual-in_err-e.ensures.1) (value_stopped _ _ _ _ _ _ _ _ _ _ c.requires.room.0 c.requires.wrapper.0 _ c.look-x.ensures.0 c.requires.wrapper.1 _ c.look-second.ensures.0 _ _ c.in_ok-a.ensures _ _ c.in_ok-b.ensures _ _ c.in_err-e.ensures.merges_field)
+    rw (stopped _ c.from_residual-in_err-e.ensures.1) (core_stopped _ _ c.requires.of_list _ _ _ _ _ _ _ _ _ c.requires.room.0 c.requires.wrapper.0 _ c.look-x.ensures.0 c.requires.wrapper.1 _ c.way_down-way.ensures.descended _ _ c.in_ok-a.ensures _ _ c.in_ok-b.ensures _ _ c.in_err-e.ensures.merges_field)
 
 pub rewrapped-returns-clause-merges : goal.rewrapped-returns-clause-merges
 rewrapped-returns-clause-merges t c =
-    wrapper_on _ _ _ _ _ _ _ _ _ _ c.requires.room.0 c.requires.wrapper.0 _ c.look-x.ensures.0 c.requires.wrapper.1 _ c.look-second.ensures.0 _ _ c.in_ok-a.ensures _ _ c.in_ok-b.ensures _ _ c.in_ok-e.ensures.merges_field _ c.tie.ensures _ _ c.keep_wrapper.ensures
+    settled_on _ _ c.requires.of_list _ _ _ _ _ _ _ _ _ c.requires.room.0 c.requires.wrapper.0 _ c.look-x.ensures.0 c.requires.wrapper.1 _ c.way_down-way.ensures.descended _ _ c.in_ok-a.ensures _ _ c.in_ok-b.ensures _ _ c.in_ok-e.ensures.merges_field _ _ c.settle.ensures
 
 pub rewrapped-returns-clause-stays_tabled : goal.rewrapped-returns-clause-stays_tabled
 rewrapped-returns-clause-stays_tabled t c =
-    viewed_tabled c.requires.room.0 c.keep_wrapper.ensures (tabled_over c.requires.room.0 (tied_kept _ _ _ _ _ c.tie.ensures 0 (omega (arith, c.in_ok-b.ensures.further, c.in_ok-b.ensures.grows.0.records))) c.coerce_field.ensures.stays_tabled)
+    settled_tabled _ _ c.requires.of_list _ _ _ _ _ _ _ _ _ c.requires.room.0 c.requires.wrapper.0 _ c.look-x.ensures.0 c.requires.wrapper.1 _ c.way_down-way.ensures.descended _ _ c.in_ok-a.ensures _ _ c.in_ok-b.ensures _ _ c.in_ok-e.ensures.merges_field _ _ c.settle.ensures c.coerce_field.ensures.stays_tabled
 
 pub rows-returns-then-l-eq0-clause-rowed : goal.rows-returns-then-l-eq0-clause-rowed
 rows-returns-then-l-eq0-clause-rowed t c =

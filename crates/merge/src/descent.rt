@@ -1,0 +1,144 @@
+// The way down the wrappers of a type to the core that meets another type, and the wrappers that give way to Utf8View.
+// A kind is the byte of a record, as in coerce.rt.
+ghost use Rattle.std.specs.Prelude.{◌≡◌, true, not, cond, eqb};
+ghost use Rattle.sheet.specs.Head.{head_at};
+ghost use Rattle.buffers.specs.Writes.{side};
+ghost use Rattle.buffers.specs.Region.{Room, Inside, Ready};
+ghost use Rattle.wrappers.specs.Ways.{is_wrapper};
+ghost use Rattle.merge.specs.Descent.{passes, gives_way, Descended, Stops, NamedView, PlacedView, Settled};
+
+use crate::Merger;
+use buffers::copy::is_nullable;
+use buffers::field::name_goal;
+use buffers::lay::lay_plain;
+use buffers::span::copy_span;
+use buffers::write::{kind_at, look, sides};
+use buffers::{Goal, Out, Space, Spot};
+use coercion::Figures;
+use sheet::record::head_at;
+
+// The way down from a wrapper: the record of its first part; that of the core at which the wrappers end that are passed; and that at which the run of
+// Dictionaries about the core begins, which is the core itself where there is none.
+#[derive(Clone, Copy)]
+pub struct Descent {
+    pub first: usize,
+    pub core: usize,
+    pub run: usize,
+}
+
+// Whether a wrapper of kind k that meets a type of kind j comes to the rule for one wrapper of its kind.
+pub(crate) fn passes(k: u8, j: u8) -> bool
+    ensures { result ≡ passes k j }
+{
+    (k == 37 && j != 37) || (k == 38 && j < 37)
+}
+
+// Where the run of Dictionaries begins, after a wrapper of kind k about the value at a record.
+fn run_after(k: u8, value: usize, run: usize) -> usize
+    ensures { result ≡ cond (eqb k 38) value run }
+{
+    if k == 38 { value } else { run }
+}
+
+// Walks down from the wrapper of kind k at record l, towards a type of kind j. A link is followed only upward. It is not inlined, nor is `place_view`, so that
+// the frame in the recursion stays small.
+#[inline(never)]
+fn walk_down(s: &[u8], space: Space, k: u8, j: u8, l: usize) -> Descent
+    requires { is_wrapper k ≡ true }
+    ensures descended { Descended space s.now k j l result }
+    ensures stops { Stops space s.now k j l result }
+{
+    let first = head_at(s, l).first;
+    let mut at = head_at(s, first).next;
+    let mut run = run_after(k, at, l);
+    while at < space.n {
+        let h = head_at(s, at);
+        if !passes(h.kind, j) {
+            return Descent {
+                first,
+                core: at,
+                run,
+            };
+        }
+        let value = head_at(s, h.first).next;
+        if value <= at {
+            return Descent {
+                first,
+                core: at,
+                run,
+            };
+        }
+        run = run_after(h.kind, value, run);
+        at = value;
+    }
+    Descent {
+        first,
+        core: at,
+        run,
+    }
+}
+
+// Whether a run of Dictionaries stands about Utf8View, which was written at record i.
+fn gives_way(work: &[u8], space: Space, way: Descent, i: usize) -> bool
+    requires { Room work.now space }
+    ensures { result ≡ gives_way space work.now way i }
+{
+    way.run != way.core && head_at(&work[space.half..], i).kind == 27
+}
+
+impl<'a> Merger<'a> {
+    // The way down from the wrapper of a kind at a link towards a type of the other side.
+    pub(crate) fn way_down(&self, work: &[u8], swap: bool, kind: u8, l: usize, r: usize) -> Descent
+        requires { is_wrapper kind ≡ true }
+        ensures descended { Descended self.now.space (side swap self.now.sheet.now work.now) kind (head_at (side (not swap) self.now.sheet.now work.now) r).kind l result }
+        ensures stops { Stops self.now.space (side swap self.now.sheet.now work.now) kind (head_at (side (not swap) self.now.sheet.now work.now) r).kind l result }
+    {
+        let j = kind_at(self.sheet, work, !swap, r);
+        let s = sides(self.sheet, work, swap).0;
+        walk_down(s, self.space, kind, j, l)
+    }
+
+    // Utf8View under the name and nullability of a record.
+    fn named_view(&self, work: &mut [u8], swap: bool, link: usize, to: Spot) -> Out
+        requires { Room work.old self.now.space × Inside self.now.space to }
+        ensures { NamedView self.now.space (side swap self.now.sheet.now work.old) work.old work.new link to result }
+    {
+        let h = look(self.sheet, &*work, swap, link);
+        let g = name_goal(self.sheet, work, self.space, swap, h, is_nullable(h), to)?;
+        lay_plain(work, self.space, g, Figures::of_kind(27))
+    }
+
+    // The parts of a wrapper, the first of which is record r, with Utf8View in the place of record i.
+    #[inline(never)]
+    fn place_view(&self, work: &mut [u8], swap: bool, r: usize, i: usize, to: Spot) -> Out
+        requires { Room work.old self.now.space × Inside self.now.space to }
+        ensures { PlacedView self.now.space (side swap self.now.sheet.now work.old) work.old work.new r i to result }
+    {
+        let d = copy_span(self.sheet, work, self.space, swap, r, i, to)?;
+        self.named_view(work, swap, i, d)
+    }
+
+    // A wrapper, which was written at a goal, its parts from a up to e: "Dict with View type is redundant", so the Dictionaries about a Utf8View, which was
+    // written at record i, give way to it.
+    pub(crate) fn settle(
+        &self,
+        work: &mut [u8],
+        swap: bool,
+        way: Descent,
+        a: Spot,
+        g: Goal,
+        i: usize,
+        e: Spot,
+    ) -> Out
+        requires { Room work.old self.now.space × (Inside self.now.space a × Ready self.now.space g) }
+        ensures { Settled self.now.space (side swap self.now.sheet.now work.old) work.old work.new way a g i e result }
+    {
+        if !gives_way(&*work, self.space, way, i) {
+            return Ok(e);
+        }
+        if way.run < way.first {
+            return lay_plain(work, self.space, g, Figures::of_kind(27));
+        }
+        self.place_view(work, swap, way.first, way.run, a)
+    }
+}
