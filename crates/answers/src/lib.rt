@@ -1,4 +1,4 @@
-// The three answers over sheets and lent buffers. No call has a condition of its own: it takes any bytes and any mask.
+// The three answers over sheets and lent buffers. None of the three calls has a condition of its own: they take any bytes and any mask.
 #![tactic(auto)]
 
 mod emit;
@@ -81,12 +81,17 @@ fn ask(question: Question, sheet: &[u8], mask: u64, output: &mut [u8], work: &mu
     if is_torn(sheet) {
         return Err(Refusal::Sheet(sheet::Refusal::Torn));
     }
-    call(question, sheet, mask, output, work)
+    ask_whole(question, sheet, mask, output, work)
 }
 
-// A call on a sheet that is not torn. It is not inlined, so that a torn sheet is refused in a small frame.
-#[inline(never)]
-fn call(question: Question, sheet: &[u8], mask: u64, output: &mut [u8], work: &mut [u8]) -> Answer
+// The same on a sheet that is not torn.
+pub fn ask_whole(
+    question: Question,
+    sheet: &[u8],
+    mask: u64,
+    output: &mut [u8],
+    work: &mut [u8],
+) -> Answer
     requires { torn sheet.now ≡ false }
     ensures { seen result output.new work.new ≡ outcome (call_of question sheet.now mask output.old work.old) }
 {

@@ -1,10 +1,10 @@
 // Where two chains of fields, or two types, first differ, with the names of their fields or without, and whether they are the same. A link of the first is
 // followed only to a record past floor, so that each comparison ends. Each buffer stands with its number of records and no struct for the two: `differ_sides`
 // has one number for both buffers, and would make two structs at each call.
-ghost use Rattle.std.specs.Prelude.{◌≡◌, not, ◌∷◌, [], ◌/◌, ◌%◌, ◌<◌};
+ghost use Rattle.std.specs.Prelude.{◌≡◌, ℕ, not, ◌∷◌, [], ◌/◌, ◌%◌, ◌<◌};
 ghost use Rattle.std.specs.Bool.{beq};
 ghost use Rattle.sheet.specs.Tests.{all_of, implies};
-ghost use Rattle.sheet.specs.Head.{nullable_in};
+ghost use Rattle.sheet.specs.Head.{head_at, nullable_in};
 ghost use Rattle.sheet.specs.Read.{label_at, shape_of};
 ghost use Rattle.sheet.specs.Names.{same_bytes};
 ghost use Rattle.sheet.specs.Bounds.{Bounded};
@@ -55,7 +55,9 @@ fn same_figures(g: Head, h: Head) -> bool
         && g.flags / 2 % 4 == h.flags / 2 % 4
 }
 
-// Whether the shapes of two records are the same.
+// Whether the shapes of two records are the same. Inlined, as `differ_heads` is: as a call, which reads the heads from memory, it makes a list of one zoned
+// Timestamp take half as long again.
+#[inline(always)]
 #[tactic(auto, using(crate::proofs::Sameness::shape_is))]
 fn same_shape(a: &[u8], n: usize, g: Head, b: &[u8], m: usize, h: Head) -> bool
     requires { (n < 65536) × (m < 65536) }
@@ -117,6 +119,32 @@ fn differ_fields(
     if y == 0 { 0 } else { floor }
 }
 
+// The record at which two types first differ, record i of a and one of b, whose heads are read already: a list reads the head of its first type once, and not
+// again for each of the others. By `differ_type`, as a call, a list of one zoned Timestamp takes 1.4 times as long.
+#[inline(always)]
+pub fn differ_heads(
+    a: &[u8],
+    n: usize,
+    i: usize,
+    g: Head,
+    b: &[u8],
+    m: usize,
+    h: Head,
+    named: bool,
+) -> usize
+    requires sizes { ((n < 65536) × (m < 65536)) × (Bounded g × Bounded h) }
+    requires head { g ≡ head_at a.now i }
+    ensures { (j : ℕ) → h ≡ head_at b.now j → DifferTypes a.now n i b.now m j named result }
+{
+    if !same_shape(a, n, g, b, m, h) {
+        return i;
+    }
+    if g.first + h.first == 0 {
+        return 0;
+    }
+    differ_fields(a, n, i, g.first, b, m, h.first, named)
+}
+
 // The record at which the type of record i of a and that of record j of b first differ.
 pub fn differ_type(a: &[u8], n: usize, i: usize, b: &[u8], m: usize, j: usize, named: bool) -> usize
     requires { (n < 65536) × (m < 65536) }
@@ -126,15 +154,7 @@ pub fn differ_type(a: &[u8], n: usize, i: usize, b: &[u8], m: usize, j: usize, n
     if head_at(a, i).kind != head_at(b, j).kind {
         return i;
     }
-    let g = head_at(a, i);
-    let h = head_at(b, j);
-    if !same_shape(a, n, g, b, m, h) {
-        return i;
-    }
-    if g.first + h.first == 0 {
-        return 0;
-    }
-    differ_fields(a, n, i, g.first, b, m, h.first, named)
+    differ_heads(a, n, i, head_at(a, i), b, m, head_at(b, j), named)
 }
 
 // The record at which the type of record l of a side and that of record r of the other first differ.

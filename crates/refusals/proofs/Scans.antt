@@ -7,9 +7,10 @@ use native.Mathlib.Omega.{arith}
 use native.Mathlib.Numerals.{add-one}
 use lib.ListN.{length, get_or, take, drop}
 use lib.Seq.{drop-cons}
-use lib.Dec.{eqb}
-use borrow.Author.Tests.{eq-eqb, eqb-true, lt-ltb, le-ltb, ltb-false, not-false}
+use lib.Dec.{ltb, eqb}
+use borrow.Author.Tests.{eq-eqb, ne_eqb, eqb-true, lt-ltb, le-ltb, ltb-false, not-false}
 use Rattle.std.proofs.lemmas.Bool.Decides.{nat_tests}
+use Rattle.sheet.specs.Tests.{one_of}
 use Rattle.sheet.specs.Kind.{is_kind}
 use Rattle.sheet.specs.Head.{quad_at, head_at}
 use Rattle.sheet.specs.Read.{records_of, labels_of}
@@ -17,7 +18,7 @@ use Rattle.sheet.specs.Refusals.{all_zero, any_from, torn}
 use Rattle.refusals.specs.Limits.{Fits}
 use Rattle.sheet.specs.declared.Head.{Head}
 use Rattle.sheet.proofs.Heads.{head_inside}
-use Rattle.sheet.proofs.Tests.{one_at, one_is_lem, one_cons, one_nil, not_of}
+use Rattle.sheet.proofs.Tests.{one_at, one_is_lem, not_of}
 
 -- the sum of k bytes from i on
 abbrev total : List ℕ → ℕ → ℕ → ℕ
@@ -111,24 +112,20 @@ module _ (s : List ℕ) (h : torn s ≡ false) where
 
 -- n and m of a header, and the rest of it
 module _ (s : List ℕ) (n m : ℕ) (en : n ≡ records_of s) (em : m ≡ labels_of s) where
-  pub torn_outside : (length s ≡ 16 * n + m → 1 ≤ n → n ≤ 1024 → m ≤ 16384 → ⊥) → torn s ≡ true
-  torn_outside f = go (torn s) refl
-    where
-      go : (b : Bool) → torn s ≡ b → torn s ≡ true
-      go true e = e
-      go false e = let w = whole_fits s e n m en em in absurd (f w.long w.some w.few w.short)
-
-  pub torn_rest : {b : Bool} → 16 ≤ length s → 1 ≤ n → n ≤ 1024 → m ≤ 16384 → length s ≡ 16 * n + m → b ≡ all_zero (take 12 (drop 4 s)) → not b ≡ torn s
+  pub torn_length : ¬ (length s ≡ 16 * n + m) → torn s ≡ true
   unfolding torn
-  torn_rest {b} least some few short long e = go b e
+  torn_length h = one_is_lem _ 4 (ap not (ne_eqb (length s) (16 * records_of s + labels_of s) (λ e. h (omega arith))))
+
+  pub torn_rest : {b : Bool} → 16 ≤ length s → length s ≡ 16 * n + m → b ≡ all_zero (take 12 (drop 4 s))
+      → (((ltb n 1 || ltb 1024 n) || ltb 16384 m) || not b) ≡ torn s
+  unfolding torn one_of
+  torn_rest {b} least long e =
+      rw (le-ltb (length s) 16 least, eq-eqb (length s) (16 * records_of s + labels_of s) (omega arith), en, em, e)
+      (go (ltb (records_of s) 1) (ltb 1024 (records_of s)) (ltb 16384 (labels_of s)) (not (all_zero (take 12 (drop 4 s)))))
     where
-      go : (z : Bool) → z ≡ all_zero (take 12 (drop 4 s)) → not z ≡ torn s
-      go true z =
-          sym
-          (one_cons _ (le-ltb (length s) 16 least)
-          (one_cons _ (le-ltb (records_of s) 1 (omega arith))
-          (one_cons _ (le-ltb 1024 (records_of s) (omega arith))
-          (one_cons _ (le-ltb 16384 (labels_of s) (omega arith))
-          (one_cons _ (not_of (eq-eqb (length s) (16 * records_of s + labels_of s) (omega arith)))
-          (one_cons _ (not_of (sym z)) one_nil))))))
-      go false z = sym (one_is_lem _ 5 (ap not (sym z)))
+      go : (x y z w : Bool) → (((x || y) || z) || w) ≡ (x || (y || (z || (false || (w || false)))))
+      go true y z w = refl
+      go false true z w = refl
+      go false false true w = refl
+      go false false false true = refl
+      go false false false false = refl

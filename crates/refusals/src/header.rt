@@ -16,7 +16,7 @@ fn is_rest_zero(s: &[u8]) -> bool
     quad_at(s, 4) + quad_at(s, 8) + quad_at(s, 12) == 0
 }
 
-// Whether a sheet is torn: refusal 1. A wrong length is what is met most.
+// Whether a sheet is torn: refusal 1. A wrong length is what is met most; `|` keeps the other tests behind it, which the compiler puts before it with `||`.
 pub fn is_torn(s: &[u8]) -> bool
     ensures { result ≡ torn s.now }
 {
@@ -25,10 +25,10 @@ pub fn is_torn(s: &[u8]) -> bool
     }
     let n = word_at(s, 0);
     let m = word_at(s, 2);
-    if s.len() != 16 * n + m || n < 1 || 1024 < n || 16384 < m {
+    if s.len() != 16 * n + m {
         return true;
     }
-    !is_rest_zero(s)
+    (n < 1) | (1024 < n) | (16384 < m) | !is_rest_zero(s)
 }
 
 // Whether four records have kinds of 1 to 38, of which the first begins at byte i.
@@ -52,14 +52,17 @@ impl Records<'_> {
         false
     }
 
-    // Whether a record has a kind outside 1 to 38. Four at a time, as the bar is: not slower than the old form. One at a time takes the whole check up
-    // to 1.2 times as long (ten integers).
+    // Whether a record has a kind outside 1 to 38. Eight at a time: by four a sheet that is refused here takes 1.1 times as long or more, which is not always
+    // faster than the Rust side of the benchmark, and one at a time takes the whole check up to 1.2 times as long (ten integers).
     pub(crate) fn odd_kind(&self) -> bool
         ensures { result ≡ any_from (λ r. not (is_kind (head_at self.now.sheet.now r).kind)) 1 (self.now.n - 1) }
     {
         let mut r = 1;
-        while r + 3 < self.n && are_kinds(self.sheet, 16 * r) {
-            r += 4;
+        while r + 7 < self.n
+            && are_kinds(self.sheet, 16 * r)
+            && are_kinds(self.sheet, 16 * (r + 4))
+        {
+            r += 8;
         }
         self.odd_kind_from(r)
     }

@@ -10,7 +10,7 @@ ghost use Rattle.values.specs.Keeps.{CoreAt};
 
 use crate::front::{FRONT, UNNAMED};
 use crate::resolver::Resolver;
-use buffers::alike::differ_type;
+use buffers::alike::{differ_heads, differ_type};
 use buffers::field::copy_field;
 use buffers::{Failure, Out, Question, Spot};
 use merge::Merger;
@@ -250,13 +250,15 @@ impl<'a> Resolver<'a> {
         ensures { Reached (type_union_resolution (rules_of Question.List self.now.mask)) self.now.space self.now.sheet.now work.old work.new 0 link result }
     {
         let n = self.space.n;
+        let first = head_at(self.sheet, link);
         let mut last = link;
-        let mut at = head_at(self.sheet, link).next;
+        let mut at = first.next;
         while last < at {
             if n <= at {
                 return Err(Failure::NoType);
             }
-            let d = differ_type(self.sheet, n, at, self.sheet, n, link, true);
+            let h = head_at(self.sheet, at);
+            let d = differ_heads(self.sheet, n, at, h, self.sheet, n, first, true);
             if d != 0 {
                 if self.is_fitting(link) {
                     return self.fold_behind(work, Some(d), link, last, at);
@@ -264,7 +266,7 @@ impl<'a> Resolver<'a> {
                 return Err(Failure::NoType);
             }
             last = at;
-            at = head_at(self.sheet, at).next;
+            at = h.next;
         }
         copy_field(self.sheet, work, self.space, false, link, FRONT)
     }

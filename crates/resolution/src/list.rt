@@ -11,7 +11,8 @@ use sheet::record::head_at;
 
 impl Resolver<'_> {
     // The bits of the categories of the types at a link; all bits where a type has no category. More than one bit means no answer, a form of document 01, so no
-    // Option is needed.
+    // Option is needed. Not inlined, so that the loop has registers of its own: in the middle of a whole call it makes a list of integers take 1.1 times as long.
+    #[inline(never)]
     fn categories(&self, link: usize) -> u8
         ensures { (ts : Fields) → Listed self.now.space self.now.sheet.now 0 link ts → result ≡ seen_bits 0 (types_of ts) }
     {

@@ -4,8 +4,8 @@ use Rattle.std.proofs.lemmas.Result.{err_from_is_err_and}
 use Rattle.answers.specs.Code.{call_of}
 use Rattle.answers.proofs.Refusing.{checked_accepted}
 use Rattle.answers.proofs.Calling.{refused_sheet, refused_later, room, done_room, type_outcome, none_outcome}
-use Rattle.answers.proofs.call.Goals.{in-Ok, in-Err}
-use Rattle.answers.proofs.call.Goals as goal
+use Rattle.answers.proofs.ask_whole.Goals.{in-Ok, in-Err}
+use Rattle.answers.proofs.ask_whole.Goals as goal
 
 pub returns-in_err-n : goal.returns-in_err-n
 returns-in_err-n c =
