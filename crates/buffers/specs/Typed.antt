@@ -75,12 +75,3 @@ pub record CopiedField (space : Space) (s w v : List ℕ) (link : ℕ) (to : Spo
   pub further : Further to o
   pub means : (name : List ℕ) (nullable : Bool) (shape : Shape) (parts rest : Fields) → Chain space s link (field name nullable shape parts rest)
       → ChainIs space v to (1 + count parts) (length name + letters (type_of shape parts)) o (Some (field name nullable shape parts end))
-
--- whether a wrapper is a Dictionary whose value, at record i of the second half, is Utf8View
-abbrev pub is_view : Space → List ℕ → ℕ → ℕ → Bool
-is_view space w kind i = eqb kind Kind.dictionary && eqb (head_at (region space w) i).kind Kind.utf8_view
-
--- a wrapper stays as it was written, or gives way to Utf8View
-pub record Viewed (space : Space) (w v : List ℕ) (kind i : ℕ) (g : Goal) (e : Spot) (o : Out) : Type 0 where
-  pub stays : is_view space w kind i ≡ false → (o ≡ Ok e) × (v ≡ w)
-  pub view : is_view space w kind i ≡ true → LaidPlain space w v g (shape_for Kind.utf8_view 0 0 0 false) o

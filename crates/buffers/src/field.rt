@@ -1,19 +1,17 @@
 // Writing the fields of a chain, one by one.
 // A kind is the byte of a record: public functions take any byte, of which an enum of 38 kinds would ask more.
-ghost use Rattle.std.specs.Prelude.{◌≡◌, Bool, cond, ◌+◌, ◌≤◌, ◌<◌, eqb, Ok, Err};
+ghost use Rattle.std.specs.Prelude.{◌≡◌, cond, ◌+◌, ◌≤◌, ◌<◌, eqb, Ok, Err};
 ghost use Rattle.buffers.specs.declared.Failure.{Failure};
 ghost use Rattle.sheet.specs.Bounds.{Bounded};
 ghost use Rattle.buffers.specs.Writes.{side};
 ghost use Rattle.buffers.specs.Region.{Room, Inside, Ready};
-ghost use Rattle.buffers.specs.Typed.{NamedAt, NamedGoal, CopiedField, Viewed};
+ghost use Rattle.buffers.specs.Typed.{NamedAt, NamedGoal, CopiedField};
 
-use crate::copy::{copy_bare, is_nullable};
-use crate::lay::{copy_type, lay_plain};
+use crate::copy::is_nullable;
+use crate::lay::copy_type;
 use crate::write::{look, put_label};
 use crate::{Failure, Goal, Out, Space, Spot};
-use coercion::Figures;
 use sheet::Head;
-use sheet::record::head_at;
 
 // The link to the parts of a record, which follow it where a chain is not empty.
 pub fn first_link(at: usize, link: usize) -> usize
@@ -98,38 +96,4 @@ pub fn copy_field(
     let h = look(sheet, &*work, swap, link);
     let g = name_goal(sheet, work, space, swap, h, is_nullable(h), to)?;
     copy_type(sheet, work, space, swap, link, g)
-}
-
-// The same, where the field most often has neither parts nor a zone, as the indices of a wrapper: for speed, by the figures at `copy_parent`.
-pub fn copy_index(
-    sheet: &[u8],
-    work: &mut [u8],
-    space: Space,
-    swap: bool,
-    link: usize,
-    to: Spot,
-) -> Out
-    requires { Room work.old space × Inside space to }
-    ensures { CopiedField space (side swap sheet.now work.old) work.old work.new link to result }
-{
-    let h = look(sheet, &*work, swap, link);
-    if h.zoned() || h.first != 0 {
-        return copy_field(sheet, work, space, swap, link, to);
-    }
-    if space.n <= to.at {
-        return Err(Failure::Full);
-    }
-    let g = name_goal(sheet, work, space, swap, h, is_nullable(h), to)?;
-    copy_bare(work, space, h, link, g)
-}
-
-// A wrapper of a kind at a goal, up to e, whose value is record i: a Dictionary of Utf8View gives way to Utf8View.
-pub fn keep_wrapper(work: &mut [u8], space: Space, kind: u8, i: usize, g: Goal, e: Spot) -> Out
-    requires { Room work.old space × Ready space g }
-    ensures { Viewed space work.old work.new kind i g e result }
-{
-    if kind == 37 && head_at(&work[space.half..], i).kind == 27 {
-        return lay_plain(work, space, g, Figures::of_kind(27));
-    }
-    Ok(e)
 }

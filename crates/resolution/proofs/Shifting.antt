@@ -22,19 +22,10 @@ use Rattle.buffers.specs.Region.{Room, region, Held, Inside}
 use Rattle.buffers.specs.Typed.{Typed}
 use Rattle.buffers.specs.declared.Space.{Space}
 use Rattle.buffers.specs.declared.Spot.{Spot}
-use Rattle.buffers.proofs.Frames.{head_bytes}
+use Rattle.buffers.proofs.Frames.{head_bytes, record_inside}
 use Rattle.buffers.proofs.Chained.{labels_sum}
 use Rattle.buffers.proofs.Rows.{chain_typed}
 use Rattle.resolution.specs.Reached.{Shifted, Candidate, Mirrored}
-
--- a record that has a kind lies inside
-record_inside : (s : List ℕ) (r : ℕ) (k : ℕ) → (head_at s r).kind ≡ k → is_kind k ≡ true → 16 * r + 16 ≤ length s
-unfolding head_at is_kind between
-record_inside s r k e q = go (ltb r (length s / 16)) refl e
-  where
-    go : (b : Bool) → ltb r (length s / 16) ≡ b → (cond b (head_from s (16 * r)) blank).kind ≡ k → 16 * r + 16 ≤ length s
-    go true z p = omega (arith, ltb-true r (length s / 16) z)
-    go false z p = let u = rw (sym p) at q in let y : ◌≡◌ {A = ℕ} 0 1 = cc in absurd (omega arith)
 
 -- the bytes of w from i up to e, as far as it has them
 abbrev Matches : List ℕ → List ℕ → ℕ → ℕ → Type 0
