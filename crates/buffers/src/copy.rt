@@ -105,7 +105,7 @@ pub(crate) fn copy_bare(work: &mut [u8], space: Space, h: Head, link: usize, g: 
 }
 
 // The same for a record of a side that may have a zone. Of one that has none, as that of a wrapper, the head alone is written. The bar is: not slower than
-// before. With `copy_head` here and `copy_field` for `copy_index`, a Dictionary in a list takes 280 ns in place of 150 to 190.
+// before. With `copy_head` in its place a Dictionary in a list takes 253 ns in place of 238.
 pub fn copy_parent(
     sheet: &[u8],
     work: &mut [u8],

@@ -26,7 +26,7 @@ struct Setting {
     other: fn(usize, DataType) -> DataType,
 }
 
-static SETTINGS: [Setting; 8] = [
+static SETTINGS: [Setting; 9] = [
     Setting { name: "alone", first: |large, core| (large.wrap)(core), other: |_, t| t },
     Setting {
         name: "in Lists of one item name",
@@ -59,6 +59,11 @@ static SETTINGS: [Setting; 8] = [
         other: |_, t| run_ends(1, 0, t),
     },
     Setting {
+        name: "the others in run ends in Dictionaries",
+        first: |large, core| (large.wrap)(core),
+        other: |_, t| dictionary(Int32, run_ends(1, 0, t)),
+    },
+    Setting {
         name: "around Lists",
         first: |large, core| (large.wrap)(item(b"item", core)),
         other: |_, t| item(b"item", t),
@@ -85,6 +90,14 @@ pub fn all() -> Vec<Hard> {
     found
 }
 
+fn in_turn(t: DataType, level: usize) -> DataType {
+    if level % 2 == 0 {
+        run_ends(1, 0, t)
+    } else {
+        dictionary(Int32, t)
+    }
+}
+
 fn larges() -> Vec<Large> {
     let mut found = Vec::new();
     for levels in [128, 200, 255, 300, 380] {
@@ -94,6 +107,9 @@ fn larges() -> Vec<Large> {
         }
         let wrap = move |core| (0..levels).fold(core, |t, _| dictionary(Int32, t));
         found.push(Large { name: format!("{levels} Dictionaries"), wrap: Box::new(wrap) });
+        let wrap = move |core| (0..levels).fold(core, in_turn);
+        let name = format!("{levels} Dictionaries and run ends in turn");
+        found.push(Large { name, wrap: Box::new(wrap) });
     }
     for (fields, length) in [(510, 3), (510, 31), (128, 120), (64, 250)] {
         let name = format!("a Dictionary with an index of {fields} fields, {length}-byte names");

@@ -114,11 +114,11 @@ pub fn run(options: &Options) -> io::Result<bool> {
     measure(&mut rows, count);
     let hard = rows.split_off(largest.len());
     let full = || rows.iter().zip(&largest).filter(|(_, sheet)| sheet.is_full());
-    let base = slowest(full().map(|(row, _)| row)).expect("a full sheet").time();
+    let made_hard = slowest(full().map(|(row, _)| row)).expect("a full sheet").time();
     let ordinary = full().filter(|(_, sheet)| sheet.is_ordinary).map(|(row, _)| row);
-    let ordinary = slowest(ordinary).expect("a full sheet").time();
+    let base = slowest(ordinary).expect("a full sheet").time();
     let ladders = if word.is_empty() { climb(most, count)? } else { Vec::new() };
-    let (result, holds) = verdict(&hard, &ladders, base, ordinary);
+    let (result, holds) = verdict(&hard, &ladders, base, made_hard);
     let text = format!(
         "Machine: {machine}. Medians of {count} rounds, microseconds of processor time a call.\n\n{result}\n{}\n{}\n{}",
         base_table(&rows, base),
@@ -181,19 +181,19 @@ fn micros(time: f64) -> String {
     format!("{}.{}", grouped(tenths / 10), tenths % 10)
 }
 
-fn verdict(hard: &[Row], ladders: &[Climbed], base: f64, ordinary: f64) -> (String, bool) {
+fn verdict(hard: &[Row], ladders: &[Climbed], base: f64, made_hard: f64) -> (String, bool) {
     let rows = || hard.iter().chain(ladders.iter().flat_map(|climbed| &climbed.rows));
     let worst = slowest(rows()).map_or(0.0, Row::time);
     let holds = worst <= BOUND * base;
     let mut text = format!(
-        "The bound: no sheet takes longer than {BOUND} times the check of the largest sheet, here {BOUND} × {} = {}. In this run it {}: the slowest of {} calls takes {:.1} times the check. Against the slowest check of names that were not made to be hard, {}, it takes {:.0} times.\n\n",
+        "The bound: no sheet takes longer than {BOUND} times the check of the largest sheet, here {BOUND} × {} = {}. In this run it {}: the slowest of {} calls takes {:.1} times the check. Against the slowest check of names that were made to be hard to tell apart, {}, it takes {:.1} times.\n\n",
         micros(base),
         micros(BOUND * base),
         if holds { "holds" } else { "DOES NOT HOLD" },
         grouped(rows().count() as u64),
         worst / base,
-        micros(ordinary),
-        worst / ordinary
+        micros(made_hard),
+        worst / made_hard
     );
     text += "| Question | The slowest sheet found | Sheet, bytes | Time | Time / check |\n|---|---|---|---|---|\n";
     for question in QUESTIONS {
