@@ -1,6 +1,6 @@
 // The merge of two types. Each call hands down how many records may be left in both types, and that number falls.
 // A kind is the byte of a record: public functions take any byte, of which an enum of 38 kinds would ask more.
-ghost use Rattle.std.specs.Prelude.{◌≡◌, ℕ, None, true, false, not, cond, ◌+◌, ◌-◌, ◌≤◌, ◌<◌, eqb, ltb, ◌&&◌};
+ghost use Rattle.std.specs.Prelude.{◌≡◌, ℕ, None, true, false, not, cond, ◌+◌, ◌-◌, ◌≤◌, ◌<◌, eqb, ◌&&◌};
 ghost use Rattle.coercion.specs.Answers.{coercion, list_struct};
 ghost use Rattle.coercion.specs.Nested.{struct_coercion};
 ghost use Rattle.sheet.specs.Bounds.{Bounded};
@@ -35,12 +35,12 @@ use partners::rows::row;
 use sheet::Head;
 use wrappers::walk::way;
 
-// Whether the type at a link has few records. It ends where the chain goes on, or with the last record.
-fn is_small(n: usize, link: usize, next: usize) -> bool
-    ensures { result ≡ ltb (cond (eqb next 0) n next - link) 33 }
+// How many records the type at a link has. It ends where the chain goes on, or with the last record.
+fn records_from(n: usize, link: usize, next: usize) -> usize
+    ensures { result ≡ cond (eqb next 0) n next - link }
 {
     let end = if next == 0 { n } else { next };
-    end.saturating_sub(link) < 33
+    end.saturating_sub(link)
 }
 
 // Whether the entries of two maps are sorted.
@@ -51,7 +51,8 @@ fn are_sorted(x: Head, y: Head) -> bool
 }
 
 impl<'a> Merger<'a> {
-    // The common type of two types, of which something may be known, or none. The table of partners is small where the left type has at most 32 records.
+    // The common type of two types, of which something may be known, or none. The table of partners is short where the left type has few records,
+    // for each of its entries is set to 0.
     pub fn coerce(
         &self,
         work: &mut [u8],
@@ -65,7 +66,11 @@ impl<'a> Merger<'a> {
         requires { Room work.old self.now.space × Ready self.now.space g }
         ensures { MergesKnown known (is_list_question (asked self.now.question)) (coercion (rules_of self.now.question self.now.mask)) self.now.space left swap self.now.sheet.now work.old work.new l r g result }
     {
-        if is_small(self.space.n, l, look(self.sheet, &*work, swap, l).next) {
+        let records = records_from(self.space.n, l, look(self.sheet, &*work, swap, l).next);
+        if records < 9 {
+            return self.common(work, &mut [0u32; 16], left, swap, known, 0, l, r, g);
+        }
+        if records < 33 {
             return self.common(work, &mut [0u32; 64], left, swap, known, 0, l, r, g);
         }
         // No heap: the tables are in the frame.

@@ -1,5 +1,5 @@
 -- The search for a name in a chain, the table of what was found, and the rows that it feeds.
-use Rattle.std.specs.Prelude.{◌≡◌, ℕ, ◌+◌, ◌*◌, ◌/◌, ◌%◌, ◌<◌, ◌≤◌, Bool, true, false, cond, ◌&&◌, ◌||◌, List, Option, None, Some, ◌⊎◌, length, get_or, set, eqb, ltb}
+use Rattle.std.specs.Prelude.{◌≡◌, ℕ, ◌+◌, ◌*◌, ◌/◌, ◌%◌, ◌<◌, Bool, true, false, cond, ◌&&◌, ◌||◌, List, Option, None, Some, ◌⊎◌, length, get_or, set, eqb, ltb}
 use Rattle.std.specs.List.{All}
 use Rattle.sheet.specs.Types.{Shape, Fields, field}
 use Rattle.sheet.specs.Head.{head_at, nullable_in}
@@ -66,9 +66,9 @@ Lists n s link = All (Member n s link)
 abbrev pub Indexed : ℕ → List ℕ → ℕ → List ℕ → List ℕ → Type 0
 Indexed n s link heads olds = Lists n s link heads × Lists n s link olds
 
--- the place of a record's number in a table: there is one for each, or in a small table one for 32 of a side
+-- the place of a record's number in a table: there is one for each, or in a short table 8 or 32 for a side
 abbrev pub place_in : ℕ → ℕ → ℕ
-place_in len k = cond (ltb len 2048) (k % 32 + 32 * (k / 1024)) k
+place_in len k = cond (ltb len 64) (k % 8 + 8 * (k / 1024)) (cond (ltb len 2048) (k % 32 + 32 * (k / 1024)) k)
 
 -- the partner of the record of number k in the chain at r, as an entry e says; 0 where it is of another record or chain
 abbrev pub own_partner : ℕ → ℕ → ℕ → ℕ

@@ -17,7 +17,9 @@ pub(crate) fn key_of(swap: bool, i: usize) -> usize
 fn place_in(len: usize, k: usize) -> usize
     ensures { result ≡ place_in len k }
 {
-    if len < 2048 {
+    if len < 64 {
+        k % 8 + 8 * (k / 1024)
+    } else if len < 2048 {
         k % 32 + 32 * (k / 1024)
     } else {
         k
