@@ -73,7 +73,26 @@ impl<'a> Merger<'a> {
         if records < 33 {
             return self.common(work, &mut [0u32; 64], left, swap, known, 0, l, r, g);
         }
-        // No heap: the tables are in the frame.
+        self.coerce_many(work, left, swap, known, l, r, g)
+    }
+
+    // The same, where the left type has many records. It is not inlined: with the large table in the frame of `coerce` the union of two run ends takes 212 ns in
+    // place of 207.
+    #[inline(never)]
+    fn coerce_many(
+        &self,
+        work: &mut [u8],
+        left: usize,
+        swap: bool,
+        known: Option<usize>,
+        l: usize,
+        r: usize,
+        g: Goal,
+    ) -> Out
+        requires { Room work.old self.now.space × Ready self.now.space g }
+        ensures { MergesKnown known (is_list_question (asked self.now.question)) (coercion (rules_of self.now.question self.now.mask)) self.now.space left swap self.now.sheet.now work.old work.new l r g result }
+    {
+        // No heap: the table is in the frame.
         self.common(work, &mut [0u32; 2048], left, swap, known, 0, l, r, g)
     }
 

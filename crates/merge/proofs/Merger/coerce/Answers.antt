@@ -5,10 +5,6 @@ pub common-requires-clause-tabled : goal.common-requires-clause-tabled
 common-requires-clause-tabled c =
     tabled_zeros 16
 
-pub common-requires-2-clause-tabled : goal.common-requires-2-clause-tabled
-common-requires-2-clause-tabled c =
-    tabled_zeros 2048
-
 pub common-requires-then-records-lt33-clause-tabled : goal.common-requires-then-records-lt33-clause-tabled
 common-requires-then-records-lt33-clause-tabled c =
     tabled_zeros 64
