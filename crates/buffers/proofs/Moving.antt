@@ -11,6 +11,7 @@ use Rattle.std.specs.Prelude.{Ok, Err}
 use Rattle.sheet.specs.Types.{zone_bytes, own_labels}
 use Rattle.sheet.specs.Head.{head_at, head_from, bytes_of, zoned_in, zone_len, labelled}
 use Rattle.sheet.specs.Encode.{offset, flags_of}
+use Rattle.sheet.specs.Holds.{Span}
 use Rattle.sheet.specs.declared.Head.{Head}
 use Rattle.sheet.proofs.Heads.{head_inside, span_head}
 use Rattle.sheet.proofs.Carrying as Carrying
@@ -88,6 +89,13 @@ moved_is o label link at x p h =
       last = 0;
     }
 
+-- the head of a record that was moved and put at a place
+put_is : (space : Space) (v : List ℕ) (place o label link at : ℕ) (x : Item) (g : Head) → ItemRight x → o + length x.name < 65536
+    → g ≡ relabelled (relinked (item_head o x) link at) label → Span v (space.half + 16 * place) (bytes_of g)
+    → head_at (region space v) place ≡ item_head label (moved_item link at x)
+put_is space v place o label link at x g p h eg a =
+    span_head (region space v) place g (span_region space v (16 * place) (bytes_of g) a) ∙ eg ∙ moved_is o label link at x p h
+
 -- a head with another place of its name
 abbrev renamed : Head → ℕ → Head
 renamed h name =
@@ -115,6 +123,12 @@ plain_head h label name z e =
 name_none : (o : ℕ) (l : List ℕ) → length l ≡ 0 → offset o l ≡ 0
 name_none o [] e = refl
 name_none o (b ∷ bs) e = absurd (omega arith)
+
+-- a head without labels, moved
+bare_is : (h : Head) (link at label o : ℕ) (x : Item) → zoned_in h ≡ false → h.nlen ≡ 0 → h ≡ item_head o x → relinked h link at ≡ relabelled (relinked h link at) label
+bare_is h link at label o x z none e =
+    let c : moved_label label h.nlen ≡ 0 = rw none in
+    plain_head (relinked h link at) label h.name z (ap (λ (y : Head). y.name) e ∙ name_none o x.name (sym (ap (λ (y : Head). y.nlen) e) ∙ none) ∙ sym c)
 
 -- how far a walk over records is that moves their heads: those behind number at are as they were
 pub record Progress (space : Space) (w : List ℕ) (link : ℕ) (to : Spot) (at label o : ℕ) (xs : List Item) : Type 0 where
@@ -182,8 +196,8 @@ module _ (space : Space) (w : List ℕ) (link count : ℕ) (to : Spot) (at label
             let sum : length (item_labels (done ++ (x ∷ []))) ≡ length (item_labels p.done) + own_length x =
             labels_sum done (x ∷ []) ∙ omega (arith, labels_cons x []) in
             let here : head_at (region space v) at ≡ item_head label (moved_item link to.at x) =
-            span_head (region space v) at g (span_region space v (16 * at) (bytes_of g) put.span) ∙ eg b x ex
-            ∙ ap (λ (y : Head). relabelled (relinked y link to.at) label) ex ∙ moved_is b label link to.at x right.0 (name_low done x ys split p.place left right) in
+            put_is space v at b label link to.at x g right.0 (name_low done x ys split p.place left right)
+            (eg b x ex ∙ ap (λ (y : Head). relabelled (relinked y link to.at) label) ex) put.span in
             let old : Heads (region space v) to.at to.label moved =
             heads_agree (region space w) (region space v) to.at to.at to.label moved (λ j q. before (to.at + j) (omega (arith, p.place, same-count))) p.moved in
             let new : Heads (region space v) to.at to.label (moved ++ (moved_item link to.at x ∷ [])) =
@@ -249,7 +263,7 @@ module _ {space : Space} {w₀ w : List ℕ} {link count : ℕ} {to : Spot} {at 
         ∙ ap (λ (s : List ℕ). head_from s (16 * at)) (take_all (length w - space.half) (region space w) (omega (arith, length-drop space.half w)))
         ∙ sym (head_inside (region space w) at (omega (arith, length-drop space.half w, l.room.half, l.room.inside)))
 
-    full : (own : ℕ) → own ≡ labelled h → space.m < label + own → MovedHeads space w₀ w link count to (Err Full)
+    full : (own : ℕ) → own ≡ labelled h → space.m < label + own → MovedHeads space (region space w₀) to.at w₀ w link count to (Err Full)
     full own eo q =
         record {
           kept = l.kept;
@@ -276,7 +290,7 @@ module _ {space : Space} {w₀ w : List ℕ} {link count : ℕ} {to : Spot} {at 
       zoned_own : h.nlen + zlen ≡ labelled h
       zoned_own = ap (λ (k : ℕ). h.nlen + k) (ez ∙ ap (λ (b : Bool). cond b (zone_len h) 0) (sym z))
 
-      pub zoned_full : space.m < label + (h.nlen + zlen) → MovedHeads space w₀ w link count to (Err Full)
+      pub zoned_full : space.m < label + (h.nlen + zlen) → MovedHeads space (region space w₀) to.at w₀ w link count to (Err Full)
       zoned_full q = full (h.nlen + zlen) zoned_own q
 
       pub zoned_on : label + (h.nlen + zlen) ≤ space.m → (v : List ℕ) (g : Head) → g ≡ relabelled (relinked h link to.at) label
@@ -290,7 +304,7 @@ module _ {space : Space} {w₀ w : List ℕ} {link count : ℕ} {to : Spot} {at 
       plain_own : h.nlen ≡ labelled h
       plain_own = omega (arith, no_zone)
 
-      pub named_full : space.m < label + h.nlen → MovedHeads space w₀ w link count to (Err Full)
+      pub named_full : space.m < label + h.nlen → MovedHeads space (region space w₀) to.at w₀ w link count to (Err Full)
       named_full q = full h.nlen plain_own q
 
       pub named_on : ¬ (h.nlen ≡ 0) → label + h.nlen ≤ space.m → (v : List ℕ) (g : Head) → g ≡ relinked h link to.at
@@ -303,15 +317,10 @@ module _ {space : Space} {w₀ w : List ℕ} {link count : ℕ} {to : Spot} {at 
       pub bare_on : h.nlen ≡ 0 → (v : List ℕ) (g : Head) → g ≡ relinked h link to.at → Put w v (space.half + 16 * at) (bytes_of g)
           → Moving space w₀ v link count to (at + 1) label
       bare_on none v g eg put =
-          let c : moved_label label h.nlen ≡ 0 = rw none in
           subst (λ (k : ℕ). Moving space w₀ v link count to (at + 1) k) {x = label + 0} {y = label} (omega arith)
-          (on 0 (omega (arith, no_zone)) (omega (arith, l.fits)) v g
-          (λ b x e.
-          eg
-          ∙ plain_head (relinked h link to.at) label h.name z
-          (ap (λ (y : Head). y.name) e ∙ name_none b x.name (sym (ap (λ (y : Head). y.nlen) e) ∙ none) ∙ sym c)) put)
+          (on 0 (omega (arith, no_zone)) (omega (arith, l.fits)) v g (λ b x e. eg ∙ bare_is h link to.at label b x z none e) put)
 
-  pub moving_done : ¬ (at < to.at + count) → MovedHeads space w₀ w link count to (Ok (record { at = at; label = label }))
+  pub moving_done : ¬ (at < to.at + count) → MovedHeads space (region space w₀) to.at w₀ w link count to (Ok (record { at = at; label = label }))
   moving_done stop =
       record {
         kept = l.kept;
@@ -328,3 +337,27 @@ module _ {space : Space} {w₀ w : List ℕ} {link count : ℕ} {to : Spot} {at 
           subst (λ (ys : List Item). (label ≡ to.label + length (item_labels ys)) × Heads (region space w) to.at to.label (moved_items link to.at ys)) t
           (q.labels, q.moved)
       go o xs e q (y ∷ ys) s = absurd (omega (arith, ap (λ (z : List Item). length z) s, length-append q.done (y ∷ ys), q.place, l.inside))
+
+-- one record without labels, wherever it was read
+pub bare_moved : (space : Space) (s w : List ℕ) (link : ℕ) (to : Spot) → Room w space → to.label ≤ space.m → to.at < space.n
+    → (h : Head) → h ≡ head_at s link → zoned_in h ≡ false → h.nlen ≡ 0 → (v : List ℕ) (g : Head) → g ≡ relinked h link to.at
+    → Put w v (space.half + 16 * to.at) (bytes_of g) → MovedHeads space s link w v link 1 to (Ok (record { at = to.at + 1; label = to.label }))
+unfolding item_labels moved_items
+bare_moved space s w link to room letters lt h eh z none v g eg put =
+    record { kept = head_kept space w v to.at space.m g lt put; means = ((refl, (omega arith, letters)), go) }
+  where
+    go : (o : ℕ) (xs : List Item) → Heads s link o xs → ItemsRight xs → length xs ≡ 1 → o + length (item_labels xs) ≤ space.m
+        → (to.label ≡ to.label + length (item_labels xs)) × Heads (region space v) to.at to.label (moved_items link to.at xs)
+    go o [] a p e low = absurd (omega arith)
+    go o (x ∷ []) a p e low =
+        let i : h ≡ item_head o x = eh ∙ a.0 in
+        let short : o + length x.name < 65536 = omega (arith, low, labels_cons x [], room.short, length-append x.name (zone_bytes x.shape.zone)) in
+        let own = ap (λ (b : Bool). cond b (zone_len h) 0) z in (
+          omega (arith, none, own, ap labelled i, item_length o x p.0 short, labels_cons x []),
+          (
+            put_is space v to.at o to.label link to.at x g p.0 short
+                (eg ∙ bare_is h link to.at to.label o x z none i ∙ ap (λ (y : Head). relabelled (relinked y link to.at) to.label) i) put.span,
+            tt,
+          ),
+        )
+    go o (x ∷ y ∷ ys) a p e low = absurd (omega arith)

@@ -111,20 +111,20 @@ relabelled h label =
       last = h.last;
     }
 
--- what is said of heads that were moved, whatever records' heads they were
-abbrev pub HeadsMean : Space → List ℕ → List ℕ → ℕ → ℕ → Spot → Out → Type 0
-HeadsMean space w v link count to (Ok d) =
+-- what is said of heads that were moved, whatever records' heads stood in s from number r on
+abbrev pub HeadsMean : Space → List ℕ → ℕ → List ℕ → ℕ → ℕ → Spot → Out → Type 0
+HeadsMean space s r v link count to (Ok d) =
     ((d.at ≡ to.at + count) × ((to.label ≤ d.label) × (d.label ≤ space.m)))
-    × ((o : ℕ) (xs : List Item) → Heads (region space w) to.at o xs → ItemsRight xs → length xs ≡ count → o + length (item_labels xs) ≤ space.m
+    × ((o : ℕ) (xs : List Item) → Heads s r o xs → ItemsRight xs → length xs ≡ count → o + length (item_labels xs) ≤ space.m
     → (d.label ≡ to.label + length (item_labels xs)) × Heads (region space v) to.at to.label (moved_items link to.at xs))
-HeadsMean space w v link count to (Err NoType) = ⊥
-HeadsMean space w v link count to (Err Full) =
-    (o : ℕ) (xs : List Item) → Heads (region space w) to.at o xs → ItemsRight xs → length xs ≡ count → o + length (item_labels xs) ≤ space.m
+HeadsMean space s r v link count to (Err NoType) = ⊥
+HeadsMean space s r v link count to (Err Full) =
+    (o : ℕ) (xs : List Item) → Heads s r o xs → ItemsRight xs → length xs ≡ count → o + length (item_labels xs) ≤ space.m
     → space.m < to.label + length (item_labels xs)
 
-pub record MovedHeads (space : Space) (w v : List ℕ) (link count : ℕ) (to : Spot) (o : Out) : Type 0 where
+pub record MovedHeads (space : Space) (s : List ℕ) (r : ℕ) (w v : List ℕ) (link count : ℕ) (to : Spot) (o : Out) : Type 0 where
   pub kept : Kept space w v to.at space.m
-  pub means : HeadsMean space w v link count to o
+  pub means : HeadsMean space s r v link count to o
 
 -- where the labels of whatever records stand from number link up to end begin, where there are any
 pub record LabelsBegin (s : List ℕ) (link end r : ℕ) : Type 0 where

@@ -1,9 +1,9 @@
 // Copying records that stand one behind the other: their heads at once, then what differs in each head, and their labels at once.
-ghost use Rattle.std.specs.Prelude.{◌≡◌, cond, ◌+◌, ◌*◌, ◌≤◌, ◌<◌};
+ghost use Rattle.std.specs.Prelude.{◌≡◌, cond, not, eqb, ◌&&◌, ◌+◌, ◌-◌, ◌*◌, ◌≤◌, ◌<◌};
 ghost use Rattle.sheet.specs.Head.{zoned_in, zone_len};
 ghost use Rattle.sheet.specs.Bounds.{Bounded};
 ghost use Rattle.buffers.specs.Writes.{side};
-ghost use Rattle.buffers.specs.Region.{Room, Inside};
+ghost use Rattle.buffers.specs.Region.{Room, Inside, region};
 ghost use Rattle.buffers.specs.Span.{relinked, relabelled, MovedHeads, LabelsBegin, CopiedSpan};
 
 use crate::copy::{moved_label, moved_link, moved_quad, zone_bytes};
@@ -36,11 +36,18 @@ fn relabelled(h: Head, label: usize) -> Head
     }
 }
 
+// Whether a record has neither a name nor a zone.
+fn is_bare(h: Head) -> bool
+    ensures { result ≡ (eqb h.nlen 0 && not (zoned_in h)) }
+{
+    h.nlen == 0 && !h.zoned()
+}
+
 // Makes of heads that stand at a place, as they are from number link on, those of the records there. Each of the three cases puts its head itself, so that
 // no more is written than what it changes: a record takes 5 to 7 cycles in place of the 11 of one `put_head` for all.
 fn move_heads(work: &mut [u8], space: Space, link: usize, count: usize, to: Spot) -> Out
     requires { Room work.old space × (Inside space to × (to.at + count ≤ space.n)) }
-    ensures { MovedHeads space work.old work.new link count to result }
+    ensures { MovedHeads space (region space work.old) to.at work.old work.new link count to result }
 {
     let mut at = to.at;
     let mut label = to.label;
@@ -90,8 +97,10 @@ fn labels_from(sheet: &[u8], work: &[u8], swap: bool, link: usize, end: usize) -
     0
 }
 
-// Copies the records of a side from number link up to end, which stand one behind the other, with their labels, to a place. Links are moved with the records.
-pub fn copy_span(
+// What `copy_span` does where there is room for the records, however many they are and whatever labels they have. It is not inlined, so that the frame in the
+// recursion of `merge` stays small.
+#[inline(never)]
+fn copy_items(
     sheet: &[u8],
     work: &mut [u8],
     space: Space,
@@ -100,16 +109,11 @@ pub fn copy_span(
     end: usize,
     to: Spot,
 ) -> Out
-    requires { Room work.old space × Inside space to }
+    requires room { Room work.old space × Inside space to }
+    requires fits { (link < end) × ((end ≤ space.n) × (to.at + (end - link) ≤ space.n)) }
     ensures { CopiedSpan space (side swap sheet.now work.old) work.old work.new link end to result }
 {
-    if end <= link {
-        return Ok(to);
-    }
     let count = end - link;
-    if space.n < end || space.n < to.at + count {
-        return Err(Failure::Full);
-    }
     put_label(
         sheet,
         work,
@@ -132,4 +136,40 @@ pub fn copy_span(
         space.half + 16 * space.n + to.label,
     );
     Ok(d)
+}
+
+// Copies the records of a side from number link up to end, which stand one behind the other, with their labels, to a place. Links are moved with the records.
+// Most often it is one record without labels, the index of a Dictionary, of which a head is put and no more. With `copy_items` for it a Dictionary in a list
+// takes 239 ns in place of 222, and 236 where this is not inlined.
+#[inline(always)]
+pub fn copy_span(
+    sheet: &[u8],
+    work: &mut [u8],
+    space: Space,
+    swap: bool,
+    link: usize,
+    end: usize,
+    to: Spot,
+) -> Out
+    requires { Room work.old space × Inside space to }
+    ensures { CopiedSpan space (side swap sheet.now work.old) work.old work.new link end to result }
+{
+    if end <= link {
+        return Ok(to);
+    }
+    let count = end - link;
+    if space.n < end || space.n < to.at + count {
+        return Err(Failure::Full);
+    }
+    if count == 1 {
+        let h = look(sheet, &*work, swap, link);
+        if is_bare(h) {
+            put_head(work, space.half + 16 * to.at, relinked(h, link, to.at));
+            return Ok(Spot {
+                at: to.at + 1,
+                label: to.label,
+            });
+        }
+    }
+    copy_items(sheet, work, space, swap, link, end, to)
 }
