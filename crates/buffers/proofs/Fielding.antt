@@ -1,26 +1,26 @@
--- A field that was named and copied, a wrapper that was kept, and what a head tells of its type. Assumes nothing.
+-- A field that was named and copied, and what a head tells of its type. Assumes nothing.
 use mathlib.Core.Path.{◌≡◌, refl, ap, sym, subst, ◌∙◌}
 use mathlib.Core.Bool.{Bool, true, false}
-use mathlib.Core.List.{List, [], ◌++◌}
+use mathlib.Core.List.{List}
 use mathlib.Core.Logic.{inl, inr, ⊎_elim}
 use Prim.Native.Nat.{ℕ, ◌+◌, ◌*◌, ◌≤◌}
 use native.Mathlib.Omega.{arith}
-use lib.ListN.{length, take, drop, length-take, length-append}
+use lib.ListN.{length, take, drop, length-take}
 use Rattle.sheet.specs.Tests.{implies}
-use Rattle.sheet.specs.Types.{Zone, absent, present, Shape, Fields, end, field, count, zone_bytes, labels}
+use Rattle.sheet.specs.Types.{Zone, absent, present, Shape, Fields, end, field, count}
 use Rattle.sheet.specs.Head.{head_at, nullable_in}
 use Rattle.sheet.specs.Encode.{link_to, quad_of, head_of}
 use Rattle.sheet.specs.Refusals.{figures_right}
 use Rattle.sheet.specs.Carried.{is_zoned}
 use Rattle.sheet.specs.Bounds.{Bounded}
-use Rattle.sheet.specs.Holds.{Span, Stands}
+use Rattle.sheet.specs.Holds.{Span}
 use Rattle.sheet.specs.declared.Head.{Head}
 use Rattle.sheet.proofs.Tests.{never, all_at}
 use Rattle.sheet.proofs.Spans.{span_move}
 use Rattle.sheet.proofs.Repeating.{head_is}
 use Rattle.coercion.specs.Data.{DataType}
 use Rattle.buffers.specs.Writes.{side, Put}
-use Rattle.buffers.specs.Region.{Room, region, Kept, Held, Inside, Ready, Wrote, Named, CopiedHead}
+use Rattle.buffers.specs.Region.{Room, Kept, Held, Inside, Ready, Wrote, Named}
 use Rattle.buffers.specs.Goal.{CopiedType}
 use Rattle.buffers.specs.Steps.{Reads}
 use Rattle.buffers.specs.Typed.{Chain, Typed, goal_at, NamedAt, CopiedField}

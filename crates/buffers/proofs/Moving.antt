@@ -1,7 +1,7 @@
 -- Records that stand one behind the other, whose heads are moved. Assumes nothing.
 use mathlib.Core.Path.{◌≡◌, refl, ap, sym, subst, ◌∙◌}
 use mathlib.Core.Bool.{Bool, true, false, cond}
-use mathlib.Core.List.{List, [], ◌∷◌, ◌++◌, append-nil, append_assoc}
+use mathlib.Core.List.{List, [], ◌∷◌, ◌++◌, append_assoc}
 use Prim.Native.Nat.{ℕ, suc, ◌+◌, ◌*◌, ◌-◌, ◌<◌, ◌≤◌}
 use native.Mathlib.Omega.{arith}
 use borrow.Author.Tests.{ne_eqb}
@@ -319,24 +319,6 @@ module _ {space : Space} {w₀ w : List ℕ} {link count : ℕ} {to : Spot} {at 
       bare_on none v g eg put =
           subst (λ (k : ℕ). Moving space w₀ v link count to (at + 1) k) {x = label + 0} {y = label} (omega arith)
           (on 0 (omega (arith, no_zone)) (omega (arith, l.fits)) v g (λ b x e. eg ∙ bare_is h link to.at label b x z none e) put)
-
-  pub moving_done : ¬ (at < to.at + count) → MovedHeads space (region space w₀) to.at w₀ w link count to (Ok (record { at = at; label = label }))
-  moving_done stop =
-      record {
-        kept = l.kept;
-        means = (
-          (omega (arith, l.inside), (l.grown, l.fits)),
-          λ o xs a p e low. let q = l.progress o xs a p e low in go o xs e q q.rest q.split,
-        );
-      }
-    where
-      go : (o : ℕ) (xs : List Item) → length xs ≡ count → (q : Progress space w link to at label o xs) (rest : List Item) → xs ≡ q.done ++ rest
-          → (label ≡ to.label + length (item_labels xs)) × Heads (region space w) to.at to.label (moved_items link to.at xs)
-      go o xs e q [] s =
-          let t : q.done ≡ xs = sym (append-nil q.done) ∙ sym s in
-          subst (λ (ys : List Item). (label ≡ to.label + length (item_labels ys)) × Heads (region space w) to.at to.label (moved_items link to.at ys)) t
-          (q.labels, q.moved)
-      go o xs e q (y ∷ ys) s = absurd (omega (arith, ap (λ (z : List Item). length z) s, length-append q.done (y ∷ ys), q.place, l.inside))
 
 -- one record without labels, wherever it was read
 pub bare_moved : (space : Space) (s w : List ℕ) (link : ℕ) (to : Spot) → Room w space → to.label ≤ space.m → to.at < space.n

@@ -36,9 +36,6 @@ pub record Unlabelled (s : List ℕ) (at end o : ℕ) (xs : List Item) : Type 0 
 pub record Seeking (s : List ℕ) (link end at : ℕ) : Type 0 where
   pub all : (o : ℕ) (xs : List Item) → Heads s link o xs → ItemsRight xs → link + length xs ≡ end → o + length (item_labels xs) < 65536 → Unlabelled s at end o xs
 
-pub seeking_start : (s : List ℕ) (link end : ℕ) → Seeking s link end link
-seeking_start s link end = record { all = λ o xs a p e low. record { rest = xs; heads = a; right = p; long = e; labels = refl } }
-
 module _ {s : List ℕ} {link end at : ℕ} (k : Seeking s link end at) where
   module _ (h : Head) (eh : h ≡ head_at s at) (lt : at < end) where
     module _ (o : ℕ) (x : Item) (ys : List Item) (a : Heads s at o (x ∷ ys)) (p : ItemsRight (x ∷ ys)) (low : o + length (item_labels (x ∷ ys)) < 65536) where

@@ -79,7 +79,7 @@ Heads s r o [] = Unit
 Heads s r o (x ∷ xs) =
     (head_at s r ≡ head_of o x.name x.nullable x.shape x.first x.next) × Heads s (r + 1) (o + length (own_labels x.name x.shape)) xs
 
--- a head that was moved from record link to record at, with what its links lead to
+-- a head whose links were moved, from number link to number at
 abbrev pub relinked : Head → ℕ → ℕ → Head
 relinked h link at =
     record {

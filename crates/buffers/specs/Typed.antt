@@ -1,14 +1,13 @@
 -- Types that stand at links and types that were written, whatever types those are.
-use Rattle.std.specs.Prelude.{◌≡◌, ℕ, ◌+◌, ◌<◌, ◌≤◌, Bool, true, false, not, ◌&&◌, List, length, eqb}
+use Rattle.std.specs.Prelude.{◌≡◌, ℕ, ◌+◌, ◌<◌, ◌≤◌, Bool, true, false, not, List, length}
 use Rattle.std.specs.Prelude.{Option, None, Some}
-use Rattle.sheet.specs.Kind as Kind
 use Rattle.sheet.specs.Head.{head_at}
 use Rattle.sheet.specs.declared.Head.{Head}
 use Rattle.sheet.specs.Types.{Shape, Fields, end, field, count}
 use Rattle.coercion.specs.Data.{DataType, size}
 use Rattle.buffers.specs.Writes.{side}
-use Rattle.buffers.specs.Region.{region, Kept, Held, Grows, Further, Short, Wrote, Named}
-use Rattle.buffers.specs.Goal.{letters, Means, Writes, type_of, shape_for, LaidPlain}
+use Rattle.buffers.specs.Region.{Kept, Held, Grows, Further, Short, Wrote, Named}
+use Rattle.buffers.specs.Goal.{letters, Means, Writes, type_of}
 use Rattle.buffers.specs.declared.Space.{Space}
 use Rattle.buffers.specs.declared.Spot.{Spot}
 use Rattle.buffers.specs.declared.Goal.{Goal}

@@ -96,7 +96,7 @@ pub fn copy_head(
 
 // Copies the head of record `link`, which has no zone, to a goal, as the last of its chain. Unlike `copy_head` it needs no sheet, asks for no room for a zone
 // and cannot fail.
-pub(crate) fn copy_bare(work: &mut [u8], space: Space, h: Head, link: usize, g: Goal) -> Out
+fn copy_bare(work: &mut [u8], space: Space, h: Head, link: usize, g: Goal) -> Out
     requires { (Room work.old space × Ready space g) × ((g.at < space.n) × (Bounded h × (zoned_in h ≡ false))) }
     ensures { CopiedBare space work.old work.new h link g result }
 {
@@ -104,8 +104,8 @@ pub(crate) fn copy_bare(work: &mut [u8], space: Space, h: Head, link: usize, g: 
     Ok(g.past(0))
 }
 
-// The same for a record of a side that may have a zone. Of one that has none, as that of a wrapper, the head alone is written. The bar is: not slower than
-// before. With `copy_head` in its place a Dictionary in a list takes 253 ns in place of 238.
+// The same for a record of a side that may have a zone. Of one that has none, as that of a wrapper, the head alone is written. With
+// `copy_head` in its place a Dictionary in a list takes 253 ns in place of 238.
 pub fn copy_parent(
     sheet: &[u8],
     work: &mut [u8],

@@ -4,7 +4,7 @@ ghost use Rattle.std.specs.Prelude.{◌≡◌, cond, ◌+◌, ◌≤◌, ◌<◌
 ghost use Rattle.buffers.specs.declared.Failure.{Failure};
 ghost use Rattle.sheet.specs.Bounds.{Bounded};
 ghost use Rattle.buffers.specs.Writes.{side};
-ghost use Rattle.buffers.specs.Region.{Room, Inside, Ready};
+ghost use Rattle.buffers.specs.Region.{Room, Inside};
 ghost use Rattle.buffers.specs.Typed.{NamedAt, NamedGoal, CopiedField};
 
 use crate::copy::is_nullable;

@@ -1,6 +1,6 @@
 // Copying records that stand one behind the other: their heads at once, then what differs in each head, and their labels at once.
-ghost use Rattle.std.specs.Prelude.{◌≡◌, cond, not, eqb, ◌&&◌, ◌+◌, ◌-◌, ◌*◌, ◌≤◌, ◌<◌};
-ghost use Rattle.sheet.specs.Head.{zoned_in, zone_len};
+ghost use Rattle.std.specs.Prelude.{◌≡◌, not, eqb, ◌&&◌, ◌+◌, ◌-◌, ◌≤◌, ◌<◌};
+ghost use Rattle.sheet.specs.Head.{zoned_in};
 ghost use Rattle.sheet.specs.Bounds.{Bounded};
 ghost use Rattle.buffers.specs.Writes.{side};
 ghost use Rattle.buffers.specs.Region.{Room, Inside, region};
@@ -12,7 +12,7 @@ use crate::{Failure, Out, Space, Spot};
 use sheet::Head;
 use sheet::record::head_from;
 
-// The head of a record that was moved with what its links lead to, from number link to number at.
+// A head whose links are moved, from number link to number at.
 fn relinked(h: Head, link: usize, at: usize) -> Head
     requires { (at < 65536) × Bounded h }
     ensures { (result ≡ relinked h link at) × Bounded result }
@@ -43,8 +43,8 @@ fn is_bare(h: Head) -> bool
     h.nlen == 0 && !h.zoned()
 }
 
-// Makes of heads that stand at a place, as they are from number link on, those of the records there. Each of the three cases puts its head itself, so that
-// no more is written than what it changes: a record takes 5 to 7 cycles in place of the 11 of one `put_head` for all.
+// Mends heads that were copied from number link on: their links and the places of their labels become those of the records where they stand now. Each of the
+// three cases puts its head itself, so that no more is written than what it changes: a record takes 5 to 7 cycles in place of the 11 of one `put_head` for all.
 fn move_heads(work: &mut [u8], space: Space, link: usize, count: usize, to: Spot) -> Out
     requires { Room work.old space × (Inside space to × (to.at + count ≤ space.n)) }
     ensures { MovedHeads space (region space work.old) to.at work.old work.new link count to result }
@@ -79,7 +79,8 @@ fn move_heads(work: &mut [u8], space: Space, link: usize, count: usize, to: Spot
     Ok(Spot { at, label })
 }
 
-// Where the labels of the records of a side from number link up to end begin, where there are any.
+// Where the labels of the records of a side from number link up to end begin, where there are any; else 0, which
+// nothing reads.
 fn labels_from(sheet: &[u8], work: &[u8], swap: bool, link: usize, end: usize) -> usize
     ensures { LabelsBegin (side swap sheet.now work.now) link end result }
 {
