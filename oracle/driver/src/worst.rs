@@ -1,4 +1,4 @@
-//! The slowest calls that are known, against the checking of the largest sheet.
+//! The slowest calls that are known, against the checking of a largest sheet of ordinary names.
 
 use crate::call::{Answer, Call, QUESTIONS};
 use crate::counts::grouped;
@@ -13,7 +13,7 @@ use std::io;
 
 pub const OPTIONS: [&str; 6] = ["--rounds=", "--most-k=", "--only=", "--all", "--show", "--write"];
 
-/// No call may take longer than this many times the check of the largest sheet.
+/// No call may take longer than this many times the check of a largest sheet of ordinary names.
 const BOUND: f64 = 100.0;
 
 /// A call that is timed, and what it is.
@@ -114,9 +114,11 @@ pub fn run(options: &Options) -> io::Result<bool> {
     measure(&mut rows, count);
     let hard = rows.split_off(largest.len());
     let full = || rows.iter().zip(&largest).filter(|(_, sheet)| sheet.is_full());
-    let made_hard = slowest(full().map(|(row, _)| row)).expect("a full sheet").time();
-    let ordinary = full().filter(|(_, sheet)| sheet.is_ordinary).map(|(row, _)| row);
-    let base = slowest(ordinary).expect("a full sheet").time();
+    let checks = |ordinary: bool| {
+        let of = full().filter(move |(_, sheet)| sheet.is_ordinary == ordinary);
+        slowest(of.map(|(row, _)| row)).expect("a full sheet").time()
+    };
+    let (base, made_hard) = (checks(true), checks(false));
     let ladders = if word.is_empty() { climb(most, count)? } else { Vec::new() };
     let (result, holds) = verdict(&hard, &ladders, base, made_hard);
     let text = format!(
@@ -186,7 +188,7 @@ fn verdict(hard: &[Row], ladders: &[Climbed], base: f64, made_hard: f64) -> (Str
     let worst = slowest(rows()).map_or(0.0, Row::time);
     let holds = worst <= BOUND * base;
     let mut text = format!(
-        "The bound: no sheet takes longer than {BOUND} times the check of the largest sheet, here {BOUND} × {} = {}. In this run it {}: the slowest of {} calls takes {:.1} times the check. Against the slowest check of names that were made to be hard to tell apart, {}, it takes {:.1} times.\n\n",
+        "The bound: no sheet takes longer than {BOUND} times the check of a largest sheet of ordinary names, here {BOUND} × {} = {}. In this run it {}: the slowest of {} calls takes {:.1} times the check. Against the slowest check of names that were made to be hard to tell apart, {}, it takes {:.1} times.\n\n",
         micros(base),
         micros(BOUND * base),
         if holds { "holds" } else { "DOES NOT HOLD" },
