@@ -15,7 +15,7 @@ const USAGE: &str = "usage: driver COMMAND
   growth [--rounds N] [--write]
                       time against sheet size
   worst [--rounds N] [--most-k K] [--only WORD] [--all] [--write]
-                      the slowest calls known, against the check of the largest sheet;
+                      the slowest calls known, against the check of a largest sheet;
                       fails where one takes over 100 times as long
   worst --show [--only WORD]
                       the hard sheets with WORD in their names, as lines for `oracle answer`
