@@ -30,7 +30,7 @@ use Rattle.merge.proofs.Merging.{typed_kind}
 pub nest_append : (zs ys : List Wrapper) (f : Fields) → nest (zs ++ ys) f ≡ nest zs (nest ys f)
 unfolding nest
 nest_append [] ys f = refl
-nest_append (z ∷ zs) ys f = ap (λ (t : Fields). field z.name z.nullable z.shape (field z.index_name z.index_nullable z.index z.index_parts t) end) (nest_append zs ys f)
+nest_append (z ∷ zs) ys f = ap (λ (t : Fields). field z.name z.nullable z.shape (field z.part_name z.part_nullable z.part z.part_parts t) end) (nest_append zs ys f)
 
 pub pass_append : (j : ℕ) (zs ys : List Wrapper) → AllPass j zs → AllPass j ys → AllPass j (zs ++ ys)
 pass_append j [] ys a b = b
@@ -103,10 +103,10 @@ module _ {space : Space} {s : List ℕ} {k l next run : ℕ} (er : run ≡ cond 
   outermost j w ef =
       record {
         first = ef;
-        index_name = t.n;
-        index_nullable = t.b;
-        index = t.s;
-        index_parts = t.p;
+        part_name = t.n;
+        part_nullable = t.b;
+        part = t.s;
+        part_parts = t.p;
         kept = [];
         run = [];
         name = t.n₂;
@@ -135,7 +135,7 @@ module _ {space : Space} {s : List ℕ} {j l first at run k next' next : ℕ} (p
 
   -- the wrapper, and the field of its value
   abbrev z : Wrapper
-  z = record { name = d.name; nullable = d.nullable; shape = d.core.shape; index_name = v.n; index_nullable = v.b; index = v.s; index_parts = v.p }
+  z = record { name = d.name; nullable = d.nullable; shape = d.core.shape; part_name = v.n; part_nullable = v.b; part = v.s; part_parts = v.p }
 
   abbrev own : Fields
   own = alone v.n₂ v.b₂ (type_of v.s₂ v.p₂)
@@ -149,16 +149,16 @@ module _ {space : Space} {s : List ℕ} {j l first at run k next' next : ℕ} (p
   stepped kept' run' q a b c i =
       record {
         first = d.first;
-        index_name = d.index_name;
-        index_nullable = d.index_nullable;
-        index = d.index;
-        index_parts = d.index_parts;
+        part_name = d.part_name;
+        part_nullable = d.part_nullable;
+        part = d.part;
+        part_parts = d.part_parts;
         kept = kept';
         run = run';
         name = v.n₂;
         nullable = v.b₂;
         core = type_of v.s₂ v.p₂;
-        is = d.is ∙ ap (λ (f : Fields). field d.index_name d.index_nullable d.index d.index_parts f) q;
+        is = d.is ∙ ap (λ (f : Fields). field d.part_name d.part_nullable d.part d.part_parts f) q;
         kept_pass = a;
         run_pass = b;
         dictionaries = c;

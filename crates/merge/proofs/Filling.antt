@@ -26,9 +26,9 @@ use Rattle.buffers.proofs.Moving.{moved_count}
 use Rattle.buffers.proofs.Spans.{items_of, items_count, items_labels, items_right, holds_strip, strip_holds, strip_append, strip_split, labels_sum, labels_cons, moved_append, right_split, moved_chain}
 use Rattle.merge.specs.Descent.{Wrapper, alone, nest}
 
--- the parts of a wrapper: its index, and the wrappers on the way to a field
+-- the parts of a wrapper: the first, and the wrappers on the way to a field
 abbrev pub filled : List ℕ → Bool → Shape → Fields → List Wrapper → List ℕ → Bool → DataType → Fields
-filled n b index p zs name nullable t = field n b index p (nest zs (alone name nullable t))
+filled n b part p zs name nullable t = field n b part p (nest zs (alone name nullable t))
 
 -- the records of a chain up to its last field, whose type may be another
 pub record Front (r : ℕ) (make : DataType → Fields) (name : List ℕ) (nullable : Bool) : Type 0 where
@@ -36,34 +36,34 @@ pub record Front (r : ℕ) (make : DataType → Fields) (name : List ℕ) (nulla
   pub is : (t : DataType) → items_of r (make t) ≡ items ++ items_of (r + length items) (alone name nullable t)
 
 -- the record of a wrapper's first part, and that of a wrapper below another
-abbrev index_item : ℕ → List ℕ → Bool → Shape → Fields → Item
-index_item r n b index p = record { name = n; nullable = b; shape = index; first = link_to (r + 1) p; next = r + 1 + count p }
+abbrev part_item : ℕ → List ℕ → Bool → Shape → Fields → Item
+part_item r n b part p = record { name = n; nullable = b; shape = part; first = link_to (r + 1) p; next = r + 1 + count p }
 
 abbrev own_item : ℕ → Wrapper → Item
 own_item r z = record { name = z.name; nullable = z.nullable; shape = z.shape; first = r + 1; next = 0 }
 
-pub front : (r : ℕ) (n : List ℕ) (b : Bool) (index : Shape) (p : Fields) (zs : List Wrapper) (name : List ℕ) (nullable : Bool) → Front r (filled n b index p zs name nullable) name nullable
+pub front : (r : ℕ) (n : List ℕ) (b : Bool) (part : Shape) (p : Fields) (zs : List Wrapper) (name : List ℕ) (nullable : Bool) → Front r (filled n b part p zs name nullable) name nullable
 unfolding nest items_of
-front r n b index p [] name nullable =
+front r n b part p [] name nullable =
     let xs = items_of (r + 1) p in
     record {
-      items = index_item r n b index p ∷ xs;
+      items = part_item r n b part p ∷ xs;
       is =
           λ t.
-          ap (λ (i : ℕ). index_item r n b index p ∷ (xs ++ items_of i (alone name nullable t))) {x = r + 1 + count p} {y = r + length (index_item r n b index p ∷ xs)} (omega (arith, items_count (r + 1) p));
+          ap (λ (i : ℕ). part_item r n b part p ∷ (xs ++ items_of i (alone name nullable t))) {x = r + 1 + count p} {y = r + length (part_item r n b part p ∷ xs)} (omega (arith, items_count (r + 1) p));
     }
-front r n b index p (z ∷ zs) name nullable =
+front r n b part p (z ∷ zs) name nullable =
     let i = r + 1 + count p in
     let xs = items_of (r + 1) p in
-    let f = front (i + 1) z.index_name z.index_nullable z.index z.index_parts zs name nullable in
+    let f = front (i + 1) z.part_name z.part_nullable z.part z.part_parts zs name nullable in
     let ys = own_item i z ∷ f.items in
     record {
-      items = index_item r n b index p ∷ (xs ++ ys);
+      items = part_item r n b part p ∷ (xs ++ ys);
       is =
           λ t.
-          ap (λ (l : List Item). index_item r n b index p ∷ (xs ++ (own_item i z ∷ l))) (append-nil (items_of (i + 1) (filled z.index_name z.index_nullable z.index z.index_parts zs name nullable t)) ∙ f.is t)
-          ∙ ap (λ (l : List Item). index_item r n b index p ∷ l) (sym (append_assoc xs ys (items_of (i + 1 + length f.items) (alone name nullable t))))
-          ∙ ap (λ (k : ℕ). (index_item r n b index p ∷ (xs ++ ys)) ++ items_of k (alone name nullable t)) {x = i + 1 + length f.items} {y = r + length (index_item r n b index p ∷ (xs ++ ys))}
+          ap (λ (l : List Item). part_item r n b part p ∷ (xs ++ (own_item i z ∷ l))) (append-nil (items_of (i + 1) (filled z.part_name z.part_nullable z.part z.part_parts zs name nullable t)) ∙ f.is t)
+          ∙ ap (λ (l : List Item). part_item r n b part p ∷ l) (sym (append_assoc xs ys (items_of (i + 1 + length f.items) (alone name nullable t))))
+          ∙ ap (λ (k : ℕ). (part_item r n b part p ∷ (xs ++ ys)) ++ items_of k (alone name nullable t)) {x = i + 1 + length f.items} {y = r + length (part_item r n b part p ∷ (xs ++ ys))}
           (omega (arith, items_count (r + 1) p, length-append xs ys));
     }
 
@@ -103,21 +103,21 @@ strip_frame {space} w v {at} {label} k r o (x ∷ xs) h g a = (
 pub record Cut (l i : ℕ) (x t : DataType) : Type 0 where
   pub n : List ℕ
   pub b : Bool
-  pub index : Shape
+  pub part : Shape
   pub p : Fields
   pub zs : List Wrapper
   pub name : List ℕ
   pub nullable : Bool
-  pub is : x.parts ≡ filled n b index p zs name nullable t
+  pub is : x.parts ≡ filled n b part p zs name nullable t
   pub ends : i + size t ≡ l + size x
 
 module _ {l i : ℕ} {x t : DataType} (c : Cut l i x t) where
   -- its parts with another type there
   abbrev pub with_type : DataType → Fields
-  with_type u = filled c.n c.b c.index c.p c.zs c.name c.nullable u
+  with_type u = filled c.n c.b c.part c.p c.zs c.name c.nullable u
 
-  abbrev pub front_at : (r : ℕ) → Front r (filled c.n c.b c.index c.p c.zs c.name c.nullable) c.name c.nullable
-  front_at r = front r c.n c.b c.index c.p c.zs c.name c.nullable
+  abbrev pub front_at : (r : ℕ) → Front r (filled c.n c.b c.part c.p c.zs c.name c.nullable) c.name c.nullable
+  front_at r = front r c.n c.b c.part c.p c.zs c.name c.nullable
 
   abbrev pub front_items : ℕ → List Item
   front_items r = (front_at r).items

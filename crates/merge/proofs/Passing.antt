@@ -42,12 +42,12 @@ module _ (question : Question) (mask : ℕ) (of_list : is_list_question (asked q
   rewrap_gone : (k : ℕ) (x t : DataType) → k ≡ 37 → t.shape.kind ≡ 27 → rewrap k x t ≡ Some t
   rewrap_gone k x t p q = rw (eq-eqb k 37 p) (rw (eq-eqb t.shape.kind 27 q) refl)
 
-  module _ (sh : Shape) (n : List ℕ) (b : Bool) (index : Shape) (p : Fields) where
+  module _ (sh : Shape) (n : List ℕ) (b : Bool) (part : Shape) (p : Fields) where
     -- a wrapper about a field
     abbrev about : Fields → DataType
-    about f = type_of sh (field n b index p f)
+    about f = type_of sh (field n b part p f)
 
-    rewrap_kept : (name : List ℕ) (nullable : Bool) (v t : DataType) → is_wrapper sh.kind ≡ true → FieldsRight sh.kind (field n b index p (alone name nullable v)) → ¬ ((sh.kind ≡ 37) × (t.shape.kind ≡ 27))
+    rewrap_kept : (name : List ℕ) (nullable : Bool) (v t : DataType) → is_wrapper sh.kind ≡ true → FieldsRight sh.kind (field n b part p (alone name nullable v)) → ¬ ((sh.kind ≡ 37) × (t.shape.kind ≡ 27))
         → rewrap sh.kind (about (alone name nullable v)) t ≡ Some (about (alone name nullable t))
     rewrap_kept name nullable v t w right h = go (wrapper_is sh.kind w)
       where
@@ -60,46 +60,46 @@ module _ (question : Question) (mask : ℕ) (of_list : is_list_question (asked q
         go (inr q) = rw (ne_eqb sh.kind 37 (λ e. omega arith)) refl
 
   -- the common type of the wrapper's value makes that of the wrapper
-  through : (k : ℕ) (sh : Shape) (n : List ℕ) (b : Bool) (index : Shape) (p : Fields) (name : List ℕ) (nullable : Bool) (v y : DataType) (o : Option DataType) → both v y ≡ o
-      → rewrapped k both (type_of sh (field n b index p (alone name nullable v))) y ≡ and_then o (λ t. rewrap k (type_of sh (field n b index p (alone name nullable v))) t)
-  through k sh n b index p name nullable v y o e = ap (λ (o : Option DataType). and_then o (λ t. rewrap k (type_of sh (field n b index p (alone name nullable v))) t)) e
+  through : (k : ℕ) (sh : Shape) (n : List ℕ) (b : Bool) (part : Shape) (p : Fields) (name : List ℕ) (nullable : Bool) (v y : DataType) (o : Option DataType) → both v y ≡ o
+      → rewrapped k both (type_of sh (field n b part p (alone name nullable v))) y ≡ and_then o (λ t. rewrap k (type_of sh (field n b part p (alone name nullable v))) t)
+  through k sh n b part p name nullable v y o e = ap (λ (o : Option DataType). and_then o (λ t. rewrap k (type_of sh (field n b part p (alone name nullable v))) t)) e
 
   module _ (name : List ℕ) (nullable : Bool) (c y : DataType) where
     -- the core has none
-    pub none_through : (sh : Shape) (n : List ℕ) (b : Bool) (index : Shape) (p : Fields) (zs : List Wrapper) → AllPass y.shape.kind zs → both c y ≡ None
-        → rewrapped sh.kind both (type_of sh (filled n b index p zs name nullable c)) y ≡ None
+    pub none_through : (sh : Shape) (n : List ℕ) (b : Bool) (part : Shape) (p : Fields) (zs : List Wrapper) → AllPass y.shape.kind zs → both c y ≡ None
+        → rewrapped sh.kind both (type_of sh (filled n b part p zs name nullable c)) y ≡ None
     unfolding nest
-    none_through sh n b index p [] a e = through sh.kind sh n b index p name nullable c y None e
-    none_through sh n b index p (z ∷ zs) a e =
-        let v = type_of z.shape (filled z.index_name z.index_nullable z.index z.index_parts zs name nullable c) in
-        through sh.kind sh n b index p z.name z.nullable v y None
-        (by_rule question mask of_list v y a.0 ∙ none_through z.shape z.index_name z.index_nullable z.index z.index_parts zs a.1 e)
+    none_through sh n b part p [] a e = through sh.kind sh n b part p name nullable c y None e
+    none_through sh n b part p (z ∷ zs) a e =
+        let v = type_of z.shape (filled z.part_name z.part_nullable z.part z.part_parts zs name nullable c) in
+        through sh.kind sh n b part p z.name z.nullable v y None
+        (by_rule question mask of_list v y a.0 ∙ none_through z.shape z.part_name z.part_nullable z.part z.part_parts zs a.1 e)
 
     -- the core has one, and the wrappers stay
-    pub kept_through : (sh : Shape) (n : List ℕ) (b : Bool) (index : Shape) (p : Fields) (zs : List Wrapper) (t : DataType) → is_wrapper sh.kind ≡ true
-        → FieldsRight sh.kind (filled n b index p zs name nullable c) → AllPass y.shape.kind zs → both c y ≡ Some t → ¬ ((innermost sh.kind zs ≡ 37) × (t.shape.kind ≡ 27))
-        → rewrapped sh.kind both (type_of sh (filled n b index p zs name nullable c)) y ≡ Some (type_of sh (filled n b index p zs name nullable t))
+    pub kept_through : (sh : Shape) (n : List ℕ) (b : Bool) (part : Shape) (p : Fields) (zs : List Wrapper) (t : DataType) → is_wrapper sh.kind ≡ true
+        → FieldsRight sh.kind (filled n b part p zs name nullable c) → AllPass y.shape.kind zs → both c y ≡ Some t → ¬ ((innermost sh.kind zs ≡ 37) × (t.shape.kind ≡ 27))
+        → rewrapped sh.kind both (type_of sh (filled n b part p zs name nullable c)) y ≡ Some (type_of sh (filled n b part p zs name nullable t))
     unfolding nest
-    kept_through sh n b index p [] t w right a e h = through sh.kind sh n b index p name nullable c y (Some t) e ∙ rewrap_kept sh n b index p name nullable c t w right h
-    kept_through sh n b index p (z ∷ zs) t w right a e h =
-        let v = type_of z.shape (filled z.index_name z.index_nullable z.index z.index_parts zs name nullable c) in
-        let u = type_of z.shape (filled z.index_name z.index_nullable z.index z.index_parts zs name nullable t) in
+    kept_through sh n b part p [] t w right a e h = through sh.kind sh n b part p name nullable c y (Some t) e ∙ rewrap_kept sh n b part p name nullable c t w right h
+    kept_through sh n b part p (z ∷ zs) t w right a e h =
+        let v = type_of z.shape (filled z.part_name z.part_nullable z.part z.part_parts zs name nullable c) in
+        let u = type_of z.shape (filled z.part_name z.part_nullable z.part z.part_parts zs name nullable t) in
         let inner = passes_wrapper z.shape.kind y.shape.kind a.0 in
-        through sh.kind sh n b index p z.name z.nullable v y (Some u)
-        (by_rule question mask of_list v y a.0 ∙ kept_through z.shape z.index_name z.index_nullable z.index z.index_parts zs t inner right.1.1.1.0 a.1 e h)
-        ∙ rewrap_kept sh n b index p z.name z.nullable v u w right (λ q. ⊎_elim (λ r. omega (arith, q.1, r)) (λ r. omega (arith, q.1, r)) (wrapper_is z.shape.kind inner))
+        through sh.kind sh n b part p z.name z.nullable v y (Some u)
+        (by_rule question mask of_list v y a.0 ∙ kept_through z.shape z.part_name z.part_nullable z.part z.part_parts zs t inner right.1.1.1.0 a.1 e h)
+        ∙ rewrap_kept sh n b part p z.name z.nullable v u w right (λ q. ⊎_elim (λ r. omega (arith, q.1, r)) (λ r. omega (arith, q.1, r)) (wrapper_is z.shape.kind inner))
 
     -- it is Utf8View, and all wrappers are Dictionaries
-    pub gone_through : (sh : Shape) (n : List ℕ) (b : Bool) (index : Shape) (p : Fields) (zs : List Wrapper) (t : DataType) → sh.kind ≡ 37 → AllDictionaries zs → AllPass y.shape.kind zs
-        → both c y ≡ Some t → t.shape.kind ≡ 27 → rewrapped sh.kind both (type_of sh (filled n b index p zs name nullable c)) y ≡ Some t
+    pub gone_through : (sh : Shape) (n : List ℕ) (b : Bool) (part : Shape) (p : Fields) (zs : List Wrapper) (t : DataType) → sh.kind ≡ 37 → AllDictionaries zs → AllPass y.shape.kind zs
+        → both c y ≡ Some t → t.shape.kind ≡ 27 → rewrapped sh.kind both (type_of sh (filled n b part p zs name nullable c)) y ≡ Some t
     unfolding nest
-    gone_through sh n b index p [] t q ds a e h =
-        through sh.kind sh n b index p name nullable c y (Some t) e ∙ rewrap_gone sh.kind (type_of sh (field n b index p (alone name nullable c))) t q h
-    gone_through sh n b index p (z ∷ zs) t q ds a e h =
-        let v = type_of z.shape (filled z.index_name z.index_nullable z.index z.index_parts zs name nullable c) in
-        through sh.kind sh n b index p z.name z.nullable v y (Some t)
-        (by_rule question mask of_list v y a.0 ∙ gone_through z.shape z.index_name z.index_nullable z.index z.index_parts zs t ds.0 ds.1 a.1 e h)
-        ∙ rewrap_gone sh.kind (type_of sh (field n b index p (alone z.name z.nullable v))) t q h
+    gone_through sh n b part p [] t q ds a e h =
+        through sh.kind sh n b part p name nullable c y (Some t) e ∙ rewrap_gone sh.kind (type_of sh (field n b part p (alone name nullable c))) t q h
+    gone_through sh n b part p (z ∷ zs) t q ds a e h =
+        let v = type_of z.shape (filled z.part_name z.part_nullable z.part z.part_parts zs name nullable c) in
+        through sh.kind sh n b part p z.name z.nullable v y (Some t)
+        (by_rule question mask of_list v y a.0 ∙ gone_through z.shape z.part_name z.part_nullable z.part z.part_parts zs t ds.0 ds.1 a.1 e h)
+        ∙ rewrap_gone sh.kind (type_of sh (field n b part p (alone z.name z.nullable v))) t q h
 
     -- a run of Dictionaries as one field
     pub record Sole (zs : List Wrapper) : Type 0 where
@@ -113,11 +113,11 @@ module _ (question : Question) (mask : ℕ) (of_list : is_list_question (asked q
     unfolding nest
     sole [] ds a = record { name₁ = name; nullable₁ = nullable; type = c; is = refl; answers = λ t e h. e }
     sole (z ∷ zs) ds a =
-        let v = type_of z.shape (filled z.index_name z.index_nullable z.index z.index_parts zs name nullable c) in
+        let v = type_of z.shape (filled z.part_name z.part_nullable z.part z.part_parts zs name nullable c) in
         record {
           name₁ = z.name;
           nullable₁ = z.nullable;
           type = v;
           is = refl;
-          answers = λ t e h. by_rule question mask of_list v y a.0 ∙ gone_through z.shape z.index_name z.index_nullable z.index z.index_parts zs t ds.0 ds.1 a.1 e h;
+          answers = λ t e h. by_rule question mask of_list v y a.0 ∙ gone_through z.shape z.part_name z.part_nullable z.part z.part_parts zs t ds.0 ds.1 a.1 e h;
         }

@@ -18,13 +18,15 @@ use Rattle.coercion.specs.Wrappers.{is_of}
 use Rattle.coercion.specs.Nested.{join_fields, by_name, fields_have_same_names, partners, list_of, struct_of, struct_coercion}
 use Rattle.coercion.specs.Answers.{list_struct}
 use Rattle.buffers.specs.Writes.{side}
+use Rattle.buffers.specs.Region.{Held}
 use Rattle.buffers.specs.Goal.{letters, Means, shape_for}
 use Rattle.buffers.specs.Typed.{Chain, Typed}
+use Rattle.buffers.specs.Differ.{RowsKnown}
 use Rattle.buffers.specs.Feeds.{Feeds}
 use Rattle.buffers.specs.Partners.{same_order}
 use Rattle.merge.specs.Known.{Known, known_names}
 use Rattle.partners.specs.Naming.{structs_feed, StructsFed}
-use Rattle.merge.specs.Merge.{StructFed, MergesKnown, Under}
+use Rattle.merge.specs.Merge.{MergesKnown, Under}
 use Rattle.buffers.specs.declared.Space.{Space}
 use Rattle.buffers.specs.declared.Goal.{Goal}
 use Rattle.buffers.specs.Out.{Out}
@@ -37,6 +39,15 @@ use Rattle.merge.proofs.Knowing.{names_known, parts_known}
 use Rattle.merge.proofs.Merging.{means_for, any_known, merges_none, known_none}
 use Rattle.partners.proofs.Naming.{Asks, same_arity, names_found, names_missing, by_name_fits, end_self, order_names, order_by_name}
 use Rattle.buffers.proofs.Fielding.{typed_reads}
+
+-- which fields feed those of a Struct in a union: the ones at their places where the names stand in one order, and where they are not the same
+abbrev pub struct_feed : Fields → Fields → Feed
+struct_feed l r = cond (same_order l r) Feed.Place (cond (fields_have_same_names l r) Feed.Name Feed.Place)
+
+-- the same of whatever chains stand at two links, where something may be known of their names
+abbrev pub StructFed : Option ℕ → Space → List ℕ → List ℕ → ℕ → ℕ → ℕ → Feed → Type 0
+StructFed known space s t floor l r feed =
+    (a o up : ℕ) (lf rf : Fields) → Held space s floor l a o up lf → Chain space t r rf → RowsKnown known true l lf rf → feed ≡ struct_feed lf rf
 
 -- the names of a Struct's fields differ
 pub struct_differ : {space : Space} {s : List ℕ} {link : ℕ} {t : DataType} → t.shape.kind ≡ 35 → Typed space s link t → repeats t.parts ≡ false

@@ -56,15 +56,15 @@ module _ (space : Space) (swap : Bool) (s w : List ℕ) (r i : ℕ) (to : Spot) 
         kept = k.kept;
         grows = tt;
         means =
-            λ l x n b index p zs name nullable t a e is c ends.
-            parts_short a (record { n = n; b = b; index = index; p = p; zs = zs; name = name; nullable = nullable; is = is; ends = ends })
+            λ l x n b part p zs name nullable t a e is c ends.
+            parts_short a (record { n = n; b = b; part = part; p = p; zs = zs; name = name; nullable = nullable; is = is; ends = ends })
             (subst (λ (r : ℕ). CopiedSpan space (side swap s w) w v r i to (Err Full)) e k);
       }
 
   module _ (room : Room w space) (ahead : Inside space to) (d : Spot) (k : CopiedSpan space (side swap s w) w v r i to (Ok d)) (u : List ℕ) where
     said : (o : Out) → NamedView space (side swap s v) v u i d o → (l : ℕ) (x t : DataType) (c : Cut l i x t) → Typed space (side swap s w) l x → r ≡ l + 1
         → Chain space (side swap s w) i (alone c.name c.nullable t)
-        → ChainIs space u to (count x.parts) (length (labels x.parts)) o (Some (field c.n c.b c.index c.p (nest c.zs (alone c.name c.nullable view))))
+        → ChainIs space u to (count x.parts) (length (labels x.parts)) o (Some (field c.n c.b c.part c.p (nest c.zs (alone c.name c.nullable view))))
     said (Ok e) m l x t c a er b =
         parts_wrote a c (subst (λ (r : ℕ). CopiedSpan space (side swap s w) w v r i to (Ok d)) er k) room.few ahead m.kept view
         (m.means c.name c.nullable t end (chain_side swap space s w v to.at to.label room k.kept b))
@@ -86,6 +86,6 @@ module _ (space : Space) (swap : Bool) (s w : List ℕ) (r i : ℕ) (to : Spot) 
           kept = kept_trans k.kept (kept_wider to.at to.label k.grows.1.0 k.grows.1.1 m.kept);
           grows = grown o m.grows;
           means =
-              λ l x n b index p zs name nullable t a e is c ends.
-              said o m l x t (record { n = n; b = b; index = index; p = p; zs = zs; name = name; nullable = nullable; is = is; ends = ends }) a e c;
+              λ l x n b part p zs name nullable t a e is c ends.
+              said o m l x t (record { n = n; b = b; part = part; p = p; zs = zs; name = name; nullable = nullable; is = is; ends = ends }) a e c;
         }

@@ -23,19 +23,19 @@ pub record Wrapper : Type 0 where
   pub name : List ℕ
   pub nullable : Bool
   pub shape : Shape
-  pub index_name : List ℕ
-  pub index_nullable : Bool
-  pub index : Shape
-  pub index_parts : Fields
+  pub part_name : List ℕ
+  pub part_nullable : Bool
+  pub part : Shape
+  pub part_parts : Fields
 
 -- a field of a type, alone in its chain
 abbrev pub alone : List ℕ → Bool → DataType → Fields
 alone name nullable t = field name nullable t.shape t.parts end
 
--- the value of wrappers, the outermost first, about a field
+-- a field within wrappers, the outermost first
 unfoldable pub nest : List Wrapper → Fields → Fields
 nest [] f = f
-nest (z ∷ zs) f = field z.name z.nullable z.shape (field z.index_name z.index_nullable z.index z.index_parts (nest zs f)) end
+nest (z ∷ zs) f = field z.name z.nullable z.shape (field z.part_name z.part_nullable z.part z.part_parts (nest zs f)) end
 
 -- each wrapper is passed on the way to a type of kind j
 abbrev pub AllPass : ℕ → List Wrapper → Type 0
@@ -62,17 +62,17 @@ Begins space s l x kept i f =
 -- The way down from the wrapper x at record l towards a type of kind j: wrappers that are kept, a run of Dictionaries, and the core. The record of the core is
 -- known, and that of the run, which begins with x where x and all others are Dictionaries.
 pub record Descends (space : Space) (s : List ℕ) (j l : ℕ) (d : Descent) (x : DataType) : Type 0 where
-  pub index_name : List ℕ
-  pub index_nullable : Bool
-  pub index : Shape
-  pub index_parts : Fields
+  pub part_name : List ℕ
+  pub part_nullable : Bool
+  pub part : Shape
+  pub part_parts : Fields
   pub kept : List Wrapper
   pub run : List Wrapper
   pub name : List ℕ
   pub nullable : Bool
   pub core : DataType
   pub first : d.first ≡ l + 1
-  pub is : x.parts ≡ field index_name index_nullable index index_parts (nest kept (nest run (alone name nullable core)))
+  pub is : x.parts ≡ field part_name part_nullable part part_parts (nest kept (nest run (alone name nullable core)))
   pub kept_pass : AllPass j kept
   pub run_pass : AllPass j run
   pub dictionaries : AllDictionaries run
@@ -103,16 +103,16 @@ pub record NamedView (space : Space) (s w v : List ℕ) (link : ℕ) (to : Spot)
 pub record PlacedView (space : Space) (s w v : List ℕ) (r i : ℕ) (to : Spot) (o : Out) : Type 0 where
   pub kept : Kept space w v to.at to.label
   pub grows : Grows space to o
-  pub means : (l : ℕ) (x : DataType) (n : List ℕ) (b : Bool) (index : Shape) (p : Fields) (zs : List Wrapper) (name : List ℕ) (nullable : Bool) (t : DataType) → Typed space s l x → r ≡ l + 1
-      → x.parts ≡ field n b index p (nest zs (alone name nullable t)) → Chain space s i (alone name nullable t) → i + size t ≡ l + size x
-      → ChainIs space v to (count x.parts) (length (labels x.parts)) o (Some (field n b index p (nest zs (alone name nullable view))))
+  pub means : (l : ℕ) (x : DataType) (n : List ℕ) (b : Bool) (part : Shape) (p : Fields) (zs : List Wrapper) (name : List ℕ) (nullable : Bool) (t : DataType) → Typed space s l x → r ≡ l + 1
+      → x.parts ≡ field n b part p (nest zs (alone name nullable t)) → Chain space s i (alone name nullable t) → i + size t ≡ l + size x
+      → ChainIs space v to (count x.parts) (length (labels x.parts)) o (Some (field n b part p (nest zs (alone name nullable view))))
 
 -- whether a run of Dictionaries stands about Utf8View, which was written at record i
-abbrev pub gives_way : Space → List ℕ → Descent → ℕ → Bool
-gives_way space w d i = not (eqb d.run d.core) && eqb (head_at (region space w) i).kind Kind.utf8_view
+abbrev pub run_gives_way : Space → List ℕ → Descent → ℕ → Bool
+run_gives_way space w d i = not (eqb d.run d.core) && eqb (head_at (region space w) i).kind Kind.utf8_view
 
 -- a wrapper, written at a goal with its parts from a up to e, stays so, or its run of Dictionaries gives way to the Utf8View at record i
 pub record Settled (space : Space) (s w v : List ℕ) (d : Descent) (a : Spot) (g : Goal) (i : ℕ) (e : Spot) (o : Out) : Type 0 where
-  pub stays : gives_way space w d i ≡ false → (o ≡ Ok e) × (v ≡ w)
-  pub whole : gives_way space w d i ≡ true → d.run < d.first → LaidPlain space w v g view.shape o
-  pub part : gives_way space w d i ≡ true → d.first ≤ d.run → PlacedView space s w v d.first d.run a o
+  pub stays : run_gives_way space w d i ≡ false → (o ≡ Ok e) × (v ≡ w)
+  pub whole : run_gives_way space w d i ≡ true → d.run < d.first → LaidPlain space w v g view.shape o
+  pub part : run_gives_way space w d i ≡ true → d.first ≤ d.run → PlacedView space s w v d.first d.run a o

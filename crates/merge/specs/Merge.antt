@@ -1,15 +1,14 @@
 -- What the merge of two fields and of two chains says, whatever types stand at its links.
-use Rattle.std.specs.Prelude.{◌≡◌, ℕ, ◌+◌, ◌≤◌, Bool, true, cond, not, List, length}
-use Rattle.std.specs.Prelude.{Option, None, Some}
+use Rattle.std.specs.Prelude.{ℕ, ◌+◌, ◌≤◌, Bool, not, List, length, Option, None, Some}
 use Rattle.sheet.specs.Types.{Shape, Fields, end, field, count, labels}
 use Rattle.coercion.specs.Data.{DataType, size}
-use Rattle.coercion.specs.Nested.{before, fields_have_same_names, join_fields, list_of}
+use Rattle.coercion.specs.Nested.{before, join_fields, list_of}
 use Rattle.buffers.specs.Writes.{side}
-use Rattle.buffers.specs.Region.{Kept, Held, Grows}
+use Rattle.buffers.specs.Region.{Kept, Grows}
 use Rattle.buffers.specs.Goal.{letters, Means, Writes}
 use Rattle.buffers.specs.Typed.{Chain, Typed, ChainIs}
 use Rattle.buffers.specs.Feeds.{Feeds}
-use Rattle.buffers.specs.Partners.{Partners, same_order}
+use Rattle.buffers.specs.Partners.{Partners}
 use Rattle.wrappers.specs.Ways.{Hint}
 use Rattle.buffers.specs.Differ.{RowsKnown}
 use Rattle.merge.specs.Known.{Known}
@@ -22,15 +21,6 @@ use Rattle.buffers.specs.declared.Feed.{Feed}
 -- each entry of a table of partners is true
 pub record Tabled (space : Space) (s w table : List ℕ) : Type 0 where
   pub partners : Partners space s w table
-
--- which fields feed those of a Struct in a union: the ones at their places where the names stand in one order, and where they are not the same
-abbrev pub struct_feed : Fields → Fields → Feed
-struct_feed l r = cond (same_order l r) Feed.Place (cond (fields_have_same_names l r) Feed.Name Feed.Place)
-
--- the same of whatever chains stand at two links, where something may be known of their names
-abbrev pub StructFed : Option ℕ → Space → List ℕ → List ℕ → ℕ → ℕ → ℕ → Feed → Type 0
-StructFed known space s t floor l r feed =
-    (a o up : ℕ) (lf rf : Fields) → Held space s floor l a o up lf → Chain space t r rf → RowsKnown known true l lf rf → feed ≡ struct_feed lf rf
 
 -- two types, of which something may be known, were merged as a rule says, where no more than `left` records are left in both
 pub record MergesKnown (known : Option ℕ) (named : Bool) (answer : DataType → DataType → Option DataType) (space : Space) (left : ℕ) (swap : Bool) (s w v : List ℕ) (l r : ℕ) (g : Goal) (o : Out) : Type 0 where

@@ -321,11 +321,12 @@ impl<'a> Merger<'a> {
             return Err(Failure::Full);
         }
         let x = look(self.sheet, &*work, swap, l);
-        let way = self.way_down(&*work, swap, kind, l, r);
+        let descent = self.descend(&*work, swap, kind, l, r);
+        let core = descent.core;
         let a = copy_parent(self.sheet, work, space, swap, x, l, g)?;
-        let b = copy_span(self.sheet, work, space, swap, way.first, way.core, a)?;
-        let e = self.coerce_field(work, table, left, swap, way.core, r, b)?;
-        self.settle(work, swap, way, a, g, b.at, e)
+        let b = copy_span(self.sheet, work, space, swap, descent.first, core, a)?;
+        let e = self.coerce_field(work, table, left, swap, core, r, b)?;
+        self.settle(work, swap, descent, a, g, b.at, e)
     }
 
     // The value of a wrapper, coerced with a type of the other side under its own name and nullability.

@@ -5,7 +5,7 @@ ghost use Rattle.sheet.specs.Head.{head_at};
 ghost use Rattle.buffers.specs.Writes.{side};
 ghost use Rattle.buffers.specs.Region.{Room, Inside, Ready};
 ghost use Rattle.wrappers.specs.Ways.{is_wrapper};
-ghost use Rattle.merge.specs.Descent.{passes, gives_way, Descended, Stops, NamedView, PlacedView, Settled};
+ghost use Rattle.merge.specs.Descent.{passes, run_gives_way, Descended, Stops, NamedView, PlacedView, Settled};
 
 use crate::Merger;
 use buffers::copy::is_nullable;
@@ -79,16 +79,16 @@ fn walk_down(s: &[u8], space: Space, k: u8, j: u8, l: usize) -> Descent
 }
 
 // Whether a run of Dictionaries stands about Utf8View, which was written at record i.
-fn gives_way(work: &[u8], space: Space, way: Descent, i: usize) -> bool
+fn run_gives_way(work: &[u8], space: Space, descent: Descent, i: usize) -> bool
     requires { Room work.now space }
-    ensures { result ≡ gives_way space work.now way i }
+    ensures { result ≡ run_gives_way space work.now descent i }
 {
-    way.run != way.core && head_at(&work[space.half..], i).kind == 27
+    descent.run != descent.core && head_at(&work[space.half..], i).kind == 27
 }
 
 impl<'a> Merger<'a> {
     // The way down from the wrapper of a kind at a link towards a type of the other side.
-    pub(crate) fn way_down(&self, work: &[u8], swap: bool, kind: u8, l: usize, r: usize) -> Descent
+    pub(crate) fn descend(&self, work: &[u8], swap: bool, kind: u8, l: usize, r: usize) -> Descent
         requires { is_wrapper kind ≡ true }
         ensures descended { Descended self.now.space (side swap self.now.sheet.now work.now) kind (head_at (side (not swap) self.now.sheet.now work.now) r).kind l result }
         ensures stops { Stops self.now.space (side swap self.now.sheet.now work.now) kind (head_at (side (not swap) self.now.sheet.now work.now) r).kind l result }
@@ -124,21 +124,21 @@ impl<'a> Merger<'a> {
         &self,
         work: &mut [u8],
         swap: bool,
-        way: Descent,
+        descent: Descent,
         a: Spot,
         g: Goal,
         i: usize,
         e: Spot,
     ) -> Out
         requires { Room work.old self.now.space × (Inside self.now.space a × Ready self.now.space g) }
-        ensures { Settled self.now.space (side swap self.now.sheet.now work.old) work.old work.new way a g i e result }
+        ensures { Settled self.now.space (side swap self.now.sheet.now work.old) work.old work.new descent a g i e result }
     {
-        if !gives_way(&*work, self.space, way, i) {
+        if !run_gives_way(&*work, self.space, descent, i) {
             return Ok(e);
         }
-        if way.run < way.first {
+        if descent.run < descent.first {
             return lay_plain(work, self.space, g, Figures::of_kind(27));
         }
-        self.place_view(work, swap, way.first, way.run, a)
+        self.place_view(work, swap, descent.first, descent.run, a)
     }
 }

@@ -28,11 +28,11 @@ use Rattle.buffers.specs.Typed.{Chain}
 use Rattle.buffers.specs.Feeds.{EndOf}
 use Rattle.buffers.specs.Source.{Source}
 use Rattle.buffers.specs.Partners.{same_order}
-use Rattle.partners.specs.Naming.{Picks, Finds, Pairs, Tried, Within, Member, Lists, noted, Notes, Matched}
+use Rattle.partners.specs.Naming.{Picks, Finds, Tried, Within, Member, Lists, noted, Notes, Matched}
 use Rattle.buffers.specs.declared.Space.{Space}
 use Rattle.buffers.proofs.Sources.{source_none, source_lower, link_inside, read_name}
 use Rattle.buffers.proofs.Chained.{held_next}
-use Rattle.partners.proofs.Noting.{picks_end, noted_long, notes_trans, noted_says}
+use Rattle.partners.proofs.Noting.{Pairs, picks_end, noted_long, notes_trans, noted_says}
 
 -- a name has at most 255 bytes
 pub label_short : (s : List ℕ) (n : ℕ) {h : Head} {u : List ℕ} → Bounded h → u ≡ label_at s n h.name h.nlen → length u ≤ 255

@@ -20,10 +20,15 @@ use Rattle.buffers.specs.Typed.{Chain}
 use Rattle.buffers.specs.Differ.{known_past}
 use Rattle.buffers.specs.Feeds.{EndOf}
 use Rattle.buffers.specs.Partners.{key_of, Present, Partner, Partners}
-use Rattle.partners.specs.Naming.{Picks, Finds, Pairs, RowPairs, place_in, own_partner, partner_in, noted, News, Notes}
+use Rattle.partners.specs.Naming.{Picks, Finds, RowPairs, place_in, own_partner, partner_in, noted, News, Notes}
 use Rattle.buffers.specs.declared.Space.{Space}
 use Rattle.buffers.proofs.Rows.{chain_name}
 use Rattle.buffers.proofs.Known.{row_begins, known_some, known_name}
+
+-- what a search says of the name of record l of s in the chain at r of t
+abbrev pub Pairs : Space → List ℕ → List ℕ → ℕ → ℕ → ℕ → Type 0
+Pairs space s t l r found =
+    (name : List ℕ) (nullable : Bool) (shape : Shape) (parts rest rf : Fields) → Chain space s l (field name nullable shape parts rest) → Chain space t r rf → Picks space t name rf found
 
 -- a record at an end of a chain is the one that has its name
 pub picks_end : (space : Space) (s : List ℕ) {link : ℕ} {label want : List ℕ} {nullable : Bool} {shape : Shape} {parts rest : Fields} (t : Fields)

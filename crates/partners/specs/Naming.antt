@@ -16,6 +16,10 @@ use Rattle.buffers.specs.declared.Space.{Space}
 use Rattle.buffers.specs.declared.Row.{Row}
 use Rattle.buffers.specs.declared.Feed.{Feed}
 
+-- the name of record j
+abbrev pub name_of : List ℕ → ℕ → ℕ → List ℕ
+name_of s n j = label_at s n (head_at s j).name (head_at s j).nlen
+
 -- what a search for a name in a chain says: the link of a field of that name, or 0
 pub record Picks (space : Space) (s : List ℕ) (name : List ℕ) (t : Fields) (found : ℕ) : Type 0 where
   pub missing : found ≡ 0 → has_name name t ≡ false
@@ -25,16 +29,7 @@ pub record Picks (space : Space) (s : List ℕ) (name : List ℕ) (t : Fields) (
 abbrev pub Finds : ℕ → List ℕ → List ℕ → ℕ → ℕ → Type 0
 Finds n s name link found = (space : Space) (t : Fields) → n ≡ space.n → Chain space s link t → Picks space s name t found
 
--- the same of the name of record l of s in the chain at r of t
-abbrev pub Pairs : Space → List ℕ → List ℕ → ℕ → ℕ → ℕ → Type 0
-Pairs space s t l r found =
-    (name : List ℕ) (nullable : Bool) (shape : Shape) (parts rest rf : Fields) → Chain space s l (field name nullable shape parts rest) → Chain space t r rf → Picks space t name rf found
-
--- the name of record j
-abbrev pub name_of : List ℕ → ℕ → ℕ → List ℕ
-name_of s n j = label_at s n (head_at s j).name (head_at s j).nlen
-
--- the same for a row, where p stands at the place of l and something may be known of the names of both chains
+-- what a search says of record l, where p stands at its place in the chain at r and something may be known of the names of both chains
 abbrev pub RowPairs : Option ℕ → Space → List ℕ → List ℕ → ℕ → ℕ → ℕ → ℕ → Type 0
 RowPairs known space s t l r p found =
     (name : List ℕ) (nullable : Bool) (shape : Shape) (parts rest rf pf : Fields) → Chain space s l (field name nullable shape parts rest) → Chain space t r rf → Chain space t p pf

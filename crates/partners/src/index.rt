@@ -58,7 +58,7 @@ impl Index {
     }
 
     // A field of the chain at r that has a name; 0 where there is none. The index says which are tried first. None where eight of a row were tried in
-    // vain: a row is longer where names are made to fall into it.
+    // vain: a row is longer where names are made to fall into it. On None nothing rests but the time that the search takes.
     pub(crate) fn look_up(&self, t: &[u8], n: usize, want: &[u8], r: usize) -> Option<usize>
         requires { ((n ≤ 1024) × (length want.now ≤ 255)) × Indexed n t.now r self.now.heads self.now.olds }
         ensures { IfSome result (λ j. (j < 1024) × Finds n t.now want.now r j) }

@@ -10,7 +10,7 @@ ghost use Rattle.buffers.specs.declared.Space.{Space};
 ghost use Rattle.partners.specs.Naming.{Indexed, Matched, Walked, StructsFed};
 
 use crate::index::Index;
-use crate::order::are_ordered;
+use crate::order::are_found_in_order;
 use crate::search::{are_known, find, is_field_named};
 use crate::table::{key_of, note};
 use buffers::write::sides;
@@ -42,7 +42,7 @@ fn are_listed(
         }
         let g = head_at(s, i);
         let Some(j) = index.look_up(t, n, label_at(s, n, g.name, g.nlen), r) else {
-            return are_ordered(s, t, n, low, i, r, key, table);
+            return are_found_in_order(s, t, n, low, i, r, key, table);
         };
         if j == 0 {
             return false;

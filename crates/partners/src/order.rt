@@ -16,7 +16,8 @@ fn name_of(t: &[u8], n: usize, j: u16) -> &[u8]
     label_at(t, n, h.name, h.nlen)
 }
 
-// Lists the records of the chain at a link, and says how many they are. Each is past the one before it and below 1,024, so that there is room for all.
+// Lists the records of the chain at a link, and says how many they are. Each is past the one before it and below 1,024, so that there is room for all. Nothing
+// rests on the list being whole.
 fn list(t: &[u8], n: usize, link: usize, recs: &mut [u16; 1024]) -> usize
     requires { (n ≤ 1024) × Lists n t.now link recs.old }
     ensures { (result ≤ 1024) × Lists n t.now link recs.new }
@@ -37,7 +38,7 @@ fn list(t: &[u8], n: usize, link: usize, recs: &mut [u16; 1024]) -> usize
 }
 
 // A field of the chain at r that has a name; 0 where there is none. It is looked for by halving among records of that chain, where 0 is none, and what these do
-// not have in the whole chain. So nothing rests on the order, or on the list being whole, but the time that this takes.
+// not have in the whole chain. So nothing rests on their order but the time that this takes.
 fn look_up(t: &[u8], n: usize, want: &[u8], r: usize, recs: &[u16]) -> usize
     requires { ((n ≤ 1024) × (length want.now ≤ 255)) × Lists n t.now r recs.now }
     ensures { (result < 1024) × Finds n t.now want.now r result }
@@ -84,7 +85,7 @@ fn are_among(
 
 // The same, where they are put in order first. It is not inlined: its array is for names that are made to be hard, and lies in no other frame.
 #[inline(never)]
-pub(crate) fn are_ordered(
+pub(crate) fn are_found_in_order(
     s: &[u8],
     t: &[u8],
     n: usize,

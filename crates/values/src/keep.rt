@@ -21,8 +21,8 @@ pub struct Bottom {
     pub wrapper: Option<u8>,
 }
 
-// The core of the type of record r. A link is followed only upward. Other walks to a core end otherwise: those of `rules` and `wrappers` give its kind, 0 where
-// there is none, and the last reads either buffer and counts the records that may be left.
+// The bottom of the type of record r. A link is followed only upward. Other walks to a core end otherwise: those of `rules` and `wrappers` give its kind, 0
+// where there is none, and the last reads either buffer and counts the records that may be left.
 fn bottom_at(s: &[u8], space: Space, r: usize) -> Bottom
     ensures { BottomAt space s.now r result }
 {

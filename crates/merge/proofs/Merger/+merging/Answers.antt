@@ -191,7 +191,7 @@ rewrapped-returns-in_err-a-clause-stays_tabled t c =
 
 pub rewrapped-returns-in_err-b-clause-merges : goal.rewrapped-returns-in_err-b-clause-merges
 rewrapped-returns-in_err-b-clause-merges t c =
-    rw (stopped _ c.from_residual-in_err-b.ensures.1) (span_stopped _ _ c.requires.of_list _ _ _ _ _ _ _ _ _ c.requires.room.0 c.requires.wrapper.0 _ c.look-x.ensures.0 c.requires.wrapper.1 _ c.way_down-way.ensures.descended _ _ c.in_ok-a.ensures _ _ c.in_err-b.ensures)
+    rw (stopped _ c.from_residual-in_err-b.ensures.1) (span_stopped _ _ c.requires.of_list _ _ _ _ _ _ _ _ _ c.requires.room.0 c.requires.wrapper.0 _ c.look-x.ensures.0 c.requires.wrapper.1 _ c.descend-descent.ensures.descended _ _ c.in_ok-a.ensures _ _ c.in_err-b.ensures)
 
 pub rewrapped-returns-in_err-b-clause-stays_tabled : goal.rewrapped-returns-in_err-b-clause-stays_tabled
 rewrapped-returns-in_err-b-clause-stays_tabled t c =
@@ -203,15 +203,15 @@ rewrapped-coerce_field-requires t c =
 
 pub rewrapped-returns-in_err-e-clause-merges : goal.rewrapped-returns-in_err-e-clause-merges
 rewrapped-returns-in_err-e-clause-merges t c =
-    rw (stopped _ c.from_residual-in_err-e.ensures.1) (core_stopped _ _ c.requires.of_list _ _ _ _ _ _ _ _ _ c.requires.room.0 c.requires.wrapper.0 _ c.look-x.ensures.0 c.requires.wrapper.1 _ c.way_down-way.ensures.descended _ _ c.in_ok-a.ensures _ _ c.in_ok-b.ensures _ _ c.in_err-e.ensures.merges_field)
+    rw (stopped _ c.from_residual-in_err-e.ensures.1) (core_stopped _ _ c.requires.of_list _ _ _ _ _ _ _ _ _ c.requires.room.0 c.requires.wrapper.0 _ c.look-x.ensures.0 c.requires.wrapper.1 _ c.descend-descent.ensures.descended _ _ c.in_ok-a.ensures _ _ c.in_ok-b.ensures _ _ c.in_err-e.ensures.merges_field)
 
 pub rewrapped-returns-clause-merges : goal.rewrapped-returns-clause-merges
 rewrapped-returns-clause-merges t c =
-    settled_on _ _ c.requires.of_list _ _ _ _ _ _ _ _ _ c.requires.room.0 c.requires.wrapper.0 _ c.look-x.ensures.0 c.requires.wrapper.1 _ c.way_down-way.ensures.descended _ _ c.in_ok-a.ensures _ _ c.in_ok-b.ensures _ _ c.in_ok-e.ensures.merges_field _ _ c.settle.ensures
+    settled_on _ _ c.requires.of_list _ _ _ _ _ _ _ _ _ c.requires.room.0 c.requires.wrapper.0 _ c.look-x.ensures.0 c.requires.wrapper.1 _ c.descend-descent.ensures.descended _ _ c.in_ok-a.ensures _ _ c.in_ok-b.ensures _ _ c.in_ok-e.ensures.merges_field _ _ c.settle.ensures
 
 pub rewrapped-returns-clause-stays_tabled : goal.rewrapped-returns-clause-stays_tabled
 rewrapped-returns-clause-stays_tabled t c =
-    settled_tabled _ _ c.requires.of_list _ _ _ _ _ _ _ _ _ c.requires.room.0 c.requires.wrapper.0 _ c.look-x.ensures.0 c.requires.wrapper.1 _ c.way_down-way.ensures.descended _ _ c.in_ok-a.ensures _ _ c.in_ok-b.ensures _ _ c.in_ok-e.ensures.merges_field _ _ c.settle.ensures c.coerce_field.ensures.stays_tabled
+    settled_tabled _ _ c.requires.of_list _ _ _ _ _ _ _ _ _ c.requires.room.0 c.requires.wrapper.0 _ c.look-x.ensures.0 c.requires.wrapper.1 _ c.descend-descent.ensures.descended _ _ c.in_ok-a.ensures _ _ c.in_ok-b.ensures _ _ c.in_ok-e.ensures.merges_field _ _ c.settle.ensures c.coerce_field.ensures.stays_tabled
 
 pub rows-returns-then-l-eq0-clause-rowed : goal.rows-returns-then-l-eq0-clause-rowed
 rows-returns-then-l-eq0-clause-rowed t c =

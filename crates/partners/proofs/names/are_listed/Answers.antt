@@ -7,7 +7,7 @@ returns-then-n-i c =
 
 pub returns-in_default : goal.returns-in_default
 returns-in_default c =
-    match_rest _ _ _ _ _ _ _ _ _ _ _ c.loop-low.invariant _ _ c.are_ordered.ensures
+    match_rest _ _ _ _ _ _ _ _ _ _ _ c.loop-low.invariant _ _ c.are_found_in_order.ensures
 
 pub returns-then-j-eq0 : goal.returns-then-j-eq0
 returns-then-j-eq0 c =

@@ -2,7 +2,7 @@ use Rattle.std.proofs.lemmas.List.Elements.{All-take}
 use Rattle.std.proofs.lemmas.List.Sorted.{All-permutation}
 use Rattle.partners.specs.Naming.{Member}
 use Rattle.partners.proofs.Naming.{lists_none}
-use Rattle.partners.proofs.order.are_ordered.Goals as goal
+use Rattle.partners.proofs.order.are_found_in_order.Goals as goal
 
 pub list-k-requires : goal.list-k-requires
 list-k-requires c =

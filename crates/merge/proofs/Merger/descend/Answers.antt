@@ -1,4 +1,4 @@
-use Rattle.merge.proofs.Merger.way_down.Goals as goal
+use Rattle.merge.proofs.Merger.descend.Goals as goal
 
 pub returns-clause-stops : goal.returns-clause-stops
 returns-clause-stops c =
