@@ -1,16 +1,11 @@
 -- Bytes that were moved, and what stands in them. Assumes nothing.
 use mathlib.Core.Path.{◌≡◌, refl, ap, sym, subst, ◌∙◌}
-use mathlib.Core.Bool.{Bool, true, false, cond}
 use mathlib.Core.List.{List}
-use Prim.Native.Nat.{ℕ, ◌+◌, ◌*◌, ◌-◌, ◌/◌, ◌<◌, ◌≤◌}
+use Prim.Native.Nat.{ℕ, ◌+◌, ◌*◌, ◌-◌, ◌<◌, ◌≤◌}
 use native.Mathlib.Omega.{arith}
-use borrow.Author.Tests.{ltb-true}
-use lib.Dec.{ltb}
 use lib.ListN.{length, get_or, take, length-drop}
 use lib.Seq.{get_or-drop, take_all}
-use Rattle.sheet.specs.Tests.{between}
-use Rattle.sheet.specs.Kind.{is_kind}
-use Rattle.sheet.specs.Head.{head_at, head_from, blank}
+use Rattle.sheet.specs.Head.{head_at}
 use Rattle.sheet.specs.Carried.{FieldsRight}
 use Rattle.sheet.specs.declared.Head.{Head}
 use Rattle.sheet.specs.Types.{Fields, end, field, count, own_labels, labels}
