@@ -1,11 +1,10 @@
-// The three answers over sheets and lent buffers. None of the three calls has a condition of its own: they take any bytes and any mask.
+// The three answers over sheets and lent buffers. No public function has a condition of its own: the three calls take any bytes and any mask.
 #![tactic(auto)]
 
 mod emit;
 mod refuse;
 
-ghost use Rattle.std.specs.Prelude.{◌≡◌, false};
-ghost use Rattle.sheet.specs.Refusals.{torn};
+ghost use Rattle.std.specs.Prelude.{◌≡◌};
 ghost use Rattle.coercion.specs.Data as Data;
 ghost use Rattle.answers.specs.Call.{outcome};
 ghost use Rattle.answers.specs.declared.Refusal.TheVariants.{Sheet};
@@ -14,7 +13,7 @@ ghost use Rattle.answers.specs.Code.{number_of, reply_of, call_of, seen};
 use buffers::{Question, Space};
 use emit::write_type;
 use refusals::check_whole;
-use refusals::header::is_torn;
+use refusals::header::Whole;
 use refuse::refused;
 use sheet::Sizes;
 
@@ -78,24 +77,24 @@ pub fn comparison_coercion(sheet: &[u8], mask: u64, output: &mut [u8], work: &mu
 fn ask(question: Question, sheet: &[u8], mask: u64, output: &mut [u8], work: &mut [u8]) -> Answer
     ensures { seen result output.new work.new ≡ outcome (call_of question sheet.now mask output.old work.old) }
 {
-    if is_torn(sheet) {
+    let Some(whole) = Whole::of(sheet) else {
         return Err(Refusal::Sheet(sheet::Refusal::Torn));
-    }
-    ask_whole(question, sheet, mask, output, work)
+    };
+    ask_whole(question, whole, mask, output, work)
 }
 
 // The same on a sheet that is not torn.
 pub fn ask_whole(
     question: Question,
-    sheet: &[u8],
+    whole: Whole<'_>,
     mask: u64,
     output: &mut [u8],
     work: &mut [u8],
 ) -> Answer
-    requires { torn sheet.now ≡ false }
-    ensures { seen result output.new work.new ≡ outcome (call_of question sheet.now mask output.old work.old) }
+    ensures { seen result output.new work.new ≡ outcome (call_of question whole.entry.sheet.now mask output.old work.old) }
 {
-    let Sizes { n, m } = check_whole(sheet)?;
+    let Sizes { n, m } = check_whole(whole)?;
+    let sheet = whole.sheet;
     let half = sheet.len();
     let space = Space { n, m, half };
     refused(question, sheet, space, mask, output.len(), work.len())?;

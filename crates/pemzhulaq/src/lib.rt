@@ -1,8 +1,7 @@
 // The three calls with one number as the answer, as programs in other languages have them.
 #![tactic(auto)]
 
-ghost use Rattle.std.specs.Prelude.{◌≡◌, false};
-ghost use Rattle.sheet.specs.Refusals.{torn};
+ghost use Rattle.std.specs.Prelude.{◌≡◌};
 ghost use Rattle.coercion.specs.Data as Data;
 ghost use Rattle.answers.specs.Call.{outcome};
 ghost use Rattle.answers.specs.Code.{reply_of, call_of};
@@ -10,7 +9,7 @@ ghost use Rattle.pemzhulaq.specs.Number.{number_of, exported};
 
 use answers::{Answer, Refusal, ask_whole};
 use buffers::Question;
-use refusals::header::is_torn;
+use refusals::header::Whole;
 
 // The number of an answer: 0 for none, 1 to 31 for a refusal, from 32 on the byte length of the one-type sheet. It is no `From`, since neither type is this
 // crate's.
@@ -28,26 +27,25 @@ fn number_of(answer: Answer) -> usize
 // three calls below are inlined, so that a torn sheet is refused with no frame: by 27 instructions in place of 47, where the Rust side of the benchmark takes 36.
 #[inline(never)]
 fn number_whole(
-    sheet: &[u8],
+    whole: Whole<'_>,
     mask: u64,
     output: &mut [u8],
     work: &mut [u8],
     question: Question,
 ) -> usize
-    requires { torn sheet.now ≡ false }
-    ensures { record { number = result; output = output.new; work = work.new } ≡ exported (outcome (call_of question sheet.now mask output.old work.old)) }
+    ensures { record { number = result; output = output.new; work = work.new } ≡ exported (outcome (call_of question whole.entry.sheet.now mask output.old work.old)) }
 {
-    number_of(ask_whole(question, sheet, mask, output, work))
+    number_of(ask_whole(question, whole, mask, output, work))
 }
 
 // The number of a call, whatever it asks.
 fn number(question: Question, sheet: &[u8], mask: u64, output: &mut [u8], work: &mut [u8]) -> usize
     ensures { record { number = result; output = output.new; work = work.new } ≡ exported (outcome (call_of question sheet.now mask output.old work.old)) }
 {
-    if is_torn(sheet) {
+    let Some(whole) = Whole::of(sheet) else {
         return number_of(Err(Refusal::Sheet(sheet::Refusal::Torn)));
-    }
-    number_whole(sheet, mask, output, work, question)
+    };
+    number_whole(whole, mask, output, work, question)
 }
 
 // The common type of any number of listed types. The three calls are three functions, as the C interface has a name for each question.

@@ -1,7 +1,8 @@
 // The header of a sheet and the kinds of its records: refusals 1 and 2.
-ghost use Rattle.std.specs.Prelude.{◌≡◌, true, not, ℕ, ◌+◌, ◌*◌, ◌-◌, ◌<◌, ◌≤◌, length, get_or, take, drop};
+ghost use Rattle.std.specs.Prelude.{◌≡◌, true, false, not, ℕ, ◌+◌, ◌*◌, ◌-◌, ◌<◌, ◌≤◌, length, get_or, take, drop, MatchOption};
 ghost use Rattle.sheet.specs.Head.{head_at};
 ghost use Rattle.sheet.specs.Kind.{is_kind};
+ghost use Rattle.sheet.specs.Holds.{Plain};
 ghost use Rattle.sheet.specs.Refusals.{all_zero, any_from, torn};
 
 use crate::records::Records;
@@ -17,7 +18,7 @@ fn is_rest_zero(s: &[u8]) -> bool
 }
 
 // Whether a sheet is torn: refusal 1. A wrong length is what is met most; `|` keeps the other tests behind it, which the compiler puts before it with `||`.
-pub fn is_torn(s: &[u8]) -> bool
+fn is_torn(s: &[u8]) -> bool
     ensures { result ≡ torn s.now }
 {
     if s.len() < 16 {
@@ -29,6 +30,26 @@ pub fn is_torn(s: &[u8]) -> bool
         return true;
     }
     (n < 1) | (1024 < n) | (16384 < m) | !is_rest_zero(s)
+}
+
+// A sheet that is not torn.
+#[derive(Clone, Copy)]
+pub struct Whole<'a> {
+    pub sheet: &'a [u8],
+    ghost bytes: { Plain sheet.now },
+    ghost whole: { torn sheet.now ≡ false },
+}
+
+impl<'a> Whole<'a> {
+    // A sheet as one that is not torn; None where it is: refusal 1.
+    pub fn of(sheet: &'a [u8]) -> Option<Whole<'a>>
+        ensures { MatchOption result (torn sheet.now ≡ true) (λ w. w.sheet.now ≡ sheet.now) }
+    {
+        if is_torn(sheet) {
+            return None;
+        }
+        Some(Whole { sheet })
+    }
 }
 
 // Whether four records have kinds of 1 to 38, of which the first begins at byte i.

@@ -6,12 +6,12 @@ mod pass;
 mod records;
 mod walk;
 
-ghost use Rattle.std.specs.Prelude.{◌≡◌, false};
-ghost use Rattle.sheet.specs.Refusals.{torn, meaning, verdict};
+ghost use Rattle.std.specs.Prelude.{◌≡◌};
+ghost use Rattle.sheet.specs.Refusals.{meaning, verdict};
 ghost use Rattle.refusals.specs.Limits.{Fits};
 ghost use Rattle.refusals.specs.Found.{Found};
 
-use header::is_torn;
+use header::Whole;
 use names::twins::twins;
 use records::Records;
 use sheet::record::word_at;
@@ -30,17 +30,17 @@ struct Progress {
 pub fn check(s: &[u8]) -> Result<Sizes, Refusal>
     ensures { meaning result ≡ verdict s.now }
 {
-    if is_torn(s) {
+    let Some(whole) = Whole::of(s) else {
         return Err(Refusal::Torn);
-    }
-    check_whole(s)
+    };
+    check_whole(whole)
 }
 
 // The same of a sheet that is not torn.
-pub fn check_whole(s: &[u8]) -> Result<Sizes, Refusal>
-    requires { torn s.now ≡ false }
-    ensures { meaning result ≡ verdict s.now }
+pub fn check_whole(whole: Whole<'_>) -> Result<Sizes, Refusal>
+    ensures { meaning result ≡ verdict whole.entry.sheet.now }
 {
+    let s = whole.sheet;
     check_records(s, word_at(s, 0), word_at(s, 2))
 }
 

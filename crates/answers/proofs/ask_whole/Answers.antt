@@ -1,5 +1,3 @@
-use Rattle.std.proofs.Common.{ℕ, ◌<◌}
-use Rattle.std.specs.List.{slice_index}
 use Rattle.std.proofs.lemmas.Result.{err_from_is_err_and}
 use Rattle.answers.specs.Code.{call_of}
 use Rattle.answers.proofs.Refusing.{checked_accepted}
@@ -10,7 +8,7 @@ use Rattle.answers.proofs.ask_whole.Goals as goal
 pub returns-in_err-n : goal.returns-in_err-n
 returns-in_err-n c =
     let p = err_from_is_err_and c.from_residual.result c.from_residual.ensures.1 in
-    rw (p.1, p.2) (refused_sheet (call_of c.args.question c.args.sheet.now c.args.mask c.args.output.now c.args.work.now) _ c.in_err-n.ensures)
+    rw (p.1, p.2) (refused_sheet (call_of c.args.question c.args.whole.sheet.now c.args.mask c.args.output.now c.args.work.now) _ c.in_err-n.ensures)
 
 pub refused-requires : goal.refused-requires
 refused-requires c =
@@ -19,26 +17,25 @@ refused-requires c =
 pub returns-in_err-refused : goal.returns-in_err-refused
 returns-in_err-refused c =
     let p = err_from_is_err_and c.from_residual-in_err-refused.result c.from_residual-in_err-refused.ensures.1 in
-    rw (p.1, p.2) (refused_later (call_of c.args.question c.args.sheet.now c.args.mask c.args.output.now c.args.work.now) _ (checked_accepted _ _ _ c.in_ok-n.ensures).unrefused c.in_err-refused.ensures)
+    rw (p.1, p.2) (refused_later (call_of c.args.question c.args.whole.sheet.now c.args.mask c.args.output.now c.args.work.now) _ (checked_accepted _ _ _ c.in_ok-n.ensures).unrefused c.in_err-refused.ensures)
 
 pub answer-requires : goal.answer-requires
 answer-requires c =
-    room c.args.question _ c.args.mask _ _ _ (λ i. (c.type_inv.sheet i).fits) (checked_accepted _ _ _ c.in_ok-n.ensures) c.in_ok-refused.ensures
+    room c.args.question _ c.args.mask _ _ _ c.args.whole.bytes (checked_accepted _ _ _ c.in_ok-n.ensures) c.in_ok-refused.ensures
 
 pub write_type-requires : goal.write_type-requires
 write_type-requires c =
-    done_room c.args.question _ c.args.mask _ _ _ (λ i. (c.type_inv.sheet i).fits) (checked_accepted _ _ _ c.in_ok-n.ensures) c.in_ok-refused.ensures _ _ c.in-Ok.ensures
+    done_room c.args.question _ c.args.mask _ _ _ c.args.whole.bytes (checked_accepted _ _ _ c.in_ok-n.ensures) c.in_ok-refused.ensures _ _ c.in-Ok.ensures
 
 pub returns : goal.returns
 returns c =
-    let plain : (i : ℕ) → slice_index c.args.sheet.now i < 256 = λ i. (c.type_inv.sheet i).fits in
     let measured = checked_accepted _ _ _ c.in_ok-n.ensures in
     let zeros = c.fill.ensures.after (λ x e. e) in
     elim c.match-answer.branch [
       | in-Ok w ↦
           rw (w.output-is, w.answer-is)
-          (type_outcome c.args.question _ c.args.mask _ _ _ plain measured c.in_ok-refused.ensures _ zeros _ w.in-Ok.ensures w.write_type.ensures)
+          (type_outcome c.args.question _ c.args.mask _ _ _ c.args.whole.bytes measured c.in_ok-refused.ensures _ zeros _ w.in-Ok.ensures w.write_type.ensures)
       | in-Err w ↦
           rw (w.output-is, w.answer-is)
-          (none_outcome c.args.question _ c.args.mask _ _ _ plain measured c.in_ok-refused.ensures _ zeros _ w.in-Err.ensures)
+          (none_outcome c.args.question _ c.args.mask _ _ _ c.args.whole.bytes measured c.in_ok-refused.ensures _ zeros _ w.in-Err.ensures)
     ]
