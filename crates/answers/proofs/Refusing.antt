@@ -2,7 +2,7 @@
 use mathlib.Core.Path.{◌≡◌, refl, ap, sym, subst, ◌∙◌}
 use mathlib.Core.Bool.{Bool, true, false, cond, not}
 use mathlib.Core.List.{List, [], ◌∷◌, ◌++◌}
-use Prim.Native.Nat.{ℕ, suc, ◌+◌, ◌*◌, ◌%◌, ◌<◌, ◌≤◌}
+use Prim.Native.Nat.{ℕ, suc, ◌+◌, ◌*◌, ◌<◌, ◌≤◌}
 use native.Mathlib.Omega.{arith}
 use lib.ListN.{length}
 use lib.Dec.{eqb}
@@ -22,7 +22,7 @@ use Rattle.coercion.specs.Data.{Question}
 use Rattle.buffers.specs.Plain.{is_list_question}
 use Rattle.buffers.specs.declared.Space.{Space}
 use Rattle.answers.specs.Call.{Call, bad_mask, bad_pair, bad_space, refusal}
-use Rattle.answers.specs.Code.{is_short, later_refusal, Measured}
+use Rattle.answers.specs.Code.{later_refusal, Measured}
 
 -- 7 pair: how many types are listed, by the links from record to record
 pub pair_none : (s : List ℕ) (n : ℕ) → n ≤ 1 → (t : Fields) → Leads s n 0 (start n) 1 0 t → false ≡ eqb (arity t) 2

@@ -1,5 +1,5 @@
 -- What the functions of this crate say of a call.
-use Rattle.std.specs.Prelude.{◌≡◌, ℕ, ◌*◌, ◌≤◌, Bool, ◌||◌, List, [], ◌∷◌, ◌++◌, length, drop, replicate, ltb}
+use Rattle.std.specs.Prelude.{◌≡◌, ℕ, ◌*◌, ◌≤◌, Bool, ◌||◌, List, [], ◌∷◌, length, ltb}
 use Rattle.sheet.specs.Encode.{encode}
 use Rattle.sheet.specs.Read.{records_of, labels_of}
 use Rattle.sheet.specs.Refusals.{first_met}
