@@ -45,7 +45,7 @@ impl<'a> Resolver<'a> {
         merger.coerce(work, left, false, Some(known), at, 1, UNNAMED)
     }
 
-    // The same of a candidate whose core is at a record. Where the core alone changes, only that is written. A type that is the candidate itself leaves it.
+    // The same of a candidate whose core is at a record. Where the core alone changes, only that is written.
     fn step_list(&self, work: &mut [u8], core: usize, link: usize, d: Spot) -> Out
         requires room { Room work.old self.now.space × Inside self.now.space d }
         requires core_at { CoreAt self.now.space (region self.now.space work.old) 1 core }
@@ -55,7 +55,16 @@ impl<'a> Resolver<'a> {
         if is_core_alone(self.sheet, second, self.space, self.mask, link, core) {
             return self.step_core(work, link, d);
         }
+        self.step_whole(work, link, d)
+    }
+
+    // The same, whatever the candidate's core is. A type that is the candidate itself leaves it.
+    fn step_whole(&self, work: &mut [u8], link: usize, d: Spot) -> Out
+        requires room { Room work.old self.now.space × Inside self.now.space d }
+        ensures { Steps (coercion (rules_of Question.List self.now.mask)) self.now.space (Candidate self.now.space work.old d) self.now.sheet.now work.old work.new link result }
+    {
         let n = self.space.n;
+        let second = &work[self.space.half..];
         let known = differ_type(self.sheet, n, link, second, n, 1, true);
         if known == 0 {
             return Ok(d);
@@ -81,7 +90,8 @@ impl<'a> Resolver<'a> {
         merger.coerce(work, 2 * self.space.n, false, known, link, other, UNNAMED)
     }
 
-    // The candidate that ends at d, folded with the types at a link past floor. Nulls are skipped.
+    // The candidate that ends at d, folded with the types at a link past floor. Nulls are skipped. The candidate's core says nothing of a type with parts, and is
+    // not looked for.
     fn fold_from(&self, work: &mut [u8], floor: usize, link: usize, d: Spot) -> Out
         requires { Room work.old self.now.space × Inside self.now.space d }
         ensures { Folds (fold_from (rules_of Question.List self.now.mask)) self.now.space (Candidate self.now.space work.old d) self.now.sheet.now work.old work.new floor link result }
@@ -95,7 +105,10 @@ impl<'a> Resolver<'a> {
                 return Err(Failure::NoType);
             }
             let h = head_at(self.sheet, at);
-            if h.kind != 1 {
+            if 32 <= h.kind {
+                end = self.step_whole(work, at, end)?;
+                known = None;
+            } else if h.kind != 1 {
                 let second = &work[self.space.half..];
                 let bottom = bottom_of(second, self.space, known);
                 if keeps(self.sheet, second, self.space, self.mask, at, bottom) {

@@ -1,4 +1,4 @@
-use Rattle.std.proofs.Common.{◌∙◌}
+use Rattle.std.proofs.Common.{◌∙◌, arith}
 use Rattle.std.proofs.lemmas.Result.{err_from_is_err_and}
 use Rattle.buffers.specs.Plain.{rules_of}
 use Rattle.buffers.specs.declared.Question.TheVariants as Question
@@ -13,7 +13,12 @@ returns-then-self-at c =
 pub returns-in_err-end : goal.returns-in_err-end
 returns-in_err-end c =
     let p = err_from_is_err_and c.from_residual.result c.from_residual.ensures.1 in
-    rw (p.1, p.2) (c.loop-last.invariant.onward _ _ (folds_failed (rules_of Question.List _) _ _ c.loop-last-test.true _ c.head_at-h.ensures.0 c.if-h-ne1.true _ c.in_err-end.ensures))
+    rw (p.1, p.2) (c.loop-last.invariant.onward _ _ (folds_failed (rules_of Question.List _) _ _ c.loop-last-test.true _ c.head_at-h.ensures.0 (λ q. omega (arith, c.if-h-ge32.true)) _ c.in_err-end.ensures))
+
+pub returns-in_err-end-2 : goal.returns-in_err-end-2
+returns-in_err-end-2 c =
+    let p = err_from_is_err_and c.from_residual-in_err-end-2.result c.from_residual-in_err-end-2.ensures.1 in
+    rw (p.1, p.2) (c.loop-last.invariant.onward _ _ (folds_failed (rules_of Question.List _) _ _ c.loop-last-test.true _ c.head_at-h.ensures.0 c.if-h-ne1.true _ c.in_err-end-2.ensures))
 
 pub loop-last-preserved-then-keeps : goal.loop-last-preserved-then-keeps
 loop-last-preserved-then-keeps c =
@@ -29,6 +34,17 @@ loop-last-preserved-then-keeps c =
 pub loop-last-preserved-in_ok-end : goal.loop-last-preserved-in_ok-end
 loop-last-preserved-in_ok-end c =
     let m = c.in_ok-end.ensures in
+    record {
+      room = room_within m.within c.loop-last.invariant.room;
+      long = m.within.long ∙ c.loop-last.invariant.long;
+      inside = m.inside;
+      bottom = tt;
+      onward = λ v o g. c.loop-last.invariant.onward v o (folds_on (rules_of Question.List _) _ _ c.loop-last-test.true _ c.head_at-h.ensures.0 (λ q. omega (arith, c.if-h-ge32.true)) candidate_right o m g);
+    }
+
+pub loop-last-preserved-in_ok-end-2 : goal.loop-last-preserved-in_ok-end-2
+loop-last-preserved-in_ok-end-2 c =
+    let m = c.in_ok-end-2.ensures in
     record {
       room = room_within m.within c.loop-last.invariant.room;
       long = m.within.long ∙ c.loop-last.invariant.long;
