@@ -1,9 +1,9 @@
 #!/usr/bin/env python3
-"""Looks over the documents: prints one line a finding, with its file and line, and ends with status 1 where there is one.
+"""Looks over the documents: prints one line a finding, with its file and line. Status 1 where there is one.
 
-    python3 tools/check_docs.py
+    python3 tools/check_docs.py [FOLDER]
 
-Of the files that git tracks:
+FOLDER is a clone of the repository, this one where it is left out. Of the files that git tracks:
 - no line of a page is over 120 characters, outside tables, code, comments and pictures, nor is a comment in code
   (pages under docs/history are as they were);
 - each relative link of a page leads to a file, and to a heading that is there; each `path` in backticks is one, but
@@ -21,7 +21,7 @@ import re
 import subprocess
 import sys
 
-ROOT = pathlib.Path(__file__).resolve().parent.parent
+ROOT = pathlib.Path(sys.argv[1] if len(sys.argv) > 1 else pathlib.Path(__file__).parent.parent).resolve()
 MOST = 120
 
 # Paths of the source, of files that a reader makes, and of past landings.
@@ -29,6 +29,7 @@ ELSEWHERE = {
     "binary.rs",
     "src/type_coercion/binary.rs",
     "src/interval_arithmetic.rs",
+    "src--src--type_coercion--binary.rs.txt",
 }
 # What is quoted in specs/ from elsewhere: comments of the Rust source, by file.
 QUOTED_ELSEWHERE = {
@@ -49,7 +50,7 @@ PAPERS = [r"DESIGN\.md"] + [
     )
 ]
 # Words of a path that stand for any name.
-STANDS_FOR = r"^(NAME|CRATE|FILE|FUNCTION|F)(?=$|\.)"
+STANDS_FOR = r"^(NAME|CRATE|FILE|FUNCTION|WORDS|F)(?=$|\.)"
 PATH_ENDS = (".rs", ".rt", ".antt", ".md", ".py", ".sh", ".edit", ".h", ".svg", ".toml", ".txt", ".bin")
 CODE = {".rs": "//", ".rt": "//", ".antt": "--", ".py": "#", ".sh": "#"}
 
@@ -118,7 +119,8 @@ def links(name, text, files):
     folder = pathlib.PurePosixPath(name).parent
     for number, line in lines_outside_code(text):
         plain = re.sub(r"`[^`]*`", "", line)
-        for target in re.findall(r"\]\(<?([^)>\s]+)>?(?:\s+\"[^\"]*\")?\)", plain) + re.findall(r"^\[[^]]+\]:\s*(\S+)", plain):
+        inline = re.findall(r"\]\(<?([^)>\s]+)>?(?:\s+\"[^\"]*\")?\)", plain)
+        for target in inline + re.findall(r"^\[[^]]+\]:\s*(\S+)", plain):
             if re.match(r"[a-z]+:", target):
                 continue
             path, _, anchor = target.partition("#")
@@ -142,9 +144,8 @@ def is_there(span, name, files):
         while span.startswith("../"):
             span, folder = span[3:], folder.parent
         span = str(folder / span)
-    return any(
-        fnmatch.fnmatchcase(f, pattern) for f in files for pattern in (span, span + "/*", "*/" + span, "*/" + span + "/*")
-    )
+    patterns = (span, span + "/*", "*/" + span, "*/" + span + "/*")
+    return any(fnmatch.fnmatchcase(f, pattern) for f in files for pattern in patterns)
 
 
 def paths(name, text, files):
@@ -200,19 +201,25 @@ def check_quotation(name, number, quoted, pages):
     tell(name, number, f'"{quoted}" stands neither in docs/FORMAT.md nor in docs/RULES.md')
 
 
-def rows():
+def rows(files):
+    if not {"docs/BENCHMARKS.md", "docs/data/bench.md"} <= files:
+        return
     page, table = text_of("docs/BENCHMARKS.md"), text_of("docs/data/bench.md")
-    stored = {tuple(c.strip() for c in line.strip("|").split("|"))[:6] for line in table.split("\n") if line.startswith("|")}
-    head = "| Class | Question |"
+
+    def cells(line):
+        return tuple(cell.strip() for cell in line.strip("|").split("|"))[:6]
+
+    stored = {cells(line) for line in table.split("\n") if line.startswith("|")}
     within = False
     for number, line in enumerate(page.split("\n"), 1):
-        within = line.startswith(head) or within and line.startswith("|")
-        cells = tuple(c.strip() for c in line.strip("|").split("|"))
-        if within and not line.startswith("|--") and cells[:6] not in stored:
+        within = line.startswith("| Class | Question |") or within and line.startswith("|")
+        if within and not line.startswith("|--") and cells(line) not in stored:
             tell("docs/BENCHMARKS.md", number, "this row is none of docs/data/bench.md")
 
 
-def pictures():
+def pictures(files):
+    if "tools/architecture.py" not in files:
+        return
     run = subprocess.run([sys.executable, ROOT / "tools/architecture.py", "--check"], capture_output=True, text=True)
     for line in (run.stdout + run.stderr).strip().split("\n") if run.returncode else []:
         found.append(line)
@@ -235,8 +242,8 @@ def main():
             long_comments(name, text)
         if fnmatch.fnmatchcase(name, "crates/*/specs/*.antt"):
             quotations(name, text, pages)
-    rows()
-    pictures()
+    rows(files)
+    pictures(files)
     print("\n".join(found) if found else "the documents are in order")
     return 1 if found else 0
 
