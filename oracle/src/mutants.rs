@@ -5,9 +5,10 @@ use std::io;
 use std::path::Path;
 use std::process::Command;
 
-/// The files that an edit may be of: its word, where it stands, and its copy.
+/// The files that an edit may be of: its word, where it stands (the source where the build script
+/// found it), and its copy.
 const FILES: [(&str, &str, &str); 3] = [
-    ("source", "../../shared/docs/src/src--src--type_coercion--binary.rs.txt", "binary.rs"),
+    ("source", env!("BINARY_RS"), "binary.rs"),
     ("sheet", "src/sheet.rs", "sheet.rs"),
     ("call", "src/call.rs", "call.rs"),
 ];

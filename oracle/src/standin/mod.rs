@@ -12,10 +12,10 @@ pub mod operator;
 /// in its own crate.
 pub mod names {
     pub use super::arrow::{array, compute, datatypes, error};
-    pub use super::datafusion_common::{Diagnostic, Result, Span, Spans};
     pub(crate) use super::datafusion_common::{
         exec_err, internal_err, not_impl_err, plan_datafusion_err, plan_err,
     };
+    pub use super::datafusion_common::{Diagnostic, Result, Span, Spans};
     pub use super::itertools::Itertools;
     pub use super::operator;
 }
