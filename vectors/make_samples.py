@@ -3,7 +3,8 @@
 
     python3 vectors/make_samples.py
 
-crates/shelf/stdin is the worked example of document 01, crates/shelf/samples/loose_screws the case of the mission.
+crates/shelf/stdin is the worked example of docs/FORMAT.md (Int64 and Decimal128(7, 2)),
+crates/shelf/samples/loose_screws its example with parts and labels: our count sheet and a till's.
 """
 import sys
 
@@ -26,7 +27,8 @@ def loose_screws():
 
 
 def main():
-    for path, types in (("crates/shelf/stdin", worked_example()), ("crates/shelf/samples/loose_screws", loose_screws())):
+    samples = {"crates/shelf/stdin": worked_example(), "crates/shelf/samples/loose_screws": loose_screws()}
+    for path, types in samples.items():
         with open(path, "wb") as file:
             file.write(encode(types))
 

@@ -1,8 +1,8 @@
 #!/usr/bin/env python3
-"""Stored sheets with the refusal numbers that document 01 gives them.
+"""Stored sheets with the refusal numbers that docs/FORMAT.md gives them.
 
-An independent reading of document 01, sections "The sheet" and "Numbers on the slip" (1 to 5). It knows nothing of the
-crates and imports nothing of them. The same bytes come out of every run. From the repository's root:
+An independent reading of docs/FORMAT.md, sections 1 and 3 (refusals 1 to 5). It knows nothing of the crates and imports
+nothing of them. The same bytes come out of every run. From the repository's root:
 
     python3 vectors/make_sheets.py > crates/sheet_check/data/sheets
     python3 vectors/make_sheets.py --list       one line for each sheet: its place, its number, what it is
@@ -260,7 +260,7 @@ def read_chain(records, labels, link, budget):
 
 
 def may_stand(field, parent):
-    """What document 01 says of a type and of its place below `parent` (None: a listed type)."""
+    """Whether a type may stand in a sheet, in its place below `parent` (None: a listed type)."""
     t = field.type
     named = [p.name for p in t.parts]
     if t.kind in DECIMALS:
@@ -898,7 +898,7 @@ def all_cases():
     return cases
 
 
-def demand_cover(cases):
+def check_cover(cases):
     """Stops where the list lacks something that it is there for."""
     good = [s for _, number, s in cases if number == 0]
     kinds = {r[0] for s in good for r in heads(s)[1:]}
@@ -925,7 +925,7 @@ def entry(number, s):
 def main():
     sys.setrecursionlimit(10000)
     cases = all_cases()
-    demand_cover(cases)
+    check_cover(cases)
     if sys.argv[1:] == ["--list"]:
         for k, (what, number, _) in enumerate(cases):
             print(f"{k} {number} {what}")

@@ -20,7 +20,7 @@ pub const CLASSES: [Class; 12] = [
     (308, "space, alone", alone),
     (309, "two refusal conditions at once", in_pairs),
     (310, "three and more refusal conditions at once", in_company),
-    (311, "limits and readings of document 01, each built by hand", by_hand),
+    (311, "limits and readings of docs/FORMAT.md, each built by hand", by_hand),
     (312, "output and work space exact, short and long", spaces),
 ];
 

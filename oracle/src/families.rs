@@ -1,4 +1,5 @@
-//! Demand 3: families, `holds` and the least type, from document 01 and not from the source.
+//! The least-type theorem: families, `holds` and the least type by brute force, from docs/RULES.md
+//! and not from the source.
 
 use crate::call::{Answer, Call, Question, FULL_MASK};
 use crate::make::{any_decimal, decimal, DECIMALS, INTEGERS, STRINGS, UNITS};
@@ -110,7 +111,7 @@ pub fn least(family: Family, types: &[DataType]) -> Option<DataType> {
     Some(found)
 }
 
-/// What demand 3 says of a list with at least one type that is not Null.
+/// The answer that the theorem says of a list with at least one type that is not Null.
 pub fn due(family: Family, types: &[DataType]) -> DataType {
     if let Some(found) = least(family, types) {
         return found;
@@ -165,7 +166,7 @@ fn by_stretches(rng: &mut Rng, types: &[DataType]) -> Vec<u8> {
     list_call(rng, &answers)
 }
 
-/// Demand 3 on one list: whole, reordered and cut, under changing masks.
+/// The theorem on one list: whole, reordered and cut, under changing masks.
 pub fn check(rng: &mut Rng, family: Family, types: &[DataType]) {
     let expected = sheet::write(&[due(family, types)]).expect("one type");
     assert_eq!(list_call(rng, types), expected, "{types:?} whole");

@@ -11,6 +11,7 @@ mod book;
 mod call;
 mod commands;
 mod damage;
+mod examples;
 mod families;
 mod generator;
 mod make;

@@ -1,5 +1,5 @@
-//! Sheets built by hand, with the answer that a list call on each must give: limits, and the
-//! readings of document 01 that DESIGN.md lists.
+//! Sheets built by hand, with the answer that a list call on each must give: the limits of
+//! docs/FORMAT.md, and how it reads each condition.
 
 use crate::call::Answer;
 use crate::make::*;

@@ -33,7 +33,7 @@ pub const CLASSES: [Class; 29] = [
     (123, "related lists of every kind, at random", random_lists),
     (124, "unrelated types at random", random_unrelated),
     (125, "sheets at their limits: records, labels, depth, width", limits),
-    (126, "demand 3: lists of one family with Nulls, any mask", families),
+    (126, "the least-type theorem: lists of one family with Nulls, any mask", families),
     (127, "one nested kind with every kind", nested_with_every),
     (128, "every ordered pair of integers and floats", numbers),
     (129, "dates with integers", dates_with_integers),

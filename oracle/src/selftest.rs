@@ -1,4 +1,4 @@
-//! The oracle's own tests, from document 01.
+//! The oracle's own tests, from docs/FORMAT.md, docs/RULES.md and TRAPS.md.
 
 use crate::call::{common_type, Answer, Call, Question, FULL_MASK, QUESTIONS};
 use crate::families::{self, FAMILIES};
@@ -6,19 +6,20 @@ use crate::make::*;
 use crate::rng::Rng;
 use crate::sheet::{self, precision_cap};
 use crate::standin::arrow::datatypes::DataType;
-use crate::{generator, readings};
+use crate::{examples, generator, readings};
 use DataType::*;
 use Question::{Compare, List, Union};
 
 pub fn run() -> std::io::Result<bool> {
     step("the twelve marked cases", marked_cases);
     step("the worked example", worked_example);
-    step("the traps of DESIGN.md", traps);
+    step("the traps of TRAPS.md", traps);
+    step("the examples of TRAPS.md and docs/RULES.md", examples::check);
     step("sheets made by hand", hand_made_sheets);
-    step("decimals by the formulas of document 01", decimal_formulas);
+    step("decimals by the formula of docs/RULES.md", decimal_formulas);
     step("writing what was read gives the same bytes", round_trips);
     step("an answer is no longer than its sheet", short_answers);
-    step("demand 3: orders, cuttings and masks", demand_three);
+    step("the least-type theorem: orders, cuttings and masks", least_type_theorem);
     Ok(true)
 }
 
@@ -90,7 +91,7 @@ fn expect_pair(types: &[DataType], expected: Option<DataType>) {
     expect(Compare, types, expected);
 }
 
-/// Each trap by its number, as DESIGN.md words it.
+/// Each trap by its number in TRAPS.md, but for the 14th, which takes too long.
 fn traps() -> usize {
     wrapper_traps();
     field_traps();
@@ -203,7 +204,7 @@ fn decimal_formulas() -> usize {
     for _ in 0..20_000 {
         let (k, l) = (*rng.pick(&DECIMALS), *rng.pick(&DECIMALS));
         let pair = [any_decimal(&mut rng, k), any_decimal(&mut rng, l)];
-        let expected = wider_by_the_paper((k, &pair[0]), (l, &pair[1]));
+        let expected = wider_by_formula((k, &pair[0]), (l, &pair[1]));
         for question in QUESTIONS {
             let answer = common_type(question, FULL_MASK, &pair);
             assert_eq!(answer, expected, "{question:?} of {pair:?}");
@@ -212,7 +213,7 @@ fn decimal_formulas() -> usize {
     20_000
 }
 
-fn wider_by_the_paper(left: (u8, &DataType), right: (u8, &DataType)) -> Option<DataType> {
+fn wider_by_formula(left: (u8, &DataType), right: (u8, &DataType)) -> Option<DataType> {
     let (p, s) = figures(left.1);
     let (q, t) = figures(right.1);
     let kind = left.0.max(right.0);
@@ -268,7 +269,7 @@ fn short_answers() -> usize {
     answered
 }
 
-fn demand_three() -> usize {
+fn least_type_theorem() -> usize {
     let mut rng = Rng::new(4);
     let mut cases = 0;
     for family in FAMILIES {

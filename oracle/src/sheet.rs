@@ -1,4 +1,4 @@
-//! Sheets: reading with refusals 1 to 5, and writing, both from document 01.
+//! Sheets: reading with refusals 1 to 5, and writing, one more reading of docs/FORMAT.md.
 
 use crate::standin::arrow::datatypes::{DataType, Field, FieldRef, IntervalUnit, TimeUnit};
 use std::sync::Arc;

@@ -1,4 +1,4 @@
-//! Vectors for the traps of DESIGN.md, under its numbers: tag 200 + n is trap n.
+//! Vectors for the traps of TRAPS.md, under its numbers: class 200 + n is trap n.
 
 use crate::book::{Book, Class};
 use crate::call::{Question, FULL_MASK};

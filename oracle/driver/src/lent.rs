@@ -50,7 +50,7 @@ impl Lent {
         ours::ask(call.question, &sheet[self.sheet.start..], call.mask, output, work)
     }
 
-    /// Leaves what document 01 says of this answer, and gives its number.
+    /// Leaves what docs/FORMAT.md says of this answer, and gives its number.
     pub fn expect(&mut self, answer: &Answer) -> usize {
         if let Answer::Refused(number) = answer {
             return usize::from(*number);

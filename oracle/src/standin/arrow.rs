@@ -89,7 +89,7 @@ pub mod datatypes {
         }
     }
 
-    /// The types of document 01, and Union because the source matches on it.
+    /// The kinds of docs/FORMAT.md, and Union because the source matches on it.
     #[derive(Debug, Clone, PartialEq, Eq)]
     pub enum DataType {
         Null,
@@ -140,12 +140,12 @@ pub mod datatypes {
     }
 
     impl DataType {
-        /// Kinds 3 to 17 of document 01.
+        /// Kinds 3 to 17: integers, floats and decimals.
         pub fn is_numeric(&self) -> bool {
             (3..=17).contains(&crate::sheet::kind_of(self))
         }
 
-        /// Kinds 14 to 17 of document 01.
+        /// Kinds 14 to 17.
         pub fn is_decimal(&self) -> bool {
             (14..=17).contains(&crate::sheet::kind_of(self))
         }

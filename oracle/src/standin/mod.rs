@@ -1,5 +1,5 @@
-//! Stand-ins for the crates that the source names, with just as much as it names.
-//! What a function of arrow means here is document 01's word.
+//! Stand-ins for the crates that the source names, with just as much as it names. What a function of
+//! arrow is taken to mean stands in docs/RULES.md, under the readings that were decided.
 
 #![allow(dead_code)]
 
