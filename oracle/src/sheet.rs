@@ -275,8 +275,8 @@ impl<'a> Sheet<'a> {
     /// Every label in its place, none where none may be, and all label bytes used.
     fn labels_right(&self, is_field: &[bool]) -> bool {
         let mut at = 0;
-        for record in 1..self.records {
-            if !is_field[record] && self.name_place(record) != (0, 0) {
+        for (record, &is_field) in is_field.iter().enumerate().skip(1) {
+            if !is_field && self.name_place(record) != (0, 0) {
                 return false;
             }
             if !passes(&mut at, self.name_place(record)) {

@@ -31,14 +31,14 @@ pub fn run(options: &Options) -> io::Result<bool> {
     rounds(&mut timed, count.max(1));
     let rows: Vec<Row> =
         inputs.iter().zip(&timed).map(|(input, timed)| row(input, timed)).collect();
-    let text = format!(
-        "Machine: {machine}. Medians of {count} rounds, nanoseconds of processor time a call.\n\n{}\n{}",
-        table(&rows),
-        goals(&rows)
-    );
+    let head =
+        format!("{machine}\nMedians of {count} rounds, nanoseconds of processor time a call.\n\n");
+    let goals = goals(&rows);
+    let text = format!("{head}{}\n{goals}", table(&rows));
     println!("{text}");
     if options.has("--write") {
-        document::rewrite("BENCHMARKS.md", "bench", &text)?;
+        document::rewrite("bench", &text)?;
+        document::summarize("bench", &format!("{head}{goals}"))?;
     }
     Ok(true)
 }
@@ -85,8 +85,10 @@ fn row(input: &Input, timed: &Timed) -> Row {
 }
 
 fn table(rows: &[Row]) -> String {
-    let mut text = "| Class | Question | Sheet, bytes | Ours | Sheet to sheet in Rust | Source alone | Rust / ours | Source / ours |\n".to_string();
-    text += "|---|---|---|---|---|---|---|---|\n";
+    let mut text =
+        "| Class | Question | Sheet, bytes | Ours | Sheet to sheet in Rust | Source alone \
+                    | Rust / ours | Source / ours |\n|---|---|---|---|---|---|---|---|\n"
+            .to_string();
     for row in rows {
         let source = row.source.map_or("–".to_string(), shown);
         let ratio = row.source.map_or("–".to_string(), |time| format!("{:.2}", time / row.ours));
@@ -118,7 +120,8 @@ fn goals(rows: &[Row]) -> String {
     let is_third = |row: &&&Row| row.source.is_some_and(|time| 3.0 * time >= row.ours);
     let third = with_source.iter().filter(is_third).count();
     let mut text = format!(
-        "Faster than sheet to sheet in Rust: {faster} of {0} rows; at least twice: {twice} of {0}. At most three times the source alone: {third} of {1} rows that the source answers.\n",
+        "Faster than sheet to sheet in Rust: {faster} of {0} rows; at least twice: {twice} of {0}.\n\
+         At most three times the source alone: {third} of {1} rows that the source answers.\n",
         rows.len(),
         with_source.len()
     );

@@ -91,7 +91,7 @@ pub fn all() -> Vec<Hard> {
 }
 
 fn in_turn(t: DataType, level: usize) -> DataType {
-    if level % 2 == 0 {
+    if level.is_multiple_of(2) {
         run_ends(1, 0, t)
     } else {
         dictionary(Int32, t)

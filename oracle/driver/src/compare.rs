@@ -187,7 +187,8 @@ fn finish(
         println!("{}", explain(found, spoil).1);
     } else if options.has("--write") {
         let text = format!("{summary}\n{}", counts.tables());
-        document::rewrite("DIFFERENCES.md", "compare", &text)?;
+        document::rewrite("compare", &text)?;
+        document::summarize("compare", &summary)?;
     }
     Ok(found.is_none())
 }

@@ -22,8 +22,8 @@ pub fn run(options: &Options) -> io::Result<bool> {
     }
     println!("{}", table(&panels));
     if options.has("--write") {
-        document::write("growth.svg", &plot::svg(&panels))?;
-        document::rewrite("BENCHMARKS.md", "growth", &table(&panels))?;
+        document::rewrite("growth", &table(&panels))?;
+        document::draw("growth.svg", &plot::svg(&panels))?;
     }
     Ok(true)
 }
@@ -34,7 +34,9 @@ fn point(timed: &Timed) -> Point {
 
 /// How the time grows from the largest sheet of half the bytes to the largest.
 fn table(panels: &[(&str, Vec<Point>)]) -> String {
-    let mut text = "| Class | Largest sheet, bytes | Ours, ns | ns a byte | Power of growth, ours | Sheet to sheet in Rust | Source alone |\n|---|---|---|---|---|---|---|\n".to_string();
+    let mut text = "| Class | Largest sheet, bytes | Ours, ns | ns a byte | Power of growth, ours \
+                    | Sheet to sheet in Rust | Source alone |\n|---|---|---|---|---|---|---|\n"
+        .to_string();
     for (name, points) in panels {
         let [.., before, last] = &points[..] else { continue };
         let power = |side: usize| match (before.times[side], last.times[side]) {

@@ -434,7 +434,10 @@ fn structs(count: usize, fields: usize) -> Hard {
         (0..count).map(|at| if at % 2 == 0 { row(&names, &Int32) } else { row(&other, &Int64) });
     Hard::new(
         "list: Structs",
-        &format!("a list of {count} Structs of {fields} fields, {length}-byte names that differ in the first two bytes, every other turned"),
+        &format!(
+            "a list of {count} Structs of {fields} fields, {length}-byte names that differ in the \
+             first two bytes, every other turned"
+        ),
         types.collect(),
     )
 }

@@ -40,7 +40,8 @@ pub fn shown_call(call: &Call) -> String {
     let (length, output, work) = (call.sheet.len(), call.output, call.work);
     let mask = if call.mask == FULL_MASK { "full".into() } else { format!("{:#x}", call.mask) };
     format!(
-        "  question  {}\n  types     {}\n  mask      {mask}\n  sheet     {length} bytes, output {output}, work space {work}\n  line      {}",
+        "  question  {}\n  types     {}\n  mask      {mask}\n  \
+         sheet     {length} bytes, output {output}, work space {work}\n  line      {}",
         call.question.word(),
         shown_types(&call.sheet),
         line(call),

@@ -47,7 +47,9 @@ pub fn svg(panels: &[(&str, Vec<Point>)]) -> String {
     let rows = panels.len().div_ceil(COLUMNS);
     let (width, height) = (WIDTH * COLUMNS as f64, LEGEND + HEIGHT * rows as f64);
     let mut text = format!(
-        "<svg xmlns=\"http://www.w3.org/2000/svg\" width=\"{width}\" height=\"{height}\" viewBox=\"0 0 {width} {height}\" font-family=\"sans-serif\" font-size=\"10\">\n<rect width=\"100%\" height=\"100%\" fill=\"white\"/>\n"
+        "<svg xmlns=\"http://www.w3.org/2000/svg\" width=\"{width}\" height=\"{height}\" \
+         viewBox=\"0 0 {width} {height}\" font-family=\"sans-serif\" font-size=\"10\">\n\
+         <rect width=\"100%\" height=\"100%\" fill=\"white\"/>\n"
     );
     text += &legend();
     for (at, (name, points)) in panels.iter().enumerate() {
@@ -63,7 +65,11 @@ fn legend() -> String {
     for (at, (name, colour)) in names.enumerate() {
         let x = LEFT + 190.0 * at as f64;
         let dash = if at == SERIES.len() { " stroke-dasharray=\"4 3\"" } else { "" };
-        text += &format!("<line x1=\"{x}\" y1=\"18\" x2=\"{}\" y2=\"18\" stroke=\"{colour}\" stroke-width=\"2\"{dash}/>\n", x + 22.0);
+        text += &format!(
+            "<line x1=\"{x}\" y1=\"18\" x2=\"{}\" y2=\"18\" stroke=\"{colour}\" \
+             stroke-width=\"2\"{dash}/>\n",
+            x + 22.0
+        );
         text += &format!("<text x=\"{}\" y=\"21.5\">{name}</text>\n", x + 28.0);
     }
     text
@@ -98,7 +104,10 @@ fn grid(across: &Axis, up: &Axis) -> String {
     let mut text = String::new();
     let (bottom, right) = (HEIGHT - BOTTOM, WIDTH - RIGHT);
     let line = |x1: f64, y1: f64, x2: f64, y2: f64| {
-        format!("<line x1=\"{x1:.1}\" y1=\"{y1:.1}\" x2=\"{x2:.1}\" y2=\"{y2:.1}\" stroke=\"#dddddd\"/>\n")
+        format!(
+            "<line x1=\"{x1:.1}\" y1=\"{y1:.1}\" x2=\"{x2:.1}\" y2=\"{y2:.1}\" \
+             stroke=\"#dddddd\"/>\n"
+        )
     };
     for power in across.powers() {
         let x = across.at(power);
@@ -144,7 +153,8 @@ fn reference(across: &Axis, up: &Axis, points: &[Point]) -> String {
     let (bytes, Some(time)) = (first.bytes as f64, first.times[0]) else { return String::new() };
     let end = (bytes * 10f64.powi(up.high) / time).min(last.bytes as f64);
     format!(
-        "<line x1=\"{:.1}\" y1=\"{:.1}\" x2=\"{:.1}\" y2=\"{:.1}\" stroke=\"{REFERENCE}\" stroke-dasharray=\"4 3\" stroke-width=\"1.2\"/>\n",
+        "<line x1=\"{:.1}\" y1=\"{:.1}\" x2=\"{:.1}\" y2=\"{:.1}\" stroke=\"{REFERENCE}\" \
+         stroke-dasharray=\"4 3\" stroke-width=\"1.2\"/>\n",
         across.at(bytes),
         up.at(time),
         across.at(end),

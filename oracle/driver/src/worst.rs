@@ -121,8 +121,11 @@ pub fn run(options: &Options) -> io::Result<bool> {
     let (base, made_hard) = (checks(true), checks(false));
     let ladders = if word.is_empty() { climb(most, count)? } else { Vec::new() };
     let (result, holds) = verdict(&hard, &ladders, base, made_hard);
+    let summary = format!(
+        "{machine}\nMedians of {count} rounds, microseconds of processor time a call.\n\n{result}"
+    );
     let text = format!(
-        "Machine: {machine}. Medians of {count} rounds, microseconds of processor time a call.\n\n{result}\n{}\n{}\n{}",
+        "{summary}\n{}\n{}\n{}",
         base_table(&rows, base),
         ladder_table(&ladders, base),
         hard_table(&hard, base, |a, b| a.family == b.family)
@@ -132,7 +135,8 @@ pub fn run(options: &Options) -> io::Result<bool> {
         println!("{}", hard_table(&hard, base, |a, b| a.name == b.name));
     }
     if options.has("--write") {
-        document::rewrite("BENCHMARKS.md", "worst", &text)?;
+        document::rewrite("worst", &text)?;
+        document::summarize("worst", &summary)?;
     }
     Ok(holds)
 }
@@ -188,7 +192,11 @@ fn verdict(hard: &[Row], ladders: &[Climbed], base: f64, made_hard: f64) -> (Str
     let worst = slowest(rows()).map_or(0.0, Row::time);
     let holds = worst <= BOUND * base;
     let mut text = format!(
-        "The bound: no sheet takes longer than {BOUND} times the check of a largest sheet of ordinary names, here {BOUND} × {} = {}. In this run it {}: the slowest of {} calls takes {:.1} times the check. Against the slowest check of names that were made to be hard to tell apart, {}, it takes {:.1} times.\n\n",
+        "The bound: no sheet takes longer than {BOUND} times the check of a largest sheet of ordinary \
+         names,\nhere {BOUND} × {} = {}.\n\
+         In this run it {}: the slowest of {} calls takes {:.1} times the check.\n\
+         Against the slowest check of names that were made to be hard to tell apart, {}, \
+         it takes {:.1} times.\n\n",
         micros(base),
         micros(BOUND * base),
         if holds { "holds" } else { "DOES NOT HOLD" },
@@ -230,7 +238,10 @@ fn base_table(rows: &[Row], base: f64) -> String {
 }
 
 fn ladder_table(ladders: &[Climbed], base: f64) -> String {
-    let mut text = "| Dictionaries against run ends, a side | list | union | compare | Slowest / check | The slowest | The source's slowest |\n|---|---|---|---|---|---|---|\n".to_string();
+    let mut text = "| Dictionaries against run ends, a side | list | union | compare \
+                    | Slowest / check | The slowest | The source's slowest |\n\
+                    |---|---|---|---|---|---|---|\n"
+        .to_string();
     for Climbed { steps, rows, source } in ladders {
         let times = QUESTIONS.map(|question| {
             let of = rows.iter().filter(|row| row.timed.call.question == question);
@@ -251,7 +262,9 @@ fn ladder_table(ladders: &[Climbed], base: f64) -> String {
 /// A line for the slowest sheet of each group of neighbours, with the times of the questions
 /// that it is asked.
 fn hard_table(rows: &[Row], base: f64, together: fn(&Row, &Row) -> bool) -> String {
-    let mut text = "| Sheets | Calls | The slowest | Bytes | list | union | compare | Slowest / check |\n|---|---|---|---|---|---|---|---|\n".to_string();
+    let mut text = "| Sheets | Calls | The slowest | Bytes | list | union | compare \
+                    | Slowest / check |\n|---|---|---|---|---|---|---|---|\n"
+        .to_string();
     for group in rows.chunk_by(together) {
         let Some(worst) = slowest(group.iter()) else { continue };
         let times = QUESTIONS.map(|question| {
