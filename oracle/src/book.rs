@@ -9,6 +9,7 @@ use crate::stored::Vector;
 /// A number, what the vectors of the class are for, and the function that adds them.
 pub type Class = (u16, &'static str, fn(&mut Book, u16));
 
+/// The vectors so far, and the numbers from which more are made.
 pub struct Book {
     pub vectors: Vec<Vector>,
     pub rng: Rng,
@@ -16,10 +17,12 @@ pub struct Book {
 }
 
 impl Book {
+    /// An empty list.
     pub fn new(seed: u64) -> Book {
         Book { vectors: Vec::new(), rng: Rng::new(seed), turn: 0 }
     }
 
+    /// Adds a call with its answer, as one of class `tag`.
     pub fn add(&mut self, tag: u16, call: Call) {
         let answer = call.answer();
         self.vectors.push(Vector { tag, call, answer });

@@ -5,13 +5,17 @@ use crate::source;
 use crate::standin::arrow::compute::set_null_mask;
 use crate::standin::arrow::datatypes::DataType;
 
+/// Refusal number: a bit of the mask outside 1 to 38.
 pub const MASK: u8 = 6;
+/// Refusal number: a union or a comparison of any number of types but two.
 pub const PAIR: u8 = 7;
+/// Refusal number: an output or a work space that is too short.
 pub const SPACE: u8 = 8;
 
 /// Every bit that a mask may have: 1 to 38.
 pub const FULL_MASK: u64 = ((1 << 39) - 1) & !1;
 
+/// What is asked about the types of a sheet.
 #[derive(Debug, Clone, Copy, PartialEq, Eq)]
 pub enum Question {
     List,
@@ -19,17 +23,21 @@ pub enum Question {
     Compare,
 }
 
+/// All questions, by their numbers.
 pub const QUESTIONS: [Question; 3] = [Question::List, Question::Union, Question::Compare];
 
 impl Question {
+    /// 1 list, 2 union, 3 compare.
     pub fn number(self) -> u8 {
         self as u8 + 1
     }
 
+    /// The question of a number from 1 to 3.
     pub fn of_number(number: u8) -> Option<Question> {
         QUESTIONS.into_iter().find(|question| question.number() == number)
     }
 
+    /// The word in lines and tables.
     pub fn word(self) -> &'static str {
         match self {
             Question::List => "list",
@@ -38,11 +46,13 @@ impl Question {
         }
     }
 
+    /// The question of a word.
     pub fn of_word(word: &str) -> Option<Question> {
         QUESTIONS.into_iter().find(|question| question.word() == word)
     }
 }
 
+/// A call; `output` and `work` are the lengths of what is lent, in bytes.
 #[derive(Debug, Clone, PartialEq, Eq)]
 pub struct Call {
     pub question: Question,
@@ -52,6 +62,7 @@ pub struct Call {
     pub sheet: Vec<u8>,
 }
 
+/// What a call comes to: a refusal number, no common type, or a type.
 #[derive(Debug, Clone, PartialEq, Eq)]
 pub enum Answer {
     Refused(u8),
@@ -67,6 +78,7 @@ impl Call {
         Call { question, mask, output: length, work: 2 * length, sheet }
     }
 
+    /// The lowest refusal number that applies, or the source's answer.
     pub fn answer(&self) -> Answer {
         match self.types() {
             Err(number) => Answer::Refused(number),

@@ -23,6 +23,7 @@ const USAGE: &str = "usage: oracle COMMAND (run it in the folder of this program
   stops                          whether this build stops where a sum leaves 8 signed bits
   mutants                        builds each edited copy of the source and replays the list";
 
+/// Runs the command of the arguments; false where a check fails.
 pub fn run() -> io::Result<bool> {
     let words: Vec<String> = std::env::args().skip(1).collect();
     match words.first().map_or("", String::as_str) {

@@ -9,6 +9,7 @@ use crate::sheet::{self, precision_cap, LIST, MAP, RECORD, STRUCT, TIMESTAMP};
 use crate::standin::arrow::datatypes::DataType;
 use DataType::*;
 
+/// The classes of damaged calls.
 pub const CLASSES: [Class; 12] = [
     (301, "torn, alone", alone),
     (302, "kind, alone", alone),

@@ -8,6 +8,7 @@ use crate::sheet::{self, kind_of, precision_cap};
 use crate::standin::arrow::datatypes::DataType;
 use DataType::*;
 
+/// A set of types in which a list has a least one; decimals by the kind of their width.
 #[derive(Debug, Clone, Copy, PartialEq, Eq)]
 pub enum Family {
     Integers,
@@ -16,6 +17,7 @@ pub enum Family {
     Timestamps,
 }
 
+/// All families.
 pub const FAMILIES: [Family; 7] = [
     Family::Integers,
     Family::Decimals(DECIMALS[0]),

@@ -11,6 +11,7 @@ use crate::rng::Rng;
 use crate::sheet;
 use crate::standin::arrow::datatypes::DataType;
 
+/// A call of any sort, good or damaged.
 pub fn any_call(rng: &mut Rng) -> Call {
     match rng.below(20) {
         0..=2 => damage::any_call(rng),
@@ -44,6 +45,7 @@ fn large(rng: &mut Rng) -> Call {
     good_call(rng, question, &pair)
 }
 
+/// Two related types, of many levels.
 pub fn deep_pair(rng: &mut Rng) -> [DataType; 2] {
     let left = any_plain(rng);
     let mut pair = [related(rng, &left), left];
@@ -60,6 +62,7 @@ pub fn deep_pair(rng: &mut Rng) -> [DataType; 2] {
     pair
 }
 
+/// Two related Structs of many fields.
 pub fn wide_pair(rng: &mut Rng) -> [DataType; 2] {
     let count = 1 + rng.below(150);
     let types: Vec<DataType> = (0..count).map(|_| any_plain(rng)).collect();
@@ -78,11 +81,13 @@ pub fn wide_pair(rng: &mut Rng) -> [DataType; 2] {
     [one, DataType::Struct(other.collect::<Vec<_>>().into())]
 }
 
+/// A random type of about 12 records at most, now and then of about 40.
 pub fn any_type_of_some_size(rng: &mut Rng) -> DataType {
     let records = if rng.once_in(6) { 40 } else { 12 };
     any_type(rng, records)
 }
 
+/// Two to seven types, each related to one before it.
 pub fn related_types(rng: &mut Rng) -> Vec<DataType> {
     let mut types = vec![any_type_of_some_size(rng)];
     for _ in 0..1 + rng.below(6) {
@@ -140,6 +145,7 @@ pub fn of_line(line: &str) -> Option<Call> {
     words.next().is_none().then_some(Call { question, mask, output, work, sheet })
 }
 
+/// Two digits for each byte.
 pub fn hex(bytes: &[u8]) -> String {
     bytes.iter().map(|byte| format!("{byte:02x}")).collect()
 }

@@ -1,12 +1,15 @@
 //! A small generator of numbers (splitmix64), the same on every machine.
 
+/// The state of the generator.
 pub struct Rng(u64);
 
 impl Rng {
+    /// The generator at its start.
     pub fn new(seed: u64) -> Rng {
         Rng(seed)
     }
 
+    /// The next number of 64 bits.
     pub fn next(&mut self) -> u64 {
         self.0 = self.0.wrapping_add(0x9e37_79b9_7f4a_7c15);
         let mut z = self.0;
@@ -30,10 +33,12 @@ impl Rng {
         self.below(times) == 0
     }
 
+    /// One of the items.
     pub fn pick<'a, T>(&mut self, items: &'a [T]) -> &'a T {
         &items[self.below(items.len())]
     }
 
+    /// Puts the items in another order.
     pub fn shuffle<T>(&mut self, items: &mut [T]) {
         for end in (1..items.len()).rev() {
             items.swap(end, self.below(end + 1));

@@ -7,6 +7,7 @@ use crate::sheet::{kind_of, precision_cap};
 use crate::standin::arrow::datatypes::DataType;
 use DataType::*;
 
+/// The classes of the rules.
 pub const CLASSES: [Class; 29] = [
     (101, "the twelve marked cases and the worked example", marked),
     (102, "the empty list, one type, the same type again", same),

@@ -10,6 +10,7 @@ use crate::{examples, generator, readings};
 use DataType::*;
 use Question::{Compare, List, Union};
 
+/// Runs every test, and stops at the first that fails.
 pub fn run() -> std::io::Result<bool> {
     step("the twelve marked cases", marked_cases);
     step("the worked example", worked_example);

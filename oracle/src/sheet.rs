@@ -3,14 +3,22 @@
 use crate::standin::arrow::datatypes::{DataType, Field, FieldRef, IntervalUnit, TimeUnit};
 use std::sync::Arc;
 
+/// The bytes of a record.
 pub const RECORD: usize = 16;
+/// The most records of a sheet, the header among them.
 pub const MAX_RECORDS: usize = 1024;
+/// The most label bytes of a sheet.
 pub const MAX_LABELS: usize = 16384;
 
+/// Refusal number: the bytes are no header, records and labels.
 pub const TORN: u8 = 1;
+/// Refusal number: a kind outside 1 to 38.
 pub const KIND: u8 = 2;
+/// Refusal number: the walk or a number of parts is wrong.
 pub const CHAIN: u8 = 3;
+/// Refusal number: a precision, scale, unit, size, flag or unused byte is wrong.
 pub const FIGURE: u8 = 4;
+/// Refusal number: a label is wrong, or two fields of a Struct have one name.
 pub const LABEL: u8 = 5;
 
 const NULLABLE: u8 = 1;

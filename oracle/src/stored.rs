@@ -26,6 +26,7 @@ fn length_bytes(bytes: &[u8]) -> [u8; 4] {
     u32::try_from(bytes.len()).expect("a short piece").to_le_bytes()
 }
 
+/// The bytes of a list, in the form that vectors/README.md says.
 pub fn write(vectors: &[Vector]) -> Vec<u8> {
     let mut out = Vec::new();
     for Vector { tag, call, answer } in vectors {
@@ -84,6 +85,7 @@ fn take<'a>(bytes: &'a [u8], at: &mut usize, length: usize) -> Option<&'a [u8]> 
     Some(part)
 }
 
+/// The vectors of a file.
 pub fn load(path: &str) -> io::Result<Vec<Vector>> {
     read(&std::fs::read(path)?).map_err(io::Error::other)
 }

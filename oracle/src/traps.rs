@@ -7,6 +7,7 @@ use crate::sheet::kind_of;
 use crate::standin::arrow::datatypes::DataType;
 use DataType::*;
 
+/// The classes of the traps.
 pub const CLASSES: [Class; 13] = [
     (201, "union and compare lose the wrapper, the list keeps it", lost_wrapper),
     (202, "a wrapper is kept for an equal value, not for an alike one", kept_wrapper),

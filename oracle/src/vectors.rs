@@ -4,8 +4,10 @@ use crate::book::{Book, Class};
 use crate::stored::Vector;
 use crate::{damage, rules, traps};
 
+/// The seed of the stored list.
 pub const SEED: u64 = 20261115;
 
+/// All classes: rules, traps, damage.
 pub fn classes() -> Vec<Class> {
     let mut classes: Vec<Class> = Vec::new();
     classes.extend(rules::CLASSES);
@@ -30,6 +32,7 @@ fn most(tag: u16) -> usize {
     }
 }
 
+/// The list of vectors that a seed makes.
 pub fn all(seed: u64) -> Vec<Vector> {
     let mut book = Book::new(seed);
     for (tag, _, fill) in classes() {

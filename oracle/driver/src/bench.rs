@@ -24,6 +24,7 @@ fn title(input: &Input) -> String {
     format!("{}, {}", input.name, input.call.question.word())
 }
 
+/// Measures each input on each side, prints the table and says which rows miss the goal.
 pub fn run(options: &Options) -> io::Result<bool> {
     let machine = document::machine();
     let (inputs, mut timed): (Vec<_>, Vec<_>) = chosen(options)?.into_iter().unzip();

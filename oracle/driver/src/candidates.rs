@@ -78,6 +78,7 @@ fn two_fields(t: DataType) -> DataType {
     Struct(vec![field_of(b"a", Int8, true), field_of(b"b", t, true)].into())
 }
 
+/// Each core in each setting, below each large type.
 pub fn all() -> Vec<Hard> {
     let cores = [integer(), zoned(), dated(), growing(), views(), strings()];
     let mut found = Vec::new();

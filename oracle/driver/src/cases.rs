@@ -20,6 +20,7 @@ use Make::*;
 /// A class of sheets, and of how many sheets in a thousand it makes up.
 type Class = (&'static str, usize, Make);
 
+/// The classes of sheets of the comparison.
 pub const CLASSES: [Class; 13] = [
     ("pairs of plain types", 160, Two(plain_pair)),
     ("related pairs of every kind", 270, Two(related_pair)),

@@ -25,6 +25,7 @@ const USAGE: &str = "usage: driver COMMAND
                       name, for a profiler
 --write puts the figures into docs/";
 
+/// Runs the command of the arguments; false where a check fails.
 pub fn run() -> io::Result<bool> {
     let words: Vec<String> = std::env::args().skip(1).collect();
     let Some((command, rest)) = words.split_first() else { return Err(wrong(USAGE)) };

@@ -32,6 +32,7 @@ pub struct Task {
     pub spoil: Option<Spoil>,
 }
 
+/// A call on which the two sides differ.
 pub struct Difference {
     class: &'static str,
     call: Call,
@@ -46,6 +47,7 @@ pub struct Sides {
 }
 
 impl Sides {
+    /// Memory for both sides; a spoil is a mistake in what the port answers.
     pub fn new(spoil: Option<Spoil>) -> Sides {
         let pattern = Pattern::new(PATTERN_SEED);
         Sides { pattern, ours: Lent::default(), due: Lent::default(), spoil }
@@ -66,6 +68,7 @@ impl Sides {
         (due == Some(ours) && self.ours.is_same(&self.due)).then_some(ours)
     }
 
+    /// Whether anything differs.
     pub fn differs(&mut self, call: &Call) -> bool {
         self.agreed(call, TURN).is_none()
     }
@@ -134,6 +137,7 @@ pub fn explain(found: &Difference, spoil: Option<Spoil>) -> (Call, String) {
     (small, text)
 }
 
+/// Compares on every thread, prints the counts, and explains the first difference.
 pub fn run(options: &Options) -> io::Result<bool> {
     let started = Instant::now();
     let (seed, cases) = (options.number("--seed", 1)?, options.number("--cases", 10_000_000)?);

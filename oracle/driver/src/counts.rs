@@ -6,23 +6,28 @@ use crate::cases::CLASSES;
 /// None, the refusals 1 to 8, a type.
 const ANSWERS: usize = 10;
 
+/// Calls by class of sheets, question and answer.
 #[derive(Clone)]
 pub struct Counts([[[u64; ANSWERS]; 3]; CLASSES.len()]);
 
 impl Counts {
+    /// No calls.
     pub fn new() -> Counts {
         Counts([[[0; ANSWERS]; 3]; CLASSES.len()])
     }
 
+    /// Counts a call by the number that was answered.
     pub fn add(&mut self, class: usize, question: usize, number: usize) {
         self.0[class][question][number.min(ANSWERS - 1)] += 1;
     }
 
+    /// Adds the counts of another thread.
     pub fn merge(&mut self, other: &Counts) {
         let cells = self.0.iter_mut().flatten().flatten();
         cells.zip(other.0.iter().flatten().flatten()).for_each(|(sum, more)| *sum += more);
     }
 
+    /// All calls.
     pub fn total(&self) -> u64 {
         self.0.iter().flatten().flatten().sum()
     }

@@ -10,6 +10,7 @@ use std::io;
 
 pub const OPTIONS: [&str; 2] = ["--rounds=", "--write"];
 
+/// Measures each class at each size, and prints how the time grows.
 pub fn run(options: &Options) -> io::Result<bool> {
     let count = options.number("--rounds", 51)? as usize;
     let mut panels = Vec::new();

@@ -23,11 +23,13 @@ pub struct Hard {
 }
 
 impl Hard {
+    /// A sheet of these types, asked with every mask bit.
     pub fn new(family: &str, name: &str, types: Vec<DataType>) -> Hard {
         let (family, name) = (family.to_string(), name.to_string());
         Hard { family, name, types, mask: FULL_MASK, steps: 0 }
     }
 
+    /// All three questions about two types, else the list alone.
     pub fn calls(&self) -> Vec<Call> {
         let sheet = sheet::write(&self.types).expect("types that fit in a sheet");
         let asked = if self.types.len() == 2 { &QUESTIONS[..] } else { &QUESTIONS[..1] };
@@ -61,6 +63,7 @@ pub fn all() -> Vec<Hard> {
 
 // Names
 
+/// A field whose name is any bytes.
 pub fn field_of(name: &[u8], data_type: DataType, nullable: bool) -> FieldRef {
     Arc::new(Field::new(text_of(name), data_type, nullable))
 }

@@ -56,6 +56,7 @@ pub fn all() -> Vec<Input> {
     inputs
 }
 
+/// Random integer types, the same in each run.
 pub fn integers(count: usize) -> Vec<DataType> {
     let mut rng = Rng::new(SEED);
     (0..count).map(|_| rng.pick(&INTEGERS).clone()).collect()
@@ -104,10 +105,12 @@ pub fn nested(depth: usize, wrap: fn(&str, DataType, bool) -> DataType) -> [Data
     [deep(Int32), deep(Int64)]
 }
 
+/// A Dictionary of Int32, for `nested`.
 pub fn wrap_dictionary(_: &str, value: DataType, _: bool) -> DataType {
     dictionary(Int32, value)
 }
 
+/// Run ends of Int32, for `nested`.
 pub fn wrap_run_ends(_: &str, value: DataType, _: bool) -> DataType {
     run_ends(Int32, value)
 }
@@ -135,6 +138,7 @@ fn refused() -> Vec<Input> {
         .collect()
 }
 
+/// A union of two Structs that gets a refusal number from 1 to 8.
 pub fn refused_call(number: u8, fields: usize) -> Call {
     let [left, right, _] = structs(fields);
     let mut call = call_on(Question::Union, &[left.clone(), right.clone()]);
@@ -163,6 +167,7 @@ const FEW_TO_MANY: &[usize] = &[2, 4, 8, 16, 32, 64, 128, 256, 510];
 const TYPES: &[usize] = &[2, 4, 8, 16, 32, 64, 128, 256, 512, 1023];
 const WRAPPERS: &[usize] = &[1, 2, 4, 8, 16, 32, 64, 128, 255];
 
+/// All panels.
 pub const PANELS: [Panel; 9] = [
     Panel {
         name: "list of integers",

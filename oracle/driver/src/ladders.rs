@@ -6,10 +6,12 @@ use crate::sheet;
 use crate::standin::arrow::datatypes::DataType;
 use DataType::*;
 
+/// How many wrappers a side has.
 pub const STEPS: [usize; 4] = [10, 20, 100, 255];
 /// The source takes binomial(2k, k) calls: it is asked only up to here.
 pub const SOURCE_STEPS: usize = 10;
 
+/// A call on wrappers against wrappers, `steps` on each side.
 pub struct Ladder {
     pub name: String,
     pub steps: usize,
@@ -44,6 +46,7 @@ pub fn wrapped(pattern: &str, steps: usize, core: DataType) -> DataType {
     })
 }
 
+/// All calls of a number of steps.
 pub fn of(steps: usize) -> Vec<Ladder> {
     let mut ladders = Vec::new();
     for (sides, left, right) in SIDES {
@@ -68,6 +71,7 @@ fn asked(steps: usize, name: &str, sheet: &[u8]) -> Vec<Ladder> {
 }
 
 impl Ladder {
+    /// Steps, sides, cores, mask and question in words.
     pub fn title(&self) -> String {
         format!("{} steps a side, {}, {}", self.steps, self.name, self.call.question.word())
     }
@@ -77,6 +81,7 @@ impl Ladder {
         self.steps <= SOURCE_STEPS || self.call.question == Question::List
     }
 
+    /// The oracle's answer, where the source may be asked.
     pub fn answer(&self) -> Option<Answer> {
         self.has_source().then(|| self.call.answer())
     }

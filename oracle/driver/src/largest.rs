@@ -8,6 +8,7 @@ use crate::sheet::{self, MAX_LABELS, MAX_RECORDS, RECORD};
 use crate::standin::arrow::datatypes::DataType;
 use DataType::*;
 
+/// A call that is refused for its mask, once the whole of a large sheet is checked.
 pub struct Largest {
     pub name: &'static str,
     /// Its names were not made to be hard to tell apart.
@@ -37,6 +38,7 @@ impl Largest {
     }
 }
 
+/// All of them, full or not.
 pub fn all() -> Vec<Largest> {
     vec![
         Largest::new("1,023 integers", &integers(RECORDS)),

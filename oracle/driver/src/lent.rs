@@ -13,6 +13,7 @@ const PATTERN: usize = 1 << 20;
 pub struct Pattern(Vec<u8>);
 
 impl Pattern {
+    /// The bytes of a seed.
     pub fn new(seed: u64) -> Pattern {
         let mut rng = Rng::new(seed);
         Pattern((0..PATTERN).map(|_| 1 + rng.below(255) as u8).collect())
@@ -66,18 +67,22 @@ impl Lent {
         }
     }
 
+    /// The output alone.
     pub fn output_mut(&mut self) -> &mut [u8] {
         &mut self.bytes[self.output.clone()]
     }
 
+    /// The work space alone.
     pub fn work_mut(&mut self) -> &mut [u8] {
         &mut self.bytes[self.work.clone()]
     }
 
+    /// The sheet alone.
     pub fn sheet_mut(&mut self) -> &mut [u8] {
         &mut self.bytes[self.sheet.clone()]
     }
 
+    /// Whether every byte is the same, guards and all.
     pub fn is_same(&self, other: &Lent) -> bool {
         self.bytes == other.bytes
     }

@@ -31,6 +31,7 @@ pub enum Side {
     Source,
 }
 
+/// All sides, in the order of the tables.
 pub const SIDES: [Side; 3] = [Side::Ours, Side::Rust, Side::Source];
 
 /// A call with warm buffers, its decoded types where no refusal applies, and the samples.
@@ -84,6 +85,7 @@ impl Timed {
         Err(format!("{side:?} does not give the oracle's answer: {number}"))
     }
 
+    /// Calls a side once, and gives the number answered (of the source, whether there is a type).
     pub fn once(&mut self, side: Side) -> usize {
         let Call { question, mask, ref sheet, .. } = self.call;
         let sheet = black_box(&sheet[..]);
@@ -126,6 +128,7 @@ impl Timed {
         (thread_time() - start) as f64 / times as f64
     }
 
+    /// Whether a side is timed.
     pub fn has(&self, side: Side) -> bool {
         self.sides.contains(&side)
     }

@@ -28,6 +28,7 @@ fn field(field: &Field) -> String {
     format!("{:?}: {nullable}{}", field.name(), shown(field.data_type()))
 }
 
+/// The types of a sheet on one line.
 pub fn shown_types(sheet: &[u8]) -> String {
     match sheet::read(sheet) {
         Err(number) => format!("not a sheet (refusal {number})"),
@@ -48,6 +49,7 @@ pub fn shown_call(call: &Call) -> String {
     )
 }
 
+/// An answer on one line.
 pub fn shown_answer(answer: &Answer) -> String {
     match answer {
         Answer::Refused(number) => format!("refused {number}"),

@@ -2,6 +2,7 @@
 
 use std::io;
 
+/// The options given, by name.
 pub struct Options(Vec<(String, String)>);
 
 impl Options {
@@ -21,14 +22,17 @@ impl Options {
         Ok(Options(found))
     }
 
+    /// The value of an option, the last where it is given twice.
     pub fn word(&self, name: &str) -> Option<&str> {
         self.0.iter().rev().find(|(found, _)| found == name).map(|(_, value)| value.as_str())
     }
 
+    /// Whether an option is given.
     pub fn has(&self, name: &str) -> bool {
         self.word(name).is_some()
     }
 
+    /// The number of an option, in decimal; `_` between digits is let through.
     pub fn number(&self, name: &str, default: u64) -> io::Result<u64> {
         let Some(word) = self.word(name) else { return Ok(default) };
         let digits = word.replace('_', "");
@@ -36,6 +40,7 @@ impl Options {
     }
 }
 
+/// An error that says a text.
 pub fn wrong(text: &str) -> io::Error {
     io::Error::other(text.to_string())
 }

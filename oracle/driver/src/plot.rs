@@ -43,6 +43,7 @@ impl Axis {
     }
 }
 
+/// The picture: a panel for each class, with its points.
 pub fn svg(panels: &[(&str, Vec<Point>)]) -> String {
     let rows = panels.len().div_ceil(COLUMNS);
     let (width, height) = (WIDTH * COLUMNS as f64, LEGEND + HEIGHT * rows as f64);

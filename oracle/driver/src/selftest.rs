@@ -15,6 +15,7 @@ const CASES: u64 = 100_000;
 /// The bytes of a sheet of two plain types.
 const TWO_PLAIN: usize = 48;
 
+/// Runs every test, and says which fails.
 pub fn run() -> io::Result<bool> {
     let unspoiled = nothing_differs();
     println!("unspoiled, {CASES} calls: {}", word(unspoiled));

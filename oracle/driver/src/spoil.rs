@@ -3,6 +3,7 @@
 use crate::call::{Call, Question};
 use crate::lent::Lent;
 
+/// What is changed in an answer.
 #[derive(Debug, Clone, Copy, PartialEq, Eq)]
 pub enum Spoil {
     Number,
@@ -18,6 +19,7 @@ pub enum Spoil {
 
 use Spoil::*;
 
+/// Each spoil by its word.
 pub const SPOILS: [(&str, Spoil); 9] = [
     ("number", Number),
     ("refusal", Refusal),
@@ -30,6 +32,7 @@ pub const SPOILS: [(&str, Spoil); 9] = [
     ("question", Asked),
 ];
 
+/// The spoil of a word.
 pub fn of_word(word: &str) -> Option<Spoil> {
     SPOILS.iter().find(|(name, _)| *name == word).map(|(_, spoil)| *spoil)
 }

@@ -97,6 +97,7 @@ pub fn repeat(word: &str, count: usize) -> io::Result<bool> {
     Ok(true)
 }
 
+/// Measures the slowest calls known; false where one takes longer than the bound.
 pub fn run(options: &Options) -> io::Result<bool> {
     let most = options.number("--most-k", u64::MAX)? as usize;
     let word = options.word("--only").unwrap_or("");
