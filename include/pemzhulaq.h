@@ -3,28 +3,38 @@
  * proved to meet its contracts (docs/PROMISES.md).
  *
  * Types come in as a sheet, 16 bytes a record and labels behind them; the
- * common type goes out as a one-type sheet. An example, Int64 against
- * Decimal128(7, 2), which prints "kind 16, precision 22, scale 2":
+ * common type goes out as a one-type sheet (docs/FORMAT.md). An example, Int64
+ * against Decimal128(7, 2), which prints "kind 16, precision 22, scale 2":
  *
  *   #include <pemzhulaq.h>
  *   #include <stdio.h>
  *
  *   int main(void) {
- *       const uint8_t sheet[48] = {[0] = 3, [16] = 6, [26] = 2, [32] = 16, [34] = 7, [35] = 2};
+ *       const uint8_t sheet[48] = {
+ *           3, 0, 0, 0, 0, 0, 0, 0, 0, 0, 0, 0, 0, 0, 0, 0,   // the header: 3 records, no labels
+ *           6, 0, 0, 0, 0, 0, 0, 0, 0, 0, 2, 0, 0, 0, 0, 0,   // 1: kind 6, Int64; 2 is the next
+ *           16, 0, 7, 2, 0, 0, 0, 0, 0, 0, 0, 0, 0, 0, 0, 0,  // 2: kind 16, Decimal128(7, 2)
+ *       };
  *       uint8_t out[sizeof sheet], work[2 * sizeof sheet];
  *       size_t answer = pemzhulaq_type_union_coercion(sheet, sizeof sheet, PEMZHULAQ_MASK_ALL,
  *                                                     out, sizeof out, work, sizeof work);
- *       if (answer < PEMZHULAQ_LEAST_TYPE) return printf("no type: %zu\n", answer), 1;
+ *       if (answer < PEMZHULAQ_LEAST_TYPE) {
+ *           printf("no type: %zu\n", answer);
+ *           return 1;
+ *       }
  *       printf("kind %d, precision %d, scale %d\n", out[16], out[18], (int8_t)out[19]);
  *       return 0;
  *   }
  *
- * From the repository's root, with the program in example.c:
+ * It is C (C99 and later) and C++ (C++11 and later). From the repository's
+ * root, with the program in example.c:
  *
  *   tools/archive.sh
  *   cc -I include example.c target/staticlib/libpemzhulaq.a -o example
  *
- * The archive is for x86-64 Linux and needs nothing but the C library.
+ * The archive is for Linux on x86-64-v2, which is x86-64 with SSE up to 4.2 and
+ * POPCNT; it has instructions of SSSE3 and SSE4.1, at which an older processor
+ * stops. It needs nothing but the C library.
  */
 #ifndef PEMZHULAQ_H
 #define PEMZHULAQ_H

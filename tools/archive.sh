@@ -2,6 +2,10 @@
 # Proves the exports, builds the static library, and puts it where rust/ and oracle/driver/ look for it.
 set -e
 cd "$(dirname "$0")/.."
+if ! command -v rt >/dev/null; then
+    echo "tools/archive.sh: no rt at hand: the Rattle toolchain proves and builds the archive" >&2
+    exit 1
+fi
 (cd crates/pemzhulaq_c && rt lib)
 mkdir -p target/staticlib
 cp crates/pemzhulaq_c/out/libpemzhulaq_c.a target/staticlib/libpemzhulaq.a

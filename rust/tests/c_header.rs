@@ -1,4 +1,4 @@
-//! The C header: its own example is compiled against the archive and run.
+//! The header: its own example is compiled against the archive, as C and as C++, and run.
 
 use std::fs;
 use std::path::{Path, PathBuf};
@@ -12,7 +12,7 @@ fn root() -> PathBuf {
 fn example() -> String {
     let header = fs::read_to_string(root().join("include/pemzhulaq.h")).unwrap();
     let lines = header.lines().skip_while(|line| !line.contains(" *   #include"));
-    let program = lines.take_while(|line| !line.starts_with(" * From"));
+    let program = lines.take_while(|line| *line == " *" || line.starts_with(" *   "));
     program.map(|line| line.trim_start_matches(" *").to_string() + "\n").collect()
 }
 
@@ -22,12 +22,16 @@ fn folder(name: &str) -> PathBuf {
     folder
 }
 
-fn compile(compiler: &str, args: &[&str], source: &Path) -> Command {
-    let mut command = Command::new(compiler);
-    command.args(["-Wall", "-Wextra", "-Werror", "-pedantic", "-I"]);
-    command.arg(root().join("include")).args(args).arg(source);
-    command
-}
+/// A compiler, a standard of its language, and the name of a source of that language.
+type Dialect = (&'static str, &'static str, &'static str);
+
+const DIALECTS: [Dialect; 5] = [
+    ("cc", "c99", "example.c"),
+    ("cc", "c11", "example.c"),
+    ("cc", "gnu17", "example.c"),
+    ("g++", "c++11", "example.cpp"),
+    ("g++", "c++17", "example.cpp"),
+];
 
 fn ran(command: &mut Command) -> Output {
     let output = command.output().unwrap();
@@ -36,19 +40,25 @@ fn ran(command: &mut Command) -> Output {
     output
 }
 
-/// Compiles a C program against the archive and gives what it prints.
-fn run_c(name: &str, program: &str) -> String {
-    let folder = folder(name);
-    let (source, binary) = (folder.join("example.c"), folder.join("example"));
-    fs::write(&source, program).unwrap();
-    let mut command = compile("cc", &["-std=c99"], &source);
-    ran(command.arg(env!("PEMZHULAQ_ARCHIVE")).arg("-o").arg(&binary));
-    String::from_utf8(ran(&mut Command::new(binary)).stdout).unwrap()
+/// Compiles a program against the archive, as C and as C++, and looks at what it prints.
+fn runs(name: &str, program: &str, expected: &str) {
+    for (compiler, standard, file) in DIALECTS {
+        let folder = folder(&format!("{name}_{standard}"));
+        let (source, binary) = (folder.join(file), folder.join("example"));
+        fs::write(&source, program).unwrap();
+        let mut command = Command::new(compiler);
+        command.arg(format!("-std={standard}"));
+        command.args(["-Wall", "-Wextra", "-Wpedantic", "-Werror", "-I"]);
+        command.arg(root().join("include")).arg(source);
+        ran(command.arg(env!("PEMZHULAQ_ARCHIVE")).arg("-o").arg(&binary));
+        let printed = String::from_utf8(ran(&mut Command::new(binary)).stdout).unwrap();
+        assert_eq!(printed, expected, "{compiler} -std={standard}");
+    }
 }
 
 #[test]
 fn example_of_the_header() {
-    assert_eq!(run_c("header", &example()), "kind 16, precision 22, scale 2\n");
+    runs("header", &example(), "kind 16, precision 22, scale 2\n");
 }
 
 #[test]
@@ -56,10 +66,8 @@ fn every_call_and_the_refusals() {
     let program = r#"
         #include <pemzhulaq.h>
         #include <stdio.h>
-        #include <string.h>
 
-        static uint8_t sheet[48] = {[0] = 3, [16] = 25, [26] = 2, [32] = 5};
-        static uint8_t out[48], work[96];
+        static uint8_t sheet[48], out[48], work[96];
 
         static void ask(uint64_t mask, size_t out_len) {
             size_t list = pemzhulaq_type_union_resolution(sheet, 48, mask, out, out_len, work, 96);
@@ -71,6 +79,10 @@ fn every_call_and_the_refusals() {
         }
 
         int main(void) {
+            sheet[0] = 3;
+            sheet[16] = 25;
+            sheet[26] = 2;
+            sheet[32] = 5;
             ask(PEMZHULAQ_MASK_ALL, 48);
             ask(1, 48);
             ask(PEMZHULAQ_MASK_ALL, 47);
@@ -83,16 +95,7 @@ fn every_call_and_the_refusals() {
         }
     "#;
     let expected = "32 5 32 25 32 5\n6 0 6 0 6 0\n8 0 8 0 8 0\n0 0 0 0 0 0\n012345678\n";
-    assert_eq!(run_c("calls", program), expected);
-}
-
-#[test]
-fn the_header_is_cpp_too() {
-    let source = folder("cpp").join("example.cpp");
-    let program = "#include <pemzhulaq.h>\nsize_t ask(const uint8_t *s, uint8_t *o, uint8_t *w) {\n    \
-                   return pemzhulaq_comparison_coercion(s, 16, PEMZHULAQ_MASK_ALL, o, 16, w, 32);\n}\n";
-    fs::write(&source, program).unwrap();
-    ran(&mut compile("g++", &["-fsyntax-only"], &source));
+    runs("calls", program, expected);
 }
 
 #[test]
