@@ -66,6 +66,16 @@ fn other_spellings() {
         ("Struct(nullable: nullable Int8)", "Struct(\"nullable\": nullable Int8)"),
         ("Struct(\"\": Int8)", "Struct(\"\":Int8)"),
         ("Struct(größe: Int8)", "Struct(\"gr\\xC3\\xB6ße\": Int8)"),
+        ("List(Int32)", "List(non-null Int32)"),
+        ("List(nullable Int32)", "List(\tnullable\tInt32)"),
+        ("Struct(a: Int8, b: nullable Int8)", "Struct(a:non-null Int8, b: nullable Int8)"),
+        ("Map(Struct(), sorted)", "Map(non-null Struct(), sorted)"),
+        (
+            "RunEndEncoded(Int32, nullable Utf8)",
+            "RunEndEncoded(non-null Int32, values: nullable Utf8)",
+        ),
+        ("Struct(non: Int8)", "Struct(non: non-null Int8)"),
+        ("Struct(\"non-null\": Int8)", "Struct(\"non-null\": non-null Int8)"),
     ];
     for (shown, typed) in same {
         assert_eq!(notation::parse(typed).unwrap().to_string(), shown);
@@ -119,6 +129,18 @@ fn errors_have_places() {
         ("Map(Int8, maybe)", 1, 11, "expected unsorted or sorted, found maybe"),
         ("Int8;", 1, 5, "the character ';' stands for nothing"),
         ("Struct(größe: Int8, b: Foo)", 1, 24, "unknown type Foo"),
+        (
+            "non-null Int8",
+            1,
+            1,
+            "a type is never nullable where it is not a part: leave non-null out",
+        ),
+        (
+            "Dictionary(Int8, non-null Utf8)",
+            1,
+            18,
+            "the parts of a Dictionary are never nullable: leave non-null out",
+        ),
     ];
     for (text, line, column, message) in cases {
         let error = notation::parse(text).unwrap_err();
@@ -127,6 +149,43 @@ fn errors_have_places() {
             (line, column, message),
             "{text}"
         );
+    }
+}
+
+/// What may be meant to say that a field is not nullable, or that it is, is answered with the rule.
+#[test]
+fn errors_say_what_is_nullable() {
+    let rule = "a field is not nullable unless nullable stands before its type \
+                (non-null may stand there too)";
+    let cases = [
+        ("List(not null Int32)", 6, "unknown type not"),
+        ("List(NOT NULL Int32)", 6, "unknown type NOT"),
+        ("List(nonnull Int32)", 6, "unknown type nonnull"),
+        ("List(non_null Int32)", 6, "unknown type non_null"),
+        ("List(NonNull Int32)", 6, "unknown type NonNull"),
+        ("List(non null Int32)", 6, "unknown type non"),
+        ("List(non-nullable Int32)", 6, "unknown type non"),
+        ("List(non-nullish Int32)", 6, "unknown type non"),
+        ("List(not_nullable Int32)", 6, "unknown type not_nullable"),
+        ("List(nullable nullable Int32)", 15, "unknown type nullable"),
+        ("List(nullable non-null Int32)", 15, "expected a type, found non-null"),
+        ("Struct(a: Int32 not null)", 17, "expected ',' or ')', found not"),
+        ("Struct(a: Int32 NULL)", 17, "expected ',' or ')', found NULL"),
+        ("Struct(a: Int32 nullable)", 17, "expected ',' or ')', found nullable"),
+        ("List(Int32 non-null)", 12, "expected ')', found non-null"),
+    ];
+    for (text, column, front) in cases {
+        let error = notation::parse(text).unwrap_err();
+        let message = format!("{front}; {rule}");
+        assert_eq!((error.column(), error.message()), (column, message.as_str()), "{text}");
+    }
+    for (text, message) in [
+        ("List(null Int32)", "unknown type null, did you mean Null?"),
+        ("List(Int8 Null)", "expected ')', found Null"),
+        ("List(nothing Int32)", "unknown type nothing"),
+        ("Struct(non-null: Int32)", "expected a type, found ':'"),
+    ] {
+        assert_eq!(notation::parse(text).unwrap_err().message(), message);
     }
 }
 
@@ -150,6 +209,22 @@ fn lines_are_counted() {
     assert_eq!((error.line(), error.column()), (5, 1));
     let types = notation::parse_lines(&text.replace("Foo", "")).unwrap();
     assert_eq!(types, [DataType::Int64, DataType::Utf8]);
+}
+
+#[test]
+fn a_byte_order_mark_and_indented_remarks_are_passed_over() {
+    let text = "\u{feff}Int64\r\n \t# Foo\n    #\n  List(Bar)\n";
+    let error = notation::parse_lines(text).unwrap_err();
+    assert_eq!((error.line(), error.column(), error.message()), (4, 8, "unknown type Bar"));
+    assert_eq!(notation::parse_lines("\u{feff}# Foo\nInt8").unwrap(), [DataType::Int8]);
+    assert_eq!(notation::parse_lines("\u{feff}").unwrap(), []);
+    // In the first line columns are counted from the first character behind the mark.
+    let error = notation::parse_lines("\u{feff}List(Bar)").unwrap_err();
+    assert_eq!((error.line(), error.column()), (1, 6));
+    assert_eq!(error.to_string(), "line 1, column 6: unknown type Bar\n  List(Bar)\n       ^");
+    // Elsewhere it is a character like others, and in quotes a `#` is one too.
+    assert!(notation::parse_lines("Int8\n\u{feff}Int8").is_err());
+    assert!(notation::parse_lines("Struct(\"#\": Int8)").is_ok());
 }
 
 #[test]

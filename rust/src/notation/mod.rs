@@ -24,7 +24,7 @@
 //!          | "Map" "(" field "," ("sorted" | "unsorted") ")"
 //!          | "Dictionary" "(" type "," type ")"
 //!          | "RunEndEncoded" "(" field "," field ")"
-//! field    = [name ":"] ["nullable"] type
+//! field    = [name ":"] ["nullable" | "non-null"] type
 //! name     = word | quoted
 //! unit     = "s" | "ms" | "µs" | "us" | "ns"
 //! word     = a letter or "_", then letters, digits and "_"
@@ -34,7 +34,11 @@
 //!
 //! A field of a Struct has its name before it. Elsewhere a field without one has the name that
 //! Arrow gives it: `item` in lists, `entries` in a Map, `run_ends` and `values` in a
-//! RunEndEncoded. A field is not nullable unless it says so.
+//! RunEndEncoded.
+//!
+//! A field is not nullable unless it says `nullable`; `non-null` may be said too and is never
+//! printed. Another tool may leave the word out where a field is nullable: its `List(Int32)` is
+//! `List(nullable Int32)` here.
 
 mod error;
 mod figures;

@@ -20,13 +20,25 @@ pub fn parse(text: &str) -> Result<DataType, ParseError> {
     }
 }
 
-/// The types of a text with one type to a line; empty lines and lines that begin with `#` are
-/// passed over.
+/// The types of a text with one type to a line.
+///
+/// Empty lines are passed over, and so are lines whose first character, spaces aside, is `#`. A
+/// byte order mark at the front of the text is no part of it.
+///
+/// ```
+/// use pemzhulaq::{notation, DataType};
+/// let text = "\u{feff}# our column\nInt64\n\n  # the till's\n  Utf8\n";
+/// assert_eq!(notation::parse_lines(text).unwrap(), [DataType::Int64, DataType::Utf8]);
+/// ```
 pub fn parse_lines(text: &str) -> Result<Vec<DataType>, ParseError> {
-    let lines = text.lines().enumerate();
-    let typed = lines.filter(|(_, line)| !line.trim().is_empty() && !line.starts_with('#'));
-    typed.map(|(at, line)| parse(line).map_err(|error| error.in_line(at + 1))).collect()
+    let text = text.strip_prefix(BYTE_ORDER_MARK).unwrap_or(text);
+    let has_type = |line: &str| !matches!(line.trim_start().chars().next(), None | Some('#'));
+    let lines = text.lines().enumerate().filter(|(_, line)| has_type(line));
+    lines.map(|(at, line)| parse(line).map_err(|error| error.in_line(at + 1))).collect()
 }
+
+/// What some programs put before the first character of a file.
+const BYTE_ORDER_MARK: char = '\u{feff}';
 
 impl FromStr for DataType {
     type Err = ParseError;
@@ -151,8 +163,8 @@ impl<'a> Parser<'a> {
             token = self.tokens.next()?;
         }
         let nullable = token == Token::Word("nullable");
-        if nullable {
-            self.check_nullable()?;
+        if nullable || token == Token::NonNull {
+            self.check_mark(&token)?;
             token = self.tokens.next()?;
         }
         let head = self.head(token)?;
@@ -198,21 +210,23 @@ impl<'a> Parser<'a> {
         }
     }
 
-    /// `nullable` was just taken; an error if it may not be said here.
-    fn check_nullable(&self) -> Result<(), ParseError> {
+    /// `nullable` or `non-null` was just taken; an error if it may not be said here.
+    fn check_mark(&self, mark: &Token) -> Result<(), ParseError> {
         let message = match self.open_kind() {
             Some(kind) if kind.has_fields() => return Ok(()),
             Some(kind) => format!("the parts of a {kind} are never nullable"),
             None => "a type is never nullable where it is not a part".to_string(),
         };
-        Err(self.tokens.error(self.tokens.taken(), message))
+        let advice = if *mark == Token::NonNull { ": leave non-null out" } else { "" };
+        Err(self.tokens.error(self.tokens.taken(), format!("{message}{advice}")))
     }
 
     /// The head of the type whose word was just taken.
     fn head(&mut self, token: Token) -> Result<Head, ParseError> {
         let place = self.tokens.taken();
         let Token::Word(word) = token else {
-            return Err(self.tokens.error(place, format!("expected a type, found {token}")));
+            let message = format!("expected a type, found {token}{}", token.hint());
+            return Err(self.tokens.error(place, message));
         };
         let Some(kind) = Kind::from_word(word) else {
             return Err(self.tokens.error(place, unknown(word)));
@@ -229,6 +243,6 @@ impl<'a> Parser<'a> {
 fn unknown(word: &str) -> String {
     match Kind::all().find(|kind| kind.word().eq_ignore_ascii_case(word)) {
         Some(kind) => format!("unknown type {word}, did you mean {kind}?"),
-        None => format!("unknown type {}", short(word)),
+        None => format!("unknown type {}{}", short(word), Token::Word(word).hint()),
     }
 }

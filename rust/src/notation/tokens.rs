@@ -1,15 +1,42 @@
 //! The words, numbers, labels and signs of a text.
 
 use super::{continues_word, starts_word, ParseError};
+use crate::Kind;
 use std::fmt;
 
 #[derive(Clone, Debug, PartialEq)]
 pub(super) enum Token<'a> {
     Word(&'a str),
+    /// `non-null`, which has a sign in it and so is no word.
+    NonNull,
     Number(&'a str),
     Quoted(Vec<u8>),
     Sign(char),
     End,
+}
+
+impl Token<'_> {
+    /// What a message adds where something was met that may be meant to say whether a field is
+    /// nullable, as `nonnull` or `NOT NULL` is; nothing where something else was met.
+    pub fn hint(&self) -> &'static str {
+        if self.is_like_a_mark() {
+            "; a field is not nullable unless nullable stands before its type \
+             (non-null may stand there too)"
+        } else {
+            ""
+        }
+    }
+
+    fn is_like_a_mark(&self) -> bool {
+        let word = match self {
+            Token::NonNull => return true,
+            Token::Word(word) if *word != Kind::Null.word() => word.to_ascii_lowercase(),
+            _ => return false,
+        };
+        let word = word.replace('_', "");
+        let rest = word.strip_prefix("non").or(word.strip_prefix("not")).unwrap_or(&word);
+        matches!(rest, "" | "null" | "nullable")
+    }
 }
 
 /// As a message names what was found.
@@ -17,12 +44,15 @@ impl fmt::Display for Token<'_> {
     fn fmt(&self, f: &mut fmt::Formatter<'_>) -> fmt::Result {
         match self {
             Token::Word(text) | Token::Number(text) => f.write_str(&short(text)),
+            Token::NonNull => f.write_str(NON_NULL),
             Token::Quoted(_) => f.write_str("a label in quotes"),
             Token::Sign(sign) => write!(f, "'{sign}'"),
             Token::End => f.write_str("the end of the text"),
         }
     }
 }
+
+const NON_NULL: &str = "non-null";
 
 /// The tokens of a text, with one looked at ahead.
 pub(super) struct Tokens<'a> {
@@ -62,7 +92,8 @@ impl<'a> Tokens<'a> {
 
     /// An error at the token ahead.
     pub fn expected(&self, what: &str) -> ParseError {
-        self.error(self.start, format!("expected {what}, found {}", self.ahead))
+        let found = &self.ahead;
+        self.error(self.start, format!("expected {what}, found {found}{}", found.hint()))
     }
 
     /// Takes the token ahead and looks at the one behind it.
@@ -74,6 +105,7 @@ impl<'a> Tokens<'a> {
         let (token, length) = match trimmed.chars().next() {
             None => (Token::End, 0),
             Some('"') => self.quoted(trimmed)?,
+            Some(_) if has_non_null(trimmed) => (Token::NonNull, NON_NULL.len()),
             Some(c) if starts_word(c) => {
                 let word = front(trimmed, continues_word);
                 (Token::Word(word), word.len())
@@ -160,6 +192,11 @@ pub(super) fn short(text: &str) -> String {
         Some((at, _)) => format!("{}...", &text[..at]),
         None => text.to_string(),
     }
+}
+
+/// Whether `non-null`, and no longer word, is at the front of a text.
+fn has_non_null(text: &str) -> bool {
+    text.strip_prefix(NON_NULL).is_some_and(|rest| !rest.starts_with(continues_word))
 }
 
 /// The longest front of a text whose characters all pass a test.
