@@ -6,7 +6,7 @@ use crate::{Kind, Label};
 use std::fmt;
 
 /// What a type says by itself, zone and parts left out.
-#[derive(Clone, Copy)]
+#[derive(Clone, Copy, PartialEq, Eq)]
 pub(crate) struct Head {
     pub kind: Kind,
     /// A decimal's precision, or the number of a unit.

@@ -15,6 +15,7 @@
 //! ```
 //!
 //! - [`coerce`]: types in, the common type out.
+//! - [`pairing`]: which fields of two Structs are matched by place, of which no answer tells.
 //! - [`DataType`], [`Field`], [`notation`]: types as an enum, and as text.
 //! - [`sheet`]: types as bytes, both ways.
 //! - [`raw`]: the calls over bytes and lent buffers, without any allocation.
@@ -24,6 +25,7 @@
 
 pub mod coerce;
 pub mod notation;
+pub mod pairing;
 pub mod raw;
 pub mod sheet;
 
