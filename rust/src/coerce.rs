@@ -17,7 +17,7 @@ pub enum Question {
 }
 
 impl Question {
-    /// The three, in the order in which the papers name them.
+    /// The three, in the order in which their answers are printed.
     pub const ALL: [Question; 3] = [Question::List, Question::Union, Question::Compare];
 
     /// The word for it.

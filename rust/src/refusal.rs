@@ -1,4 +1,4 @@
-//! The numbers on the slip: why a call was refused.
+//! The refusal numbers: why a call was refused.
 
 use std::fmt;
 

@@ -1,5 +1,6 @@
 //! What README.md shows is what the files say and what runs print.
 
+use std::path::Path;
 use std::process::Command;
 
 const README: &str = include_str!("../README.md");
@@ -36,16 +37,30 @@ fn the_grammar_is_the_modules() {
 /// Runs each `$ pemzhulaq ..` line of the page and compares what follows it.
 #[test]
 fn the_runs_are_real() {
+    let programs = Path::new(env!("CARGO_BIN_EXE_pemzhulaq")).parent().unwrap().to_path_buf();
+    let others = std::env::var_os("PATH").unwrap_or_default();
+    let folders = std::iter::once(programs).chain(std::env::split_paths(&others));
+    let path = std::env::join_paths(folders).unwrap();
     let mut count = 0;
     for block in blocks("console") {
         for run in block.split("$ pemzhulaq").skip(1) {
             let (args, shown) = run.split_once('\n').unwrap();
-            let program = env!("CARGO_BIN_EXE_pemzhulaq");
-            let script = format!("{program}{args} 2>&1");
-            let output = Command::new("sh").args(["-c", &script]).output().unwrap();
+            let script = format!("{{ pemzhulaq{args}; }} 2>&1");
+            let mut shell = Command::new("sh");
+            let output = shell.args(["-c", &script]).env("PATH", &path).output().unwrap();
             assert_eq!(String::from_utf8(output.stdout).unwrap(), shown, "pemzhulaq{args}");
             count += 1;
         }
     }
-    assert!(count >= 5);
+    assert!(count >= 11, "{count} runs");
+}
+
+/// Prose is at most 120 characters wide; tables and code are as wide as they need.
+#[test]
+fn lines_are_short() {
+    let mut is_code = false;
+    for line in README.lines() {
+        is_code ^= line.starts_with("```");
+        assert!(is_code || line.starts_with('|') || line.chars().count() <= 120, "{line}");
+    }
 }

@@ -15,8 +15,14 @@ pub enum Command {
 /// Where the types come from.
 pub enum Source {
     Types(Vec<String>),
+    File(Place),
+    Sheet(Place),
+}
+
+/// What a FILE names: a file, or standard input or output for `-`.
+pub enum Place {
+    Standard,
     File(PathBuf),
-    Sheet(PathBuf),
 }
 
 pub struct Options {
@@ -24,8 +30,19 @@ pub struct Options {
     pub question: Option<Question>,
     pub mask: Mask,
     pub hex: bool,
-    pub encode: Option<PathBuf>,
-    pub out: Option<PathBuf>,
+    pub quiet: bool,
+    pub encode: Option<Place>,
+    pub out: Option<Place>,
+}
+
+impl From<OsString> for Place {
+    fn from(name: OsString) -> Place {
+        if name == "-" {
+            Place::Standard
+        } else {
+            Place::File(name.into())
+        }
+    }
 }
 
 /// What was given so far.
@@ -39,6 +56,7 @@ struct Given {
     encode: Option<OsString>,
     out: Option<OsString>,
     hex: bool,
+    quiet: bool,
 }
 
 pub fn read(mut args: impl Iterator<Item = OsString>) -> Result<Command, Failure> {
@@ -51,6 +69,7 @@ pub fn read(mut args: impl Iterator<Item = OsString>) -> Result<Command, Failure
             "--help" | "-h" => return Ok(Command::Help),
             "--version" | "-V" => return Ok(Command::Version),
             "--hex" => given.hex = true,
+            "--quiet" | "-q" => given.quiet = true,
             "--" => given.add_types(args.by_ref())?,
             _ if text.starts_with('-') => given.set(&text, &mut args)?,
             _ => given.types.push(text),
@@ -107,12 +126,18 @@ impl Given {
         if self.out.is_some() && self.out == self.encode {
             return Err(wrong("--out and --encode name the same file"));
         }
+        let (encode, out) = (self.encode.map(Place::from), self.out.map(Place::from));
+        let is_standard = |place: &Option<Place>| matches!(place, Some(Place::Standard));
+        if self.hex && (is_standard(&encode) || is_standard(&out)) {
+            return Err(wrong("--hex prints lines, but standard output takes the sheet alone"));
+        }
         Ok(Options {
             question,
             mask: self.mask.as_ref().map_or(Ok(Mask::ALL), mask)?,
             hex: self.hex,
-            encode: self.encode.map(PathBuf::from),
-            out: self.out.map(PathBuf::from),
+            quiet: self.quiet,
+            encode,
+            out,
             source: source(self.types, self.file, self.sheet)?,
         })
     }

@@ -53,12 +53,12 @@ impl Drop for Staged<'_> {
 fn check(path: &Path) -> Result<(), Failure> {
     match fs::symlink_metadata(path) {
         Ok(found) if found.is_file() => Ok(()),
-        Ok(_) => Err(at(path, io::Error::other("not a plain file"))),
+        Ok(_) => Err(at(path, io::Error::other("not a plain file (- is standard output)"))),
         Err(error) if error.kind() == ErrorKind::NotFound && path.file_name().is_some() => Ok(()),
         Err(error) => Err(at(path, error)),
     }
 }
 
 fn at(path: &Path, error: io::Error) -> Failure {
-    Failure::wrong(format!("{}: {error}", path.display()))
+    Failure::wrong(format!("cannot write {}: {error}", path.display()))
 }

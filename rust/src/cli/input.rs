@@ -1,11 +1,10 @@
 //! The sheet that is asked about.
 
-use super::args::Source;
+use super::args::{Place, Source};
 use super::Failure;
 use pemzhulaq::{notation, sheet, DataType};
 use std::fs::File;
 use std::io::{self, Read};
-use std::path::Path;
 
 /// Far more than 1,023 types need.
 const MAX_TEXT: u64 = 16 << 20;
@@ -13,9 +12,9 @@ const MAX_TEXT: u64 = 16 << 20;
 pub fn sheet(source: &Source) -> Result<Vec<u8>, Failure> {
     match source {
         Source::Types(texts) => encode(&parse_arguments(texts)?),
-        Source::File(path) => encode(&parse_file(path)?),
+        Source::File(place) => encode(&parse_file(place)?),
         // One byte more than a sheet can have is enough for the call to refuse it.
-        Source::Sheet(path) => read(path, sheet::MAX_SHEET as u64 + 1),
+        Source::Sheet(place) => read(place, sheet::MAX_SHEET as u64 + 1),
     }
 }
 
@@ -31,35 +30,43 @@ fn parse_arguments(texts: &[String]) -> Result<Vec<DataType>, Failure> {
     texts.iter().enumerate().map(parse).collect()
 }
 
-fn parse_file(path: &Path) -> Result<Vec<DataType>, Failure> {
-    let name = name_of(path);
-    let bytes = read(path, MAX_TEXT + 1)?;
+fn parse_file(place: &Place) -> Result<Vec<DataType>, Failure> {
+    let name = name_of(place);
+    let bytes = read(place, MAX_TEXT + 1)?;
     if bytes.len() as u64 > MAX_TEXT {
         return Err(Failure::wrong(format!("{name}: more than {MAX_TEXT} bytes of text")));
     }
     let text = String::from_utf8(bytes).map_err(|error| {
-        let line =
-            error.as_bytes()[..error.utf8_error().valid_up_to()].split(|&b| b == b'\n').count();
-        Failure::wrong(format!("{name}, line {line}: not UTF-8; write a byte as \\xHH in quotes"))
+        let place = place_behind(&error.as_bytes()[..error.utf8_error().valid_up_to()]);
+        Failure::wrong(format!("{name}, {place}: not UTF-8; write a byte as \\xHH in quotes"))
     })?;
     notation::parse_lines(&text).map_err(|error| Failure::wrong(format!("{name}, {error}")))
 }
 
-/// The first bytes of a file, or of standard input for `-`.
-fn read(path: &Path, limit: u64) -> Result<Vec<u8>, Failure> {
+/// The line and the column behind some text.
+fn place_behind(text: &[u8]) -> String {
+    let text = String::from_utf8_lossy(text);
+    let text = text.strip_prefix('\u{feff}').unwrap_or(&text);
+    let last = text.rsplit('\n').next().unwrap_or("");
+    format!("line {}, column {}", text.matches('\n').count() + 1, last.chars().count() + 1)
+}
+
+/// The first bytes of a file or of standard input.
+fn read(place: &Place, limit: u64) -> Result<Vec<u8>, Failure> {
     let mut bytes = Vec::new();
-    let read = if path == Path::new("-") {
-        io::stdin().lock().take(limit).read_to_end(&mut bytes)
-    } else {
-        File::open(path).and_then(|file| file.take(limit).read_to_end(&mut bytes))
+    let read = match place {
+        Place::Standard => io::stdin().lock().take(limit).read_to_end(&mut bytes),
+        Place::File(path) => {
+            File::open(path).and_then(|file| file.take(limit).read_to_end(&mut bytes))
+        }
     };
-    read.map_err(|error| Failure::wrong(format!("{}: {error}", name_of(path))))?;
+    read.map_err(|error| Failure::wrong(format!("cannot read {}: {error}", name_of(place))))?;
     Ok(bytes)
 }
 
-fn name_of(path: &Path) -> String {
-    match path.to_str() {
-        Some("-") => "standard input".to_string(),
-        _ => path.display().to_string(),
+fn name_of(place: &Place) -> String {
+    match place {
+        Place::Standard => "standard input".to_string(),
+        Place::File(path) => path.display().to_string(),
     }
 }

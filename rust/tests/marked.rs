@@ -1,4 +1,4 @@
-//! The worked example and the marked cases of document 01.
+//! The worked example and the marked cases of `docs/FORMAT.md`.
 
 use pemzhulaq::coerce::{self, Error, Question};
 use pemzhulaq::{sheet, DataType, Kind, Mask, Refusal};
@@ -54,6 +54,17 @@ fn marked_cases() {
     assert_eq!(answer(Question::Compare, &["Utf8", "Int32"]), "Int32");
     assert_eq!(answer(Question::Compare, &["Date32", "Int8"]), "Date32");
     assert_eq!(answer(Question::List, &["Date32", "Int8"]), "none");
+}
+
+/// The two that the table has by name, and the same questions of a union.
+#[test]
+fn zones_and_structs() {
+    let zones = ["Timestamp(s, \"A\")", "Timestamp(s, \"B\")"];
+    assert_eq!(answer(Question::List, &zones), zones[1]);
+    assert_eq!(answer(Question::Union, &zones), zones[0]);
+    let structs = ["Struct(a: nullable Int8, b: Int8)", "Struct(b: Int8, a: Int8)"];
+    assert_eq!(answer(Question::List, &structs), "Struct(b: nullable Int8, a: Int8)");
+    assert_eq!(answer(Question::Union, &structs), structs[0]);
 }
 
 #[test]
