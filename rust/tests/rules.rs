@@ -65,7 +65,7 @@ impl Example {
 #[test]
 fn every_example_is_what_is_answered() {
     let path = Path::new(env!("CARGO_MANIFEST_DIR")).join("../docs/RULES.md");
-    let page = fs::read_to_string(path).unwrap();
+    let page = fs::read_to_string(path).expect("docs/RULES.md can be read");
     let prose: Vec<&str> = page.split("```").step_by(2).collect();
     let prose = prose.concat();
     let examples: Vec<Example> =
