@@ -24,7 +24,7 @@ pub fn find(root: &Path) -> Option<PathBuf> {
         println!(
             "cargo::error=no Rust source at {}: set {SETTING} to the file \
              src/type_coercion/binary.rs of the crate datafusion-expr-common 55.2.0 (Apache-2.0, \
-             in the registry of Rust crates, crates.io), or to a folder that has it",
+             in the registry of Rust crates), or to a folder that has it",
             place.display()
         );
         return None;
