@@ -15,6 +15,7 @@ use Rattle.sheet.specs.Encode.{link_to, head_of, header, encode}
 use Rattle.sheet.specs.Read.{records_of, labels_of, label_at, shape_of, field_of, walk_from, start, read}
 use Rattle.sheet.specs.Names.{names_differ}
 use Rattle.sheet.specs.Refusals.{all_zero, torn, any_from, bad_kind, linked, bad_chain, Met, met, record_right, any_wrong, bad_figure, label_right, misplaced, walk, bad_label, Condition, conditions, first_met, refusal}
+use Rattle.sheet.specs.Laws.{AcceptedEncode, AcceptedCarried, AcceptedSame}
 use Rattle.sheet.specs.Carried.{FieldsRight, Carried}
 use Rattle.sheet.specs.Holds.{Plain, Span, Holds}
 use Rattle.sheet.proofs.Tests.{all_at, one_at, or_fst, or_snd, and_fst, and_snd}
@@ -270,15 +271,15 @@ pub sound_holds : (s : List ℕ) → Plain s → Sound s → Holds s (records_of
 sound_holds s plain u = (all_kept s plain u).holds
 
 -- `encode (read s) ≡ s` for every accepted sheet
-pub accepted_encode : (s : List ℕ) → Plain s → refusal s ≡ 0 → encode (read s) ≡ s
+pub accepted_encode : AcceptedEncode
 accepted_encode s plain h = encoded s plain (unrefused s h).sound
 
 -- the types of an accepted sheet may be carried
-pub accepted_carried : (s : List ℕ) → Plain s → refusal s ≡ 0 → Carried (read s)
+pub accepted_carried : AcceptedCarried
 accepted_carried s plain h = carried s plain (unrefused s h).sound (unrefused s h).differ
 
 -- two accepted sheets with the same types are the same bytes
-pub accepted_same : (s s' : List ℕ) → Plain s → Plain s' → refusal s ≡ 0 → refusal s' ≡ 0 → read s ≡ read s' → s ≡ s'
+pub accepted_same : AcceptedSame
 accepted_same s s' plain plain' h h' e = sym (accepted_encode s plain h) ∙ ap encode e ∙ accepted_encode s' plain' h'
 
 -- the chain of an accepted sheet stands in it

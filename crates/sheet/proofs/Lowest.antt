@@ -5,11 +5,7 @@ use mathlib.Core.List.{List, [], ◌∷◌}
 use Prim.Native.Nat.{ℕ, ◌<◌, ◌≤◌}
 use native.Mathlib.Omega.{arith}
 use Rattle.sheet.specs.Refusals.{Condition, conditions, first_met, refusal}
-
--- a condition of a list is met
-pub data Applies : List Condition → ℕ → Type 0 where
-  here : {c : Condition} {cs : List Condition} → c.met ≡ true → Applies (c ∷ cs) c.number
-  later : {c : Condition} {cs : List Condition} {k : ℕ} → Applies cs k → Applies (c ∷ cs) k
+use Rattle.sheet.specs.Laws.{Applies, here, later, Lowest}
 
 abbrev From : ℕ → List Condition → Type 0
 From n [] = Unit
@@ -41,6 +37,6 @@ rising : (s : List ℕ) → From 0 (conditions s)
 rising s = (omega arith, (omega arith, (omega arith, (omega arith, (omega arith, tt)))))
 
 -- the refusal number is that of a condition that is met, and no condition with a lower number is
-pub lowest : (s : List ℕ) → (0 < refusal s → Applies (conditions s) (refusal s)) × ((k : ℕ) → Applies (conditions s) k → refusal s ≤ k)
+pub lowest : Lowest
 unfolding refusal
 lowest s = (found 0 (conditions s) (rising s), λ k a. least 0 (conditions s) (rising s) a)

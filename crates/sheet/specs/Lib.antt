@@ -10,3 +10,4 @@ pub mod Names
 pub mod Holds
 pub mod Bounds
 pub mod Caps
+pub mod Laws

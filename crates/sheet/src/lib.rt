@@ -9,6 +9,7 @@ ghost use Rattle.sheet.specs.Refusals.{number_of};
 pub mod caps;
 pub mod figure;
 pub mod label;
+pub mod laws;
 pub mod record;
 
 // What its numbers fit in says `Bounded`, and no ghost field, as a struct with one takes no `..h`; with u16 and u32 for them each use as a place would be a
