@@ -1,4 +1,4 @@
--- What is accepted is spelled once: the three laws of the sheet. Assumes nothing.
+-- What is accepted is spelled once, and may be carried. Assumes nothing.
 use mathlib.Core.Path.{◌≡◌, refl, ap, ap₂, sym, ◌∙◌}
 use mathlib.Core.Bool.{Bool, true, false, cond, not, ◌&&◌}
 use mathlib.Core.List.{List, [], ◌∷◌, ◌++◌, append-nil, append_assoc}

@@ -47,7 +47,8 @@ agree_all a b e f = sym (ap (λ (l : List ℕ). same_bytes l b) (ext_get_or 0 a 
 by : (g : ℕ → ℕ) {u v x y : ℕ} → u ≡ v → g u ≡ x → g v ≡ y → x ≡ y
 by g e p q = sym p ∙ ap g e ∙ q
 
--- where two strings agree past place j, and so do their bytes from j on by their number, they agree up to the last of these
+-- where two strings agree past place j, and the number of the bytes from j on is the same, they agree up to the last of
+-- these
 module _ (a b : List ℕ) where
   agree_one : (i j t : ℕ) → Agree a b i → j ≤ i → t ≤ j + 1 → get_or a j 0 ≡ get_or b j 0 → Agree a b t
   agree_one i j t f h z e k q = go (native.Mathlib.Decide.dec_lt k j)

@@ -1,4 +1,4 @@
--- "The lowest number wins". Assumes nothing.
+-- The refusal number is the lowest of the conditions that are met. Assumes nothing.
 use mathlib.Core.Path.{◌≡◌, refl}
 use mathlib.Core.Bool.{Bool, true, false, cond}
 use mathlib.Core.List.{List, [], ◌∷◌}

@@ -1,4 +1,4 @@
--- "the four precision caps 9, 18, 38 and 76 belong to the width"
+-- "Each width has a cap of its own: 9 for Decimal32, 18 for Decimal64, 38 for Decimal128 and 76 for Decimal256."
 use Rattle.std.specs.Prelude.{ℕ, cond, eqb}
 use Rattle.sheet.specs.Kind as Kind
 use Rattle.sheet.specs.declared.caps.Width.{Width}

@@ -6,7 +6,7 @@ use Rattle.sheet.specs.Names.{names_differ}
 use Rattle.sheet.specs.Tests.{implies}
 use Rattle.sheet.specs.Refusals.{figures_right}
 
--- "Names and zones are plain bytes", and a length is one byte
+-- "A label is a name or a zone: up to 255 bytes of any value."
 pub record Label (l : List ℕ) : Type 0 where
   pub short : length l ≤ 255
   pub plain : (i : ℕ) → get_or l i 0 < 256
@@ -35,7 +35,9 @@ FieldsRight up end = Unit
 FieldsRight up (field name nullable shape parts rest) =
     FieldRight up name nullable shape parts × (FieldsRight shape.kind parts × FieldsRight up rest)
 
--- "n (1 to 1,024)", "m (at most 16,384)", the figures, and "Names in one Struct differ"
+-- "The number n counts the header too and lies between 1 and 1,024."
+-- "The number m lies between 0 and 16,384."
+-- "The fields of one Struct have names that differ."
 pub record Carried (types : Fields) : Type 0 where
   pub few : 1 + count types ≤ 1024
   pub short : length (labels types) ≤ 16384

@@ -4,12 +4,12 @@ use Rattle.sheet.specs.Types.{Zone, absent, present, Shape, Fields, end, field, 
 use Rattle.sheet.specs.Head.{bytes_of}
 use Rattle.sheet.specs.declared.Head.{Head}
 
--- "first part", "next record; zero ends the chain": the link to a chain whose first record would be number r
+-- "A link is the number of a record, and the link 0 ends a chain.": the link to a chain whose first record would be r
 abbrev pub link_to : ℕ → Fields → ℕ
 link_to r end = 0
 link_to r (field name nullable shape parts rest) = r
 
--- "an empty one has offset 0": the offset of a label whose place is o
+-- "A label without bytes has the offset 0.": the offset of a label whose place is o
 abbrev pub offset : ℕ → List ℕ → ℕ
 offset o [] = 0
 offset o (b ∷ bs) = o
@@ -55,10 +55,10 @@ records r o (field name nullable shape parts rest) =
     bytes_of (head_of o name nullable shape (link_to (r + 1) parts) (link_to (r + 1 + count parts) rest))
     ++ (records (r + 1) i parts ++ records (r + 1 + count parts) (i + length (labels parts)) rest)
 
--- "Record 0 is the header: bytes 0–1 n, bytes 2–3 m, the rest zero"
+-- "Record 0 is the header: n in bytes 0 and 1, m in bytes 2 and 3, and zeros in the other twelve."
 abbrev pub header : ℕ → ℕ → List ℕ
 header n m = n % 256 ∷ n / 256 ∷ m % 256 ∷ m / 256 ∷ replicate 12 0
 
--- "A sheet is n records of 16 bytes, then m bytes of labels"
+-- "A sheet holds n records of sixteen bytes, and m label bytes behind them."
 unfoldable pub encode : Fields → List ℕ
 encode types = header (1 + count types) (length (labels types)) ++ (records 1 0 types ++ labels types)

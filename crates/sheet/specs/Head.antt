@@ -1,4 +1,4 @@
--- The sixteen bytes of a record, field by field (document 01, "Every other record is one type").
+-- The sixteen bytes of a record, field by field. "Each record behind the header says one type."
 use Rattle.std.specs.Prelude.{ℕ, ◌+◌, ◌*◌, ◌/◌, ◌%◌, Bool, cond, List, [], ◌∷◌, length, get_or, ltb, eqb}
 use Rattle.sheet.specs.declared.Head.{Head}
 
@@ -62,7 +62,7 @@ bytes_of h =
     ∷ h.first % 256 ∷ h.first / 256 ∷ h.next % 256 ∷ h.next / 256
     ∷ h.name % 256 ∷ h.name / 256 ∷ h.nlen ∷ h.last ∷ []
 
--- byte 1: bit 0 nullable, bit 1 sorted, bit 2 zone present
+-- "Byte 1 holds three flags: bit 0 says nullable, bit 1 says sorted, and bit 2 says that a zone is present."
 abbrev pub nullable_in : Head → Bool
 nullable_in h = eqb (h.flags % 2) 1
 
@@ -72,7 +72,8 @@ sorted_in h = eqb (h.flags / 2 % 2) 1
 abbrev pub zoned_in : Head → Bool
 zoned_in h = eqb (h.flags / 4 % 2) 1
 
--- bytes 4–7: a size, or for a zone its offset in 4–5 and length in 6
+-- "Bytes 4 to 7 are the size of a FixedSizeBinary or FixedSizeList: 32 bits, signed, and not negative."
+-- "Where a zone is present, bytes 4 and 5 are its offset and byte 6 is its length."
 abbrev pub size_in : Head → ℕ
 size_in h = cond (zoned_in h) 0 h.quad
 

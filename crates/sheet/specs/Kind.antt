@@ -1,4 +1,4 @@
--- The 38 kinds of a record (document 01, "byte 0: kind"), and what belongs to each.
+-- The kinds of a record, and what belongs to each. "Byte 0 is the kind, a number from 1 to 38."
 use Rattle.std.specs.Prelude.{ℕ, Bool, cond, ◌||◌, eqb}
 use Rattle.sheet.specs.Tests.{between}
 
@@ -124,24 +124,30 @@ is_kind k = between null run_end_encoded k
 unfoldable pub is_decimal : ℕ → Bool
 is_decimal k = between decimal32 decimal256 k
 
--- "the four precision caps 9, 18, 38 and 76 belong to the width"
+-- "Each width has a cap of its own: 9 for Decimal32, 18 for Decimal64, 38 for Decimal128 and 76 for Decimal256."
 unfoldable pub cap : ℕ → ℕ
 cap k = cond (eqb k decimal32) 9 (cond (eqb k decimal64) 18 (cond (eqb k decimal128) 38 76))
 
--- "the size of kinds 31 and 34"
+-- "Only kinds 31 and 34 have a size, which may be 0."
 unfoldable pub sized : ℕ → Bool
 sized k = eqb k fixed_size_binary || eqb k fixed_size_list
 
--- "Kinds 20–22 and 24: 0 second, 1 milli, 2 micro, 3 nano. Interval: 0 YearMonth, 1 DayTime, 2 MonthDayNano": the greatest unit, 0 for a kind that has none
+-- "The units of kinds 20 to 22 and 24 are 0 second, 1 millisecond, 2 microsecond and 3 nanosecond."
+-- "The units of an Interval are 0 YearMonth, 1 DayTime and 2 MonthDayNano."
+-- The greatest unit, 0 for a kind that has none.
 unfoldable pub last_unit : ℕ → ℕ
 last_unit k = cond (between time32 timestamp k || eqb k duration) 3 (cond (eqb k interval) 2 0)
 
--- "Kinds 32–34 and 36 have one part, 37 two (index, value), 38 two (run ends, values), 35 any number, others none"
+-- "Kinds 32 to 34 and 36 have one part each."
+-- "A Dictionary has two parts, its index and its value, and RunEndEncoded has two, its run ends and its values."
+-- "A Struct has as many parts as it has fields, and it may have none."
+-- "All other kinds are without parts."
 unfoldable pub parts_right : ℕ → ℕ → Bool
 parts_right k n =
     cond (between list fixed_size_list k || eqb k map) (eqb n 1)
     (cond (between dictionary run_end_encoded k) (eqb n 2) (eqb k struct || eqb n 0))
 
--- "Only parts of 32–36 and 38 may be nullable or have a name"
+-- "The parts of kinds 32 to 36 and 38 may be nullable and may have a name."
+-- "Listed types and the parts of a Dictionary are neither nullable nor named."
 unfoldable pub names_parts : ℕ → Bool
 names_parts k = between list map k || eqb k run_end_encoded

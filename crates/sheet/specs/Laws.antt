@@ -32,7 +32,7 @@ pub data Applies : List Condition → ℕ → Type 0 where
   here : {c : Condition} {cs : List Condition} → c.met ≡ true → Applies (c ∷ cs) c.number
   later : {c : Condition} {cs : List Condition} {k : ℕ} → Applies cs k → Applies (c ∷ cs) k
 
--- "Where several conditions are met, the lowest number that applies is given": the refusal number of bytes is that of a condition that is met, and no
--- condition of a lower number is met
+-- "Where several conditions are met, the lowest number that applies is given.": the refusal number of bytes is that of
+-- a condition that is met, and no condition of a lower number is met
 abbrev pub Lowest : Type 0
 Lowest = (s : List ℕ) → (0 < refusal s → Applies (conditions s) (refusal s)) × ((k : ℕ) → Applies (conditions s) k → refusal s ≤ k)

@@ -1,4 +1,4 @@
--- Names: byte strings that are equal or not, and "Names in one Struct differ".
+-- Names: byte strings that are equal or not. "The fields of one Struct have names that differ."
 use Rattle.std.specs.Prelude.{ℕ, ◌+◌, ◌*◌, ◌/◌, ◌%◌, Bool, true, false, not, ◌&&◌, ◌||◌, List, [], ◌∷◌, eqb}
 use Rattle.sheet.specs.Tests.{all_of}
 use Rattle.sheet.specs.Kind as Kind
@@ -26,8 +26,8 @@ names_differ end = true
 names_differ (field name nullable shape parts rest) =
     all_of (not (eqb shape.kind Kind.struct && repeats parts) ∷ names_differ parts ∷ names_differ rest ∷ [])
 
--- a number of 32 bits that goes by the bytes of a name: its halves change places and bytes are added, four at once while there are four, before it is
--- multiplied by an odd number, so that each byte moves the upper bits
+-- a number of 32 bits that goes by the bytes of a name: its halves change places and bytes are added, four at once
+-- while there are four, before it is multiplied by an odd number, so that each byte moves the upper bits
 abbrev pub stir : ℕ → ℕ → ℕ
 stir k x = 1640531527 * (k / 65536 + k % 65536 * 65536 + x) % 4294967296
 

@@ -25,8 +25,10 @@ shape_of s n h =
 abbrev pub field_of : List ℕ → ℕ → Head → Fields → Fields → Fields
 field_of s n h parts rest = field (label_at s n h.name h.nlen) (nullable_in h) (shape_of s n h) parts rest
 
--- "A walk takes a record, then its parts, then its next, and meets 1, 2, .. n−1 in that order": the chain that a link leads to where record r is
--- the next to be met. A link that leads elsewhere ends it here, and is found by `chain` of Refusals. The first argument bounds the steps.
+-- "The walk takes a record, next its parts, and then the record that follows it in its chain."
+-- "It has to meet the records 1, 2, and so on up to n − 1 in exactly this order."
+-- The chain that a link leads to where record r is the next to be met. A link that leads elsewhere ends it here, and is
+-- found by `bad_chain` of Refusals. The first argument bounds the steps.
 unfoldable pub walk_from : ℕ → List ℕ → ℕ → ℕ → ℕ → Fields
 walk_from zero s n link r = end
 walk_from (suc f) s n link r =
@@ -36,7 +38,7 @@ walk_from (suc f) s n link r =
     let chain = field_of s n h parts rest in
     cond (eqb link r && ltb r n) chain end
 
--- "The listed types are the chain from record 1; with n = 1 the list is empty"
+-- "The listed types are the chain that begins at record 1, and where n is 1 there are none."
 abbrev pub start : ℕ → ℕ
 start n = cond (ltb 1 n) 1 0
 

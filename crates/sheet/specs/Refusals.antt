@@ -1,4 +1,4 @@
--- The refusals 1 to 5 ("Numbers on the slip"), each condition by itself, over any bytes.
+-- The refusals 1 to 5. "Each condition is stated over any bytes, and by itself."
 use Rattle.std.specs.Prelude.{ℕ, zero, suc, ◌+◌, ◌*◌, ◌-◌, ◌%◌, Bool, true, false, cond, not, ◌&&◌, ◌||◌, List, [], ◌∷◌, ◌++◌, length, take, drop, leb, ltb, eqb, Result, Ok, Err}
 use Rattle.sheet.specs.Tests.{all_of, one_of, implies}
 use Rattle.sheet.specs.Kind as Kind
@@ -16,7 +16,8 @@ abbrev pub all_zero : List ℕ → Bool
 all_zero [] = true
 all_zero (b ∷ bs) = eqb b 0 && all_zero bs
 
--- 1 torn: "under 16 bytes, n or m outside its limits, length not 16·n + m, header rest not zero"
+-- 1 torn: "fewer than 16 bytes, an n or m outside its limits, a length that is not 16·n + m,"
+-- "a header whose other bytes are not all zero"
 unfoldable pub torn : List ℕ → Bool
 torn s =
     one_of
@@ -33,7 +34,7 @@ abbrev pub any_from : (ℕ → Bool) → ℕ → ℕ → Bool
 any_from test r zero = false
 any_from test r (suc k) = test r || any_from test (r + 1) k
 
--- 2 kind: "a kind outside 1–38"
+-- 2 kind: "a record behind the header whose kind is not one of 1 to 38"
 unfoldable pub bad_kind : List ℕ → Bool
 bad_kind s = any_from (λ r. not (is_kind (head_at s r).kind)) 1 (records_of s - 1)
 
@@ -48,7 +49,7 @@ linked s link r (field name nullable shape parts rest) =
     ∷ linked s (head_at s r).next (r + 1 + count parts) rest
     ∷ [])
 
--- 3 chain: "the walk or a number of parts is wrong"
+-- 3 chain: "a link, or a number of parts, that is not as the walk needs it"
 unfoldable pub bad_chain : List ℕ → Bool
 bad_chain s = not (all_of (linked s (start (records_of s)) 1 (read s) ∷ eqb (count (read s)) (records_of s - 1) ∷ []))
 
@@ -67,11 +68,12 @@ met up r (field name nullable shape parts rest) =
 abbrev pub walk : List ℕ → List Met
 walk s = met 0 1 (read s)
 
--- byte 3 is signed: the scale plus 128
+-- the scale plus 128: "Byte 3 is the scale s of a decimal, a signed number of eight bits: 253 stands for −3."
 abbrev pub biased : ℕ → ℕ
 biased b = (b + 128) % 256
 
--- "Decimals have 1 ≤ p ≤ cap, s ≤ p where s > 0, and p − s ≤ 127", where biased s is s + 128
+-- "A decimal has 1 ≤ p ≤ cap, a scale above 0 is at most p, and p − s is at most 127."
+-- "Scales are compared as s + 128, which is never negative: p + 1 ≤ s + 128 ≤ p + 128."
 unfoldable pub decimal_right : ℕ → ℕ → ℕ → Bool
 decimal_right most p s = all_of (leb 1 p ∷ leb p most ∷ leb (biased s) (p + 128) ∷ leb (p + 1) (biased s) ∷ [])
 
@@ -79,16 +81,17 @@ decimal_right most p s = all_of (leb 1 p ∷ leb p most ∷ leb (biased s) (p + 
 unfoldable pub figure_right : ℕ → ℕ → ℕ → Bool
 figure_right k figure scale = cond (is_decimal k) (decimal_right (cap k) figure scale) (all_of (leb figure (last_unit k) ∷ eqb scale 0 ∷ []))
 
--- "the size of kinds 31 and 34, signed 32 bits, not negative"
+-- "Bytes 4 to 7 are the size of a FixedSizeBinary or FixedSizeList: 32 bits, signed, and not negative."
 unfoldable pub size_right : ℕ → ℕ → Bool
 size_right k size = cond (sized k) (ltb size 2147483648) (eqb size 0)
 
--- the figures of a type: precision, scale, unit, size, "sorted (Map)", "zone present (Timestamp)"
+-- "The figures of a type are its precision and scale, or its unit, its size, and the flags sorted and zone present."
+-- "Only a Map may be sorted." "Only a Timestamp may have a zone."
 unfoldable pub figures_right : ℕ → ℕ → ℕ → ℕ → Bool → Bool → Bool
 figures_right k figure scale size sorted zoned =
     all_of (figure_right k figure scale ∷ size_right k size ∷ implies sorted (eqb k Kind.map) ∷ implies zoned (eqb k Kind.timestamp) ∷ [])
 
--- the figures of a record, "nullable where none may be, or an unused bit or byte not zero (bytes 12–14 belong to 5)"
+-- a record's figures, its flags and its unused bits and bytes: "Bytes 12 to 14 always belong to 5, and byte 15 to 4."
 unfoldable pub record_right : Head → ℕ → Bool
 record_right h up =
     all_of
@@ -103,11 +106,12 @@ unfoldable pub any_wrong : List ℕ → List Met → Bool
 any_wrong s [] = false
 any_wrong s (r ∷ rs) = not (record_right (head_at s r.number) r.up) || any_wrong s rs
 
--- 4 figure: "precision, scale, unit, size, nullable where none may be, or an unused bit or byte not zero"
+-- 4 figure: "a wrong precision, scale, unit or size, a flag where it may not be,"
+-- "an unused bit or byte that is not zero"
 unfoldable pub bad_figure : List ℕ → Bool
 bad_figure s = any_wrong s (walk s)
 
--- a label of len bytes whose place is o: "an empty one has offset 0"
+-- a label of len bytes whose place is o: "A label without bytes has the offset 0."
 abbrev pub placed : ℕ → ℕ → ℕ → Bool
 placed o at len = eqb at (cond (eqb len 0) 0 o)
 
@@ -120,13 +124,15 @@ label_right h up o =
     ∷ implies (zoned_in h) (placed (o + h.nlen) (zone_at h) (zone_len h))
     ∷ [])
 
--- "Labels lie in record order, name before zone, without gaps, from 0 to m": whether those of the records are not so, from o on
+-- "The labels stand in the order of the records, a record's name before its zone, without gaps, from 0 up to m.":
+-- whether those of the records are not so, from o on
 unfoldable pub misplaced : List ℕ → ℕ → List Met → Bool
 misplaced s o [] = not (eqb o (labels_of s))
 misplaced s o (r ∷ rs) =
     not (label_right (head_at s r.number) r.up o) || misplaced s (o + labelled (head_at s r.number)) rs
 
--- 5 label: "a label out of its place, one where none may be, two equal names in a Struct, label bytes that belong to no label"
+-- 5 label: "a label out of its place or where none may be, two fields of one name in a Struct,"
+-- "label bytes that no record claims"
 unfoldable pub bad_label : List ℕ → Bool
 bad_label s = one_of (misplaced s 0 (walk s) ∷ not (names_differ (read s)) ∷ [])
 
@@ -150,11 +156,12 @@ abbrev pub first_met : List Condition → ℕ
 first_met [] = 0
 first_met (c ∷ cs) = cond c.met c.number (first_met cs)
 
--- "The lowest number wins": the refusal number of bytes, 0 where they are accepted
+-- "Where several conditions are met, the lowest number that applies is given.": the refusal number of bytes, 0 where
+-- they are accepted
 unfoldable pub refusal : List ℕ → ℕ
 refusal s = first_met (conditions s)
 
--- what a check says: the paper's number, 0 for an accepted sheet, and the header's n and m where it is accepted
+-- what a check says: the refusal number, 0 for an accepted sheet, and the header's n and m where it is accepted
 pub record Verdict : Type 0 where
   pub number : ℕ
   pub n : ℕ
@@ -166,7 +173,7 @@ verdict s =
     (record { number = 0; n = records_of s; m = labels_of s })
     (record { number = refusal s; n = 0; m = 0 })
 
--- the paper's number for each refusal of the code
+-- the refusal number for each refusal of the code
 abbrev pub number_of : Refusal → ℕ
 number_of Torn = 1
 number_of Kind = 2

@@ -1,13 +1,13 @@
 -- Type trees: what a sheet says, without its bytes.
 use Rattle.std.specs.Prelude.{ℕ, ◌+◌, Bool, List, [], ◌++◌}
 
--- "A zone that is present may be empty"
+-- "A zone may be present and have no bytes, which is another type than one without a zone."
 pub data Zone : Type 0 where
   absent : Zone
   present : List ℕ → Zone
 
--- What a record says of its type by itself: the kind; byte 2, a decimal's precision or a unit; byte 3, the scale as it is stored, signed 8 bits;
--- the size of kinds 31 and 34; the sorted bit; the zone.
+-- What a record says of its type by itself: the kind; byte 2, a decimal's precision or a unit; byte 3, the scale as it
+-- is stored; the size of kinds 31 and 34; the sorted bit; the zone.
 pub record Shape : Type 0 where
   pub kind : ℕ
   pub figure : ℕ
@@ -16,8 +16,8 @@ pub record Shape : Type 0 where
   pub sorted : Bool
   pub zone : Zone
 
--- A chain of records: each has a name, says whether it is nullable, has a type, which is a shape with its parts, and is followed by the rest of the chain.
--- The listed types of a sheet are a chain whose names are empty and whose fields are not nullable.
+-- A chain of records: each has a name, says whether it is nullable, has a type, which is a shape with its parts, and is
+-- followed by the rest of the chain. The listed types of a sheet are a chain of fields without names, none nullable.
 pub data Fields : Type 0 where
   end : Fields
   field : (name : List ℕ) (nullable : Bool) (shape : Shape) (parts rest : Fields) → Fields
@@ -37,11 +37,11 @@ abbrev pub zone_bytes : Zone → List ℕ
 zone_bytes absent = []
 zone_bytes (present z) = z
 
--- the labels of one record: "name before zone"
+-- the labels of one record: "a record's name before its zone"
 abbrev pub own_labels : List ℕ → Shape → List ℕ
 own_labels name shape = name ++ zone_bytes shape.zone
 
--- "Labels lie in record order, name before zone, without gaps"
+-- "The labels stand in the order of the records, a record's name before its zone, without gaps, from 0 up to m."
 unfoldable pub labels : Fields → List ℕ
 labels end = []
 labels (field name nullable shape parts rest) = own_labels name shape ++ (labels parts ++ labels rest)

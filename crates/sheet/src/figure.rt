@@ -1,5 +1,4 @@
-// What a record says by itself: its kind, its figures, its number of parts and the places of its labels.
-// A kind is the byte of a record: public functions take any byte, of which an enum of 38 kinds would ask more.
+//! The tests of one record: its kind, its figures, its number of parts and the places of its labels.
 #![tactic(auto, using(std::proofs::lemmas::Bool::Decides::nat_tests), unfolding(crate::specs::Tests::between, crate::specs::Tests::all_of, crate::specs::Kind::is_kind, crate::specs::Kind::is_decimal, crate::specs::Kind::names_parts, crate::specs::Kind::parts_right, crate::specs::Kind::last_unit, crate::specs::Kind::sized, crate::specs::Refusals::decimal_right, crate::specs::Refusals::figure_right, crate::specs::Refusals::size_right, crate::specs::Refusals::figures_right, crate::specs::Refusals::record_right, crate::specs::Refusals::label_right))]
 
 ghost use Rattle.std.specs.Prelude.{◌≡◌, ◌<◌, ◌≤◌, cond};
@@ -12,33 +11,35 @@ ghost use Rattle.sheet.specs.Bounds.{Bounded};
 use crate::Head;
 use crate::caps::precision_cap;
 
-// Whether k is one of lo to hi.
+/// Whether k is one of lo to hi, both included.
 pub fn within(lo: u8, hi: u8, k: u8) -> bool
     ensures { result ≡ between lo hi k }
 {
     (lo..=hi).contains(&k)
 }
 
+/// Whether a byte is a kind, 1 to 38.
 pub fn is_kind(k: u8) -> bool
     ensures { result ≡ is_kind k }
 {
     within(1, 38, k)
 }
 
+/// Whether a kind is a decimal's, 14 to 17.
 pub fn is_decimal(k: u8) -> bool
     ensures { result ≡ is_decimal k }
 {
     within(14, 17, k)
 }
 
-// Whether the parts of a record of kind k may have names and be nullable.
+/// Whether the parts of a record of kind k may have names and be nullable.
 pub fn names_parts(k: u8) -> bool
     ensures { result ≡ names_parts k }
 {
     within(32, 36, k) || k == 38
 }
 
-// Whether a record of kind k may have n parts.
+/// Whether a record of kind k may have n parts.
 pub fn parts_right(k: u8, n: usize) -> bool
     ensures { result ≡ parts_right k n }
 {
@@ -50,6 +51,7 @@ pub fn parts_right(k: u8, n: usize) -> bool
     }
 }
 
+// The greatest unit of a kind, 0 for one that has none.
 fn last_unit(k: u8) -> u8
     ensures { result ≡ last_unit k }
 {
@@ -60,13 +62,14 @@ fn last_unit(k: u8) -> u8
     }
 }
 
-// A scale byte, plus 128.
+/// A scale that is stored as a byte, plus 128: 0 for −128, 255 for 127.
 pub fn biased_scale(b: u8) -> usize
     ensures { (result ≡ biased b) × (result < 256) }
 {
     (usize::from(b) + 128) % 256
 }
 
+// Whether a decimal may have a precision and a scale, where the cap is `most`.
 fn decimal_right(most: usize, p: u8, s: u8) -> bool
     ensures { result ≡ decimal_right most p s }
 {
@@ -75,7 +78,7 @@ fn decimal_right(most: usize, p: u8, s: u8) -> bool
     1 <= p && p <= most && s <= p + 128 && p + 1 <= s
 }
 
-// Whether bytes 2 and 3 of a record of kind k are right.
+/// Whether bytes 2 and 3 of a record of kind k are right: precision and scale, or a unit.
 pub fn figure_right(k: u8, figure: u8, scale: u8) -> bool
     ensures { result ≡ figure_right k figure scale }
 {
@@ -86,6 +89,7 @@ pub fn figure_right(k: u8, figure: u8, scale: u8) -> bool
     }
 }
 
+// Whether a type of kind k may have a size.
 fn size_right(k: u8, size: usize) -> bool
     ensures { result ≡ size_right k size }
 {
@@ -95,6 +99,7 @@ fn size_right(k: u8, size: usize) -> bool
     }
 }
 
+// Whether a type of kind k may have all these figures.
 fn figures_right(k: u8, figure: u8, scale: u8, size: usize, sorted: bool, zoned: bool) -> bool
     ensures { result ≡ figures_right k figure scale size sorted zoned }
 {
@@ -104,15 +109,15 @@ fn figures_right(k: u8, figure: u8, scale: u8, size: usize, sorted: bool, zoned:
         && (!zoned || k == 22)
 }
 
-// The size that bytes 4 to 7 hold; 0 where they hold the place of a zone, as a Timestamp has no size.
+/// The size that bytes 4 to 7 hold; 0 where they hold the place of a zone, as a Timestamp has no size.
 pub fn size_in(zoned: bool, quad: usize) -> usize
     ensures { result ≡ cond zoned 0 quad }
 {
     if zoned { 0 } else { quad }
 }
 
-// Whether a record that is a part of one of kind up has nothing of refusal 4. `&` leaves no branch on bits that change from record to record. The bar is: not
-// slower than the old form. With `&&` mixed records took 9.3 ns each in place of 4.9.
+/// Whether a record has nothing of refusal 4, as a part of one of kind up, or as a listed type where up is 0.
+// `&` leaves no branch on bits that change from record to record.
 pub fn record_right(h: Head, up: u8) -> bool
     ensures { result ≡ record_right h up }
 {
@@ -125,14 +130,14 @@ pub fn record_right(h: Head, up: u8) -> bool
         & (h.last == 0)
 }
 
-// Whether a label of len bytes is where it belongs, o.
+// Whether a label of len bytes is where it belongs, at o.
 fn is_placed(o: usize, at: usize, len: usize) -> bool
     ensures { result ≡ placed o at len }
 {
     if len == 0 { at == 0 } else { at == o }
 }
 
-// Whether the labels of a record that is a part of one of kind up are right, and begin at o.
+/// Whether a record has nothing of refusal 5 where its labels are to begin at o; up is as for `record_right`.
 pub fn label_right(h: Head, up: u8, o: usize) -> bool
     requires { (o < 1000000) × Bounded h }
     ensures { result ≡ label_right h up o }
@@ -142,7 +147,7 @@ pub fn label_right(h: Head, up: u8, o: usize) -> bool
         && (!h.zoned() || is_placed(o + h.nlen, h.zone_at(), h.zone_len()))
 }
 
-// How many label bytes a record has.
+/// How many label bytes a record has: those of its name, and of its zone where one is present.
 pub fn label_bytes(h: Head) -> usize
     requires { Bounded h }
     ensures { (result ≡ labelled h) × (result ≤ 510) }

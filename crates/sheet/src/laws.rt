@@ -3,10 +3,11 @@
 
 ghost use Rattle.sheet.specs.Laws.{AcceptedEncode, CarriedRead, CarriedAccepted, AcceptedCarried, AcceptedSame, Lowest};
 
-/// Each list of types that a sheet may carry has one spelling: writing and reading are inverse to each other, in both directions.
+/// Each list of types that a sheet may carry has one spelling, and writing and reading undo each other.
 ///
-/// Encoding what is read from accepted bytes gives them back; reading the encoding of types that may be carried gives them back; such an encoding is
-/// accepted; the types of an accepted sheet may be carried; two accepted sheets with the same types are the same bytes.
+/// Encoding what is read from accepted bytes gives them back, and reading the encoding of types that may be carried
+/// gives these back. Such an encoding is accepted, and the types of an accepted sheet may be carried. Two accepted
+/// sheets that list the same types are the same bytes.
 #[tactic(auto, using(crate::proofs::Accepted::accepted_encode, crate::proofs::Carrying::carried_read, crate::proofs::Carrying::carried_accepted, crate::proofs::Accepted::accepted_same))]
 pub fn one_spelling()
     ensures accepted_encode { AcceptedEncode }
@@ -14,12 +15,10 @@ pub fn one_spelling()
     ensures carried_accepted { CarriedAccepted }
     ensures accepted_carried { AcceptedCarried }
     ensures accepted_same { AcceptedSame }
-{
-}
+{}
 
 /// The refusal number of a sheet is the lowest of the conditions that are met.
 #[tactic(auto, using(crate::proofs::Lowest::lowest))]
 pub fn lowest_refusal()
     ensures { Lowest }
-{
-}
+{}

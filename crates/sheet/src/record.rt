@@ -1,12 +1,11 @@
-// Reading a record's head by value.
+//! The heads of records.
 ghost use Rattle.std.specs.Prelude.{◌≡◌, ◌+◌, ◌<◌, ◌≤◌, length};
 ghost use Rattle.sheet.specs.Head.{word, quad_at, eight_at, head_from, head_at};
 ghost use Rattle.sheet.specs.Bounds.{Bounded};
 
 use crate::Head;
 
-// Two bytes, the lower first. `word_at`, `quad_at` and `eight_at` are three functions, as `from_le_bytes` belongs to each number's type: over a const parameter
-// they would give bytes and not the number.
+/// Two bytes as one number, the lower first.
 pub fn word_at(s: &[u8], i: usize) -> usize
     requires { i + 1 < length s.now }
     ensures { (result ≡ word s.now i) × (result < 65536) }
@@ -14,7 +13,7 @@ pub fn word_at(s: &[u8], i: usize) -> usize
     usize::from(u16::from_le_bytes([s[i], s[i + 1]]))
 }
 
-// Four bytes as one number, the lowest first.
+/// Four bytes as one number, the lowest first.
 pub fn quad_at(s: &[u8], i: usize) -> usize
     requires { i + 3 < length s.now }
     ensures { (result ≡ quad_at s.now i) × (result < 4294967296) }
@@ -22,7 +21,7 @@ pub fn quad_at(s: &[u8], i: usize) -> usize
     u32::from_le_bytes([s[i], s[i + 1], s[i + 2], s[i + 3]]) as usize
 }
 
-// Eight bytes, the lowest first.
+// Eight bytes as one number, the lowest first.
 pub(crate) fn eight_at(s: &[u8], i: usize) -> usize
     requires { i + 7 < length s.now }
     ensures { result ≡ eight_at s.now i }
@@ -39,7 +38,7 @@ pub(crate) fn eight_at(s: &[u8], i: usize) -> usize
     ])
 }
 
-// The head that the sixteen bytes from i on hold.
+/// The head in the sixteen bytes from byte i on.
 pub fn head_from(s: &[u8], i: usize) -> Head
     requires { i + 16 ≤ length s.now }
     ensures { (result ≡ head_from s.now i) × Bounded result }
@@ -58,7 +57,7 @@ pub fn head_from(s: &[u8], i: usize) -> Head
     }
 }
 
-// The head of record r, zeros where the record is past the end.
+/// The head of record r, or zeros where the sixteen bytes of that record are not all inside.
 #[tactic(auto, using(std::proofs::lemmas::Bool::Decides::nat_tests), unfolding(crate::specs::Head::head_at))]
 pub fn head_at(s: &[u8], r: usize) -> Head
     ensures { (result ≡ head_at s.now r) × Bounded result }
