@@ -1,12 +1,10 @@
--- Byte strings that are the same, and a part that is cut off at the end. Assumes nothing.
-use mathlib.Core.Path.{◌≡◌, refl, sym, ◌∙◌, ap, ap₂}
+-- Byte strings that are the same. Assumes nothing.
+use mathlib.Core.Path.{◌≡◌, refl, ◌∙◌, ap, ap₂}
 use mathlib.Core.Bool.{Bool, true, false, ◌&&◌}
 use mathlib.Core.List.{List, [], ◌∷◌}
-use Prim.Native.Nat.{ℕ, suc, ◌+◌, ◌-◌, ◌<◌, ◌≤◌, min}
-use native.Mathlib.Omega.{arith}
+use Prim.Native.Nat.{ℕ, suc, ◌≤◌}
 use lib.Dec.{eqb}
-use lib.ListN.{length, take, drop, drop_of_length-le, length-drop}
-use lib.Seq.{take_all, take-nil}
+use lib.ListN.{length, drop, drop_of_length-le}
 use borrow.Author.Tests.{eq-eqb, eqb-true}
 use Rattle.sheet.specs.Names.{same_bytes}
 use Rattle.sheet.proofs.Tests.{and_fst, and_snd, never}
@@ -39,21 +37,3 @@ same_lengths (x ∷ xs) (y ∷ ys) n = ap (λ (b : Bool). eqb x y && b) (same_le
 pub same_done : (a b : List ℕ) (i : ℕ) → length a ≤ i → length b ≤ i → same_bytes (drop i a) (drop i b) ≡ true
 unfolding same_bytes
 same_done a b i h k = ap₂ same_bytes (drop_of_length-le a {i = i} h) (drop_of_length-le b {i = i} k)
-
--- a part that is cut off at the end of the list
-pub cut_part : (s : List ℕ) (i k : ℕ) → take (min (min i (length s) + k) (length s) - min i (length s)) (drop (min i (length s)) s) ≡ take k (drop i s)
-cut_part s i k = go (native.Mathlib.Decide.dec_lt i (length s))
-  where
-    go : Dec (i < length s) → take (min (min i (length s) + k) (length s) - min i (length s)) (drop (min i (length s)) s) ≡ take k (drop i s)
-    go (yes lt) =
-        let e : min i (length s) ≡ i = omega arith in
-        rw e (inside (native.Mathlib.Decide.dec_lt (i + k) (length s)))
-      where
-        inside : Dec (i + k < length s) → take (min (i + k) (length s) - i) (drop i s) ≡ take k (drop i s)
-        inside (yes l) = let e : min (i + k) (length s) - i ≡ k = omega arith in ap (λ (j : ℕ). take j (drop i s)) e
-        inside (no g) =
-            take_all (min (i + k) (length s) - i) (drop i s) (omega (arith, length-drop i s)) ∙ sym (take_all k (drop i s) (omega (arith, length-drop i s)))
-    go (no ge) =
-        let e : drop (min i (length s)) s ≡ [] = drop_of_length-le s {i = min i (length s)} (omega arith) in
-        let e' : drop i s ≡ [] = drop_of_length-le s {i = i} (omega arith) in
-        ap (take (min (min i (length s) + k) (length s) - min i (length s))) e ∙ take-nil (min (min i (length s) + k) (length s) - min i (length s)) ∙ sym (ap (take k) e' ∙ take-nil k)
