@@ -1,9 +1,10 @@
-// The search for two parts of one name in one Struct.
+//! The search for two parts of one name in one Struct.
 #![tactic(auto)]
 
 mod numbers;
 mod order;
 mod record;
+/// Whether two names in one Struct are equal.
 pub mod twins;
 
 // Whether two are equal was not found out.

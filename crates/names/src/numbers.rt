@@ -1,4 +1,4 @@
-// Two equal names among those of several records, found by numbers that are made of the names.
+//! Two equal names among those of several records, found by numbers that are made of the names.
 ghost use Rattle.std.specs.Prelude.{◌≡◌, ℕ, ◌/◌, ◌<◌, ◌≤◌, length, get_or, Ok};
 ghost use Rattle.names.specs.Twins.{name_at, First, Tells, number_of, Numbered};
 
@@ -27,11 +27,11 @@ fn key(x: u32) -> usize
     (x >> 19) as usize
 }
 
-// Two equal ones of several numbers. The keys of the numbers that were met are marked, so that few numbers are looked for.
+// Two equal ones of several numbers. The keys of the numbers that were met are marked, so that few are looked for.
 fn equal_numbers(xs: &[u32]) -> Option<(usize, usize)>
     ensures { Tells (λ (i : ℕ). get_or xs.now i 0) (length xs.now) (Ok result) }
 {
-    // No heap: a mark for each key.
+    // A mark for each key.
     let mut marks = [false; 8192];
     for (i, x) in xs.iter().enumerate() {
         let q = key(*x);
@@ -46,7 +46,8 @@ fn equal_numbers(xs: &[u32]) -> Option<(usize, usize)>
 }
 
 impl Records<'_> {
-    // Two equal names among those of several records, of which the numbers are known. It is not known where names that differ have one number.
+    // Two equal names among those of several records, whose numbers are given; Err where names that differ have one
+    // number.
     pub(crate) fn by_number(self, recs: &[u16], numbers: &[u32]) -> Pair
         requires { (length numbers.now ≤ length recs.now) × Numbered self.s.now self.n recs.now (length numbers.now) numbers.now }
         ensures { Tells (name_at self.entry.s.now self.entry.n recs.now) (length numbers.now) result }

@@ -1,4 +1,4 @@
-// Whether names are equal, found by putting the records that have them in order.
+//! Whether names are equal, found by putting the records that have them in order.
 ghost use Rattle.std.specs.Prelude.{◌≡◌, ℕ, ◌+◌, ◌<◌, true, false, length};
 ghost use Rattle.std.specs.Bool.{MatchBool};
 ghost use Rattle.sheet.specs.Names.{same_bytes};

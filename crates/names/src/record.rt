@@ -1,4 +1,4 @@
-// The names of records, by record number.
+//! The names of records, by record number.
 ghost use Rattle.std.specs.Prelude.{◌≡◌, ◌*◌, ◌<◌, ◌≤◌, length};
 ghost use Rattle.sheet.specs.Names.{same_bytes};
 ghost use Rattle.names.specs.Twins.{name_of};
@@ -6,8 +6,7 @@ ghost use Rattle.names.specs.Twins.{name_of};
 use sheet::label::{label_at, same_name};
 use sheet::record::head_at;
 
-// A sheet of n records. `refusals::Records` holds more facts, which `twins` does not ask of its callers. `Numbered` is about a slice that is lent, so it is a
-// clause and no ghost field.
+// A sheet of n records.
 #[derive(Clone, Copy)]
 pub(crate) struct Records<'a> {
     pub(crate) s: &'a [u8],

@@ -1,4 +1,5 @@
-// Whether two names in one Struct are equal. A link is followed only to a record past floor, so that each way along a chain ends.
+//! Whether two names in one Struct are equal. A link is followed only to a record past floor, so that each way along a
+//! chain ends.
 ghost use Rattle.std.specs.Prelude.{◌≡◌, not, ℕ, ◌+◌, ◌*◌, ◌<◌, ◌≤◌, length};
 ghost use Rattle.sheet.specs.Types.{Fields, count};
 ghost use Rattle.sheet.specs.Read.{label_at};
@@ -43,8 +44,8 @@ impl Chain<'_> {
         None
     }
 
-    // Compares each name with those before it, unless there are more than most.
-    // Inlined: as a call it costs Structs of few fields a tenth.
+    // Compares each name with those before it, unless there are more than most. Inlined, as most Structs have few
+    // fields.
     #[inline(always)]
     fn compared(self, most: usize) -> Pair
         ensures { Compared self.entry.records.s.now self.entry.records.n self.entry.floor self.entry.link most result }
@@ -102,8 +103,8 @@ impl Chain<'_> {
     fn repeats_long(self) -> bool
         ensures { Repeats self.entry.records.s.now self.entry.records.n self.entry.floor self.entry.link result }
     {
-        // No heap: room for 1,024 records, filled up to k; where it is full all are compared. Two arrays: one of structs is 8 KiB and not 6 to set to 0, and
-        // costs a Struct of nine fields a tenth.
+        // Room for 1,024 records, filled up to k; where it is full all are compared. Two arrays are 6 KiB to set to 0,
+        // where one of structs would be 8.
         let mut recs = [0u16; 1024];
         let mut numbers = [0u32; 1024];
         let k = self.list(&mut recs, &mut numbers);
@@ -153,7 +154,8 @@ impl Records<'_> {
     }
 }
 
-// Whether a Struct at any depth has two parts of one name, where the chain from record 1 has all records of the sheet: each stands in the row from 1 to n - 1.
+/// Whether a Struct at any depth has two parts of one name, in a sheet of n records whose walk from record 1 meets them
+/// all.
 pub fn twins(s: &[u8], n: usize) -> bool
     requires { (n < 65536) × (16 * n ≤ length s.now) }
     ensures { (o : ℕ) (t : Fields) → Holds s.now n 1 o t → 1 + count t ≡ n → result ≡ not (names_differ t) }

@@ -43,7 +43,8 @@ unfolding arity count
 arity_count end = omega arith
 arity_count (field name nullable shape parts rest) = omega (arith, arity_count rest)
 
--- a listing that has come to record number at: the types that are left stand there, and their kinds are still to be laid from i on
+-- a listing that has come to record number at: the types that are left stand there, and their kinds are still to be
+-- laid from i on
 pub record Along (s w₀ : List ℕ) (at i : ℕ) (w : List ℕ) : Type 0 where
   types : Fields
   stands : StandsAt s at types

@@ -2,7 +2,7 @@
 use mathlib.Core.Path.{◌≡◌, ap, ◌∙◌}
 use mathlib.Core.Bool.{Bool}
 use mathlib.Core.List.{List}
-use Prim.Native.Nat.{ℕ, ◌+◌, ◌<◌, ◌≤◌}
+use Prim.Native.Nat.{ℕ, ◌+◌, ◌<◌}
 use native.Mathlib.Omega.{arith}
 use lib.ListN.{length}
 use borrow.Author.Tests.{ne_eqb}
@@ -37,10 +37,6 @@ stands_end a = a.leads.is
 module _ {s : List ℕ} {at : ℕ} {name : List ℕ} {nullable : Bool} {shape : Shape} {parts rest : Fields} (a : StandsAt s at (field name nullable shape parts rest)) where
   pub stands_past : 0 < at
   stands_past = omega (arith, a.leads.is, a.leads.above)
-
-  pub stands_inside : at + (1 + (count parts + count rest)) ≤ records_of s
-  unfolding count
-  stands_inside = omega (arith, a.leads.is, a.leads.inside)
 
   stands_head : type_at s at ≡ head_of a.o name nullable shape (link_to (a.r + 1) parts) (link_to (a.r + 1 + count parts) rest)
   unfolding type_at

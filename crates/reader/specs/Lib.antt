@@ -1,3 +1,4 @@
 pub mod Record
 pub mod Standing
 pub mod Listed
+pub mod Laws

@@ -16,7 +16,7 @@ over [] w = w
 over (b ∷ bs) [] = []
 over (b ∷ bs) (x ∷ w) = b ∷ over bs w
 
--- the paper's number, 0 for an accepted sheet; how many types it lists; every byte of the output
+-- the refusal number, 0 for an accepted sheet; how many types it lists; every byte of the output
 pub record Seen : Type 0 where
   pub number : ℕ
   pub types : ℕ

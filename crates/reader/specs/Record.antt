@@ -5,26 +5,26 @@ use Rattle.sheet.specs.Read.{records_of, label_at, start}
 use Rattle.sheet.specs.declared.Head.{Head}
 use Rattle.reader.specs.declared.Entry.{Entry}
 
--- the head of the type at record r; "zero ends the chain": record 0 is the header and no type
+-- the head of the type at record r; record 0 is the header and no type: "the link 0 ends a chain"
 unfoldable pub type_at : List ℕ → ℕ → Head
 type_at s r = cond (eqb r 0) blank (head_at s r)
 
--- "The listed types are the chain from record 1; with n = 1 the list is empty"
+-- "The listed types are the chain that begins at record 1, and where n is 1 there are none."
 abbrev pub listed_at : List ℕ → ℕ
 listed_at s = start (records_of s)
 
--- "byte 0: kind"
+-- "Byte 0 is the kind, a number from 1 to 38."
 abbrev pub kind_at : List ℕ → ℕ → ℕ
 kind_at s r = (type_at s r).kind
 
--- "bytes 8–9 first part, 10–11 next record"
+-- "Bytes 8 and 9 lead to the first part, and bytes 10 and 11 to the next record of the same chain."
 abbrev pub first_at : List ℕ → ℕ → ℕ
 first_at s r = (type_at s r).first
 
 abbrev pub next_at : List ℕ → ℕ → ℕ
 next_at s r = (type_at s r).next
 
--- "bytes 12–13 name offset, 14 name length"
+-- "Bytes 12 and 13 are the offset of the name, and byte 14 is its length."
 abbrev pub name_at : List ℕ → ℕ → List ℕ
 name_at s r = label_at s (records_of s) (type_at s r).name (type_at s r).nlen
 

@@ -1,6 +1,4 @@
-// A thin reader of a sheet: it borrows the bytes and stands at a record. Each of its functions takes it apart and calls one of `record`; `look`
-// serves callers that have a slice and a record number.
-// A kind is the byte of a record: public functions take any byte, of which an enum of 38 kinds would ask more.
+//! A thin reader of a sheet: it borrows the bytes and stands at a record. It reads any bytes, accepted or not.
 #![tactic(auto)]
 
 ghost use Rattle.std.specs.Prelude.{◌≡◌};
@@ -8,26 +6,35 @@ ghost use Rattle.reader.specs.Record.{listed_at, kind_at, first_at, next_at, nam
 
 use record::{first_at, first_listed, kind_at, name_at, next_at};
 
+/// What is proved of readers.
+pub mod laws;
+/// The listing of a sheet's types.
 pub mod list;
+/// What a record says, by a slice and a record number.
 pub mod record;
 
-// A sheet and the record at which it is read, 0 where a chain has ended.
+/// A sheet and the record at which it is read.
 #[derive(Clone, Copy)]
 pub struct Reader<'a> {
+    /// The bytes of the sheet.
     pub sheet: &'a [u8],
+    /// The number of the record, 0 where a chain has ended.
     pub at: usize,
 }
 
-// What a record says of itself: its kind, and the records of its first part and of its next.
+/// What a record says, besides its figures and its name.
 #[derive(Clone, Copy)]
 pub struct Entry {
+    /// The kind of its type, 0 where there is no record.
     pub kind: u8,
+    /// The record of its first part, 0 for none.
     pub first: usize,
+    /// The next record of its chain, 0 at its end.
     pub next: usize,
 }
 
 impl<'a> Reader<'a> {
-    // A reader at the first listed type.
+    /// A reader at the first listed type, or at record 0 where there is none.
     pub fn new(sheet: &'a [u8]) -> Reader<'a>
         ensures { (result.sheet ≡ sheet.entry) × (result.at ≡ listed_at sheet.now) }
     {
@@ -37,14 +44,14 @@ impl<'a> Reader<'a> {
         }
     }
 
-    // The kind of the type, 0 where the chain has ended: record 0 reads as zeros and no kind is 0, so an Option would be no plainer.
+    /// The kind of the type, 0 where the chain has ended.
     pub fn kind(self) -> u8
         ensures { result ≡ kind_at self.entry.sheet.now self.entry.at }
     {
         kind_at(self.sheet, self.at)
     }
 
-    // The reader at the first part.
+    /// The reader at the first part, or at record 0 where there is none.
     pub fn first_part(self) -> Reader<'a>
         ensures { (result.sheet ≡ self.entry.sheet) × (result.at ≡ first_at self.entry.sheet.now self.entry.at) }
     {
@@ -54,7 +61,7 @@ impl<'a> Reader<'a> {
         }
     }
 
-    // The reader at the next record of the chain.
+    /// The reader at the next record of the chain, or at record 0 at its end.
     pub fn next(self) -> Reader<'a>
         ensures { (result.sheet ≡ self.entry.sheet) × (result.at ≡ next_at self.entry.sheet.now self.entry.at) }
     {
@@ -64,7 +71,7 @@ impl<'a> Reader<'a> {
         }
     }
 
-    // The name, as a part of the sheet.
+    /// The name, as a part of the sheet; no bytes where there is none.
     pub fn name(self) -> &'a [u8]
         ensures { result.now ≡ name_at self.entry.sheet.now self.entry.at }
     {
@@ -72,7 +79,7 @@ impl<'a> Reader<'a> {
     }
 }
 
-// What the reader at a record says, for a caller that has none.
+/// What a reader at record `at` says, for a caller that has no reader.
 pub fn look(sheet: &[u8], at: usize) -> Entry
     ensures { result ≡ entry_at sheet.now at }
 {

@@ -1,4 +1,4 @@
-// Listing a sheet's types for a caller.
+//! The listing of a sheet's types.
 ghost use Rattle.std.specs.Prelude.{◌≡◌, set};
 ghost use Rattle.sheet.specs.Types.{arity};
 ghost use Rattle.sheet.specs.Read.{read};
@@ -10,7 +10,8 @@ use crate::record::first_listed;
 use refusals::check;
 use sheet::Refusal;
 
-// Lists a sheet's types, and tells how many they are: the kind of each goes to the front of the output, as far as that has room.
+/// Puts the kinds of a sheet's listed types at the front of the output, one byte each, as far as it has room, and gives
+/// how many types they are. A sheet that is refused leaves the output as it was.
 pub fn listed_kinds(sheet: &[u8], output: &mut [u8]) -> Result<usize, Refusal>
     ensures { seen_in result output.new ≡ listing sheet.now output.old }
 {
@@ -34,7 +35,7 @@ fn list_kinds(sheet: &[u8], output: &mut [u8]) -> usize
     i
 }
 
-// Stores a byte where there is room. By a test: after a slice's `get_mut` a proof knows its length alone.
+// Stores a byte where there is room.
 fn put(output: &mut [u8], i: usize, b: u8)
     ensures { output.new ≡ set output.old i b }
 {

@@ -1,5 +1,5 @@
-// What a record says, by its number. Record 0 is the header and no type: a link to it ends a chain, and it reads as zeros.
-// A kind is the byte of a record: public functions take any byte, of which an enum of 38 kinds would ask more.
+//! What a record says, by its number. Record 0 is the header and no type: a link to it ends a chain, and it reads as
+//! zeros.
 ghost use Rattle.std.specs.Prelude.{◌≡◌, ◌<◌, get_or};
 ghost use Rattle.sheet.specs.Bounds.{Bounded};
 ghost use Rattle.sheet.specs.Read.{records_of};
@@ -16,7 +16,7 @@ fn byte_at(s: &[u8], i: usize) -> usize
     s.get(i).map_or(0, |&b| usize::from(b))
 }
 
-// The header's number of records. Byte by byte, as a slice of one byte has a number too: `first_chunk` gives none there.
+// The header's number of records. A byte that is missing counts as 0.
 fn records_of(s: &[u8]) -> usize
     ensures { (result ≡ records_of s.now) × (result < 65536) }
 {
@@ -35,33 +35,35 @@ fn type_at(s: &[u8], at: usize) -> Head
     }
 }
 
-// The record of the first listed type, 0 where the list is empty.
+/// The record of the first listed type, 0 where the list is empty.
 pub fn first_listed(s: &[u8]) -> usize
     ensures { result ≡ listed_at s.now }
 {
     usize::from(1 < records_of(s))
 }
 
-// The kind of the type, 0 where the chain has ended: record 0 reads as zeros and no kind is 0, so an Option would be no plainer.
+/// The kind of the type at a record, 0 where the chain has ended.
 pub fn kind_at(s: &[u8], at: usize) -> u8
     ensures { result ≡ kind_at s.now at }
 {
     type_at(s, at).kind
 }
 
+/// The record of the first part of a record, 0 for none.
 pub fn first_at(s: &[u8], at: usize) -> usize
     ensures { result ≡ first_at s.now at }
 {
     type_at(s, at).first
 }
 
+/// The next record of the chain, 0 at its end.
 pub fn next_at(s: &[u8], at: usize) -> usize
     ensures { result ≡ next_at s.now at }
 {
     type_at(s, at).next
 }
 
-// The name of the record, as a part of the sheet.
+/// The name of a record, as a part of the sheet; no bytes where there is none.
 pub fn name_at(s: &[u8], at: usize) -> &[u8]
     ensures { result.now ≡ name_at s.now at }
 {

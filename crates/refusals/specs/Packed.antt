@@ -43,7 +43,8 @@ pub record Passes (h : Head) (up o r : ℕ) : Type 0 where
 abbrev pub usual_decimal : ℕ → ℕ → ℕ → Bool
 usual_decimal k p s = eqb k 16 && (leb s p && (ltb 0 p && leb p 38))
 
--- the numbers of 32 bits of a record that says nothing but a kind that has no parts, at most a usual decimal's figures, and its links
+-- the numbers of 32 bits of a record that says nothing but a kind that has no parts, at most a usual decimal's figures,
+-- and its links
 abbrev pub plain : ℕ → ℕ → ℕ → Bool
 plain a b d =
     eqb (b + d) 0
@@ -60,7 +61,8 @@ pub record Passed (h : Head) (up found r : ℕ) : Type 0 where
   pub few : r % 4294967296 ≤ found % 4294967296 + 510
   pub small : r < 17179869184
 
--- the records from r to e - 1 are plain and each leads to the following one, but that the link of the last is the one given
+-- the records from r to e - 1 are plain and each leads to the following one, but that the link of the last is the one
+-- given
 pub record Row (s : List ℕ) (n r e link : ℕ) : Type 0 where
   pub some : r ≤ e
   pub inside : e ≤ n

@@ -40,8 +40,8 @@ abbrev pub Says : List ℕ → ℕ → ℕ → Progress → ℕ → Fields → O
 Says s up link p k t (Some (q, j)) = (linked s link p.due t ≡ true) × ((q ≡ pass_all s p (met up p.due t)) × (j ≡ k + arity t))
 Says s up link p k t None = linked s link p.due t ≡ false
 
--- what a walk along the chain that a link leads to comes to: what it found and how many records the chain has; or None where a link leads elsewhere or a
--- number of parts is wrong
+-- what a walk along the chain that a link leads to comes to: what it found and how many records the chain has; or None
+-- where a link leads elsewhere or a number of parts is wrong
 pub record Walks (s : List ℕ) (n up link : ℕ) (p : Progress) (k : ℕ) (o : Option (Progress × ℕ)) : Type 0 where
   pub grows : Grows n p o
   pub says : (f : ℕ) → n ≤ p.due + f → Says s up link p k (walk_from f s n link p.due) o

@@ -1,4 +1,4 @@
-// The header of a sheet and the kinds of its records: refusals 1 and 2.
+//! The header of a sheet and the kinds of its records: refusals 1 and 2.
 ghost use Rattle.std.specs.Prelude.{◌≡◌, true, false, not, ℕ, ◌+◌, ◌*◌, ◌-◌, ◌<◌, ◌≤◌, length, get_or, take, drop, MatchOption};
 ghost use Rattle.sheet.specs.Head.{head_at};
 ghost use Rattle.sheet.specs.Kind.{is_kind};
@@ -17,7 +17,8 @@ fn is_rest_zero(s: &[u8]) -> bool
     quad_at(s, 4) + quad_at(s, 8) + quad_at(s, 12) == 0
 }
 
-// Whether a sheet is torn: refusal 1. A wrong length is what is met most; `|` keeps the other tests behind it, which the compiler puts before it with `||`.
+// Whether a sheet is torn: refusal 1. A wrong length is met most, and `|` keeps the compiler from putting the other
+// tests before it.
 fn is_torn(s: &[u8]) -> bool
     ensures { result ≡ torn s.now }
 {
@@ -32,16 +33,17 @@ fn is_torn(s: &[u8]) -> bool
     (n < 1) | (1024 < n) | (16384 < m) | !is_rest_zero(s)
 }
 
-// A sheet that is not torn.
+/// A sheet that is not torn: its length is that of its header's n and m, which are within their limits.
 #[derive(Clone, Copy)]
 pub struct Whole<'a> {
+    /// The bytes of the sheet.
     pub sheet: &'a [u8],
     ghost bytes: { Plain sheet.now },
     ghost whole: { torn sheet.now ≡ false },
 }
 
 impl<'a> Whole<'a> {
-    // A sheet as one that is not torn; None where it is: refusal 1.
+    /// A sheet as one that is not torn; None where it is, which is refusal 1.
     pub fn of(sheet: &'a [u8]) -> Option<Whole<'a>>
         ensures { MatchOption result (torn sheet.now ≡ true) (λ w. w.sheet.now ≡ sheet.now) }
     {
@@ -73,8 +75,7 @@ impl Records<'_> {
         false
     }
 
-    // Whether a record has a kind outside 1 to 38. Eight at a time: by four a sheet that is refused here takes 1.1 times as long or more, which is not always
-    // faster than the Rust side of the benchmark, and one at a time takes the whole check up to 1.2 times as long (ten integers).
+    // Whether a record has a kind outside 1 to 38. Eight are tested at a time, as most sheets have none.
     pub(crate) fn odd_kind(&self) -> bool
         ensures { result ≡ any_from (λ r. not (is_kind (head_at self.now.sheet.now r).kind)) 1 (self.now.n - 1) }
     {

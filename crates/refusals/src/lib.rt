@@ -1,6 +1,7 @@
-// The check of a sheet, which gives refusals 1 to 5.
+//! The check of a sheet, which gives refusals 1 to 5 (docs/FORMAT.md).
 #![tactic(auto)]
 
+/// The header of a sheet and the kinds of its records: refusals 1 and 2.
 pub mod header;
 mod pass;
 mod records;
@@ -26,7 +27,7 @@ struct Progress {
     label: bool,
 }
 
-// Checks a sheet: the refusal of the lowest number that applies, or the header's n and m.
+/// Checks a sheet of any bytes: the refusal with the lowest number that applies, or the header's n and m.
 pub fn check(s: &[u8]) -> Result<Sizes, Refusal>
     ensures { meaning result ≡ verdict s.now }
 {
@@ -36,7 +37,7 @@ pub fn check(s: &[u8]) -> Result<Sizes, Refusal>
     check_whole(whole)
 }
 
-// The same of a sheet that is not torn.
+/// Checks a sheet that is known not to be torn: refusals 2 to 5, or the header's n and m.
 pub fn check_whole(whole: Whole<'_>) -> Result<Sizes, Refusal>
     ensures { meaning result ≡ verdict whole.entry.sheet.now }
 {
@@ -44,6 +45,7 @@ pub fn check_whole(whole: Whole<'_>) -> Result<Sizes, Refusal>
     check_records(s, word_at(s, 0), word_at(s, 2))
 }
 
+// The check behind the header.
 fn check_records(s: &[u8], n: usize, m: usize) -> Result<Sizes, Refusal>
     requires { Fits s.now n m }
     ensures { meaning result ≡ verdict s.now }

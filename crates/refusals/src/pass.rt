@@ -1,5 +1,5 @@
-// The tests of one record by the walk: by few numbers where these show that nothing is wrong, and else by every test of refusals 4 and 5.
-// A kind is the byte of a record: public functions take any byte, of which an enum of 38 kinds would ask more.
+//! The tests of one record by the walk: by few numbers where these show that nothing is wrong, and else by every test
+//! of refusals 4 and 5.
 ghost use Rattle.std.specs.Prelude.{◌≡◌, true, ℕ, ◌+◌, ◌%◌, ◌<◌, ◌≤◌, length, IfSome};
 ghost use Rattle.sheet.specs.Head.{head_from, by_quads};
 ghost use Rattle.sheet.specs.Bounds.{Bounded};
@@ -28,8 +28,8 @@ fn is_light(a: usize, b: usize) -> bool
     a / 256 % 256 < 2 && figure_right(kind, (a / 65536 % 256) as u8, (a / 16777216) as u8)
 }
 
-// How many label bytes a light record has that is a part of one of kind up, where the next label is at byte at, by its first and its last number
-// of 32 bits. None leaves open whether it is right.
+// How many label bytes a light record has that is a part of one of kind up, where the next label is at byte at, by its
+// first and its last number of 32 bits. None leaves open whether it is right.
 fn light_labels(a: usize, d: usize, up: u8, at: usize) -> Option<usize>
     requires { light (by_quads a 0 0 0) ≡ true }
     ensures { IfSome result (Passes (by_quads a 0 0 d) up at) }
@@ -46,7 +46,8 @@ fn light_labels(a: usize, d: usize, up: u8, at: usize) -> Option<usize>
     None
 }
 
-// Whether a record is a Timestamp with a zone that has no name and is not nullable, and its unit and its unused bytes are right.
+// Whether a record is a Timestamp with a zone that has no name and is not nullable, and its unit and its unused bytes
+// are right.
 fn is_stamped(h: Head) -> bool
     ensures { result ≡ true → Stamped h }
 {
@@ -78,8 +79,8 @@ fn zone_labels(quad: usize, next: usize) -> Option<usize>
     None
 }
 
-// Goes past a record, by every test. The number `found` is the offset of the next label, with 2³² where a figure is wrong and 2³³ where a label is. Why it is
-// one number stands in walk.rt.
+// Goes past a record, by every test. The number `found` is the offset of the next label, with 2³² where a figure is
+// wrong and 2³³ where a label is.
 fn pass_open(h: Head, up: u8, found: usize) -> usize
     requires { (found % 4294967296 < 1000000) × Bounded h }
     ensures { Passed h up found result }
@@ -90,7 +91,8 @@ fn pass_open(h: Head, up: u8, found: usize) -> usize
     at + label_bytes(h) + 4294967296 * usize::from(figure) + 8589934592 * usize::from(label)
 }
 
-// Goes past the record at byte i, by the quick tests where these decide. It calls `pass_open` twice, so that this is not inlined.
+// Goes past the record at byte i, by the quick tests where these decide. It calls `pass_open` twice, so that this is
+// not inlined.
 pub(crate) fn pass_record(s: &[u8], i: usize, up: u8, found: usize) -> usize
     requires { (i + 16 ≤ length s.now) × ((found % 4294967296 < 1000000) × (found < 17179869184)) }
     ensures { Passed (head_from s.now i) up found result }

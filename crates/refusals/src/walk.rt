@@ -1,7 +1,5 @@
-// The walk over the records of a sheet, which finds what refusals 3, 4 and 5 are about. What it found so far is one number, which `pass` makes. The bar is: not
-// slower than the old form. With a struct in its place a Rust version of this file took up to twice as long (Dictionaries 2.1 times, zoned Timestamps 1.7,
-// Structs 1.6).
-// A kind is the byte of a record: public functions take any byte, of which an enum of 38 kinds would ask more.
+//! The walk over the records of a sheet, which finds what refusals 3, 4 and 5 are about. What it found so far is one
+//! number, made by `pass`, which stays in a register where a struct would not.
 ghost use Rattle.std.specs.Prelude.{◌≡◌, ◌+◌, ◌*◌, ◌-◌, ◌<◌, ◌≤◌, true, length};
 ghost use Rattle.refusals.specs.Walk.{Ready, Walks};
 ghost use Rattle.refusals.specs.Found.{outset};
@@ -28,7 +26,8 @@ fn is_usual_decimal(k: usize, p: usize, s: usize) -> bool
     k == 16 && s <= p && 0 < p && p <= 38
 }
 
-// Whether a record says nothing but a kind that has no parts, at most a usual decimal's figures, and its links, by its numbers of 32 bits.
+// Whether a record says nothing but a kind that has no parts, at most a usual decimal's figures, and its links, by its
+// numbers of 32 bits.
 fn is_plain(a: usize, b: usize, d: usize) -> bool
     requires { (b < 4294967296) × (d < 4294967296) }
     ensures { result ≡ plain a b d }
@@ -57,7 +56,8 @@ impl Records<'_> {
             )
     }
 
-    // Follows the chain that begins at record r through plain records, each of which leads to the following one, and tells at which record it stopped.
+    // Follows the chain that begins at record r through plain records, each of which leads to the following one, and
+    // gives the record at which it stopped.
     fn plain_row(&self, r: usize) -> usize
         requires { r ≤ self.now.n }
         ensures { Row self.now.sheet.now self.now.n r result result }
@@ -70,8 +70,8 @@ impl Records<'_> {
         self.n
     }
 
-    // Walks the chain that a link leads to, in a record of kind up, by such a row as far as it goes. None where a link leads elsewhere or a number of
-    // parts is wrong.
+    // Walks the chain that a link leads to, in a record of kind up, by such a row as far as it goes. None where a link
+    // leads elsewhere or a number of parts is wrong.
     #[cycle(walk_chain_walk_records)]
     #[inline(always)]
     fn walk_chain(&self, up: u8, link: usize, due: usize, found: usize) -> Option<Walked>
@@ -92,7 +92,8 @@ impl Records<'_> {
         self.walk_records(up, last, found, last - due)
     }
 
-    // Walks the chain from the record that is due, of which k records are passed. Parts are walked by a call, the chain by the loop.
+    // Walks the chain from the record that is due, of which k records are passed. Parts are walked by a call, the
+    // chain by the loop.
     #[cycle(walk_chain_walk_records)]
     fn walk_records(&self, up: u8, due: usize, found: usize, k: usize) -> Option<Walked>
         requires { Ready self.now.n (progress_of due found) k × (found < 17179869184) }

@@ -1,4 +1,4 @@
-//! The laws of sheets: what is proved of the definitions in specs/. A function here does nothing, and its contract is the law.
+//! The laws of sheets, proved of the definitions in specs/. A function here does nothing: its contract is a law.
 ghost use Rattle.sheet.specs.Laws.{AcceptedEncode, CarriedRead, CarriedAccepted, AcceptedCarried, AcceptedSame, Lowest};
 
 /// Each list of types that a sheet may carry has one spelling, and writing and reading undo each other.
