@@ -1,5 +1,5 @@
 //! The header of a sheet and the kinds of its records: refusals 1 and 2.
-ghost use Rattle.std.specs.Prelude.{◌≡◌, true, false, not, ℕ, ◌+◌, ◌*◌, ◌-◌, ◌<◌, ◌≤◌, length, get_or, take, drop, MatchOption};
+ghost use Rattle.std.specs.Prelude.{◌≡◌, true, false, not, ◌+◌, ◌*◌, ◌-◌, ◌<◌, ◌≤◌, length, get_or, take, drop, MatchOption};
 ghost use Rattle.sheet.specs.Head.{head_at};
 ghost use Rattle.sheet.specs.Kind.{is_kind};
 ghost use Rattle.sheet.specs.Holds.{Plain};

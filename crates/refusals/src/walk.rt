@@ -1,6 +1,6 @@
 //! The walk over the records of a sheet, which finds what refusals 3, 4 and 5 are about. What it found so far is one
 //! number, made by `pass`, which stays in a register where a struct would not.
-ghost use Rattle.std.specs.Prelude.{◌≡◌, ◌+◌, ◌*◌, ◌-◌, ◌<◌, ◌≤◌, true, length};
+ghost use Rattle.std.specs.Prelude.{◌≡◌, ◌+◌, ◌*◌, ◌-◌, ◌<◌, ◌≤◌, true};
 ghost use Rattle.refusals.specs.Walk.{Ready, Walks};
 ghost use Rattle.refusals.specs.Found.{outset};
 ghost use Rattle.refusals.specs.Packed.{progress_of, usual_decimal, plain, PlainAt, Row, Tells};
