@@ -237,16 +237,13 @@ Asks F space s t floor l r b = (a o up : ℕ) (lf rf : Fields) → Held space s 
 pub asks_past : (F : Fields → Fields → Bool) (space : Space) (s t : List ℕ) (floor l r : ℕ) (b : Bool) → floor < l → space.n ≤ l → Asks F space s t floor l r b
 asks_past F space s t floor l r b lo hi a o up lf rf x y = absurd (held_past lf lo hi x)
 
--- records of the chain at a link, in a buffer of n records: none, lists of none, its first, and the next
+-- records of the chain at a link, in a buffer of n records: none, lists of none, and the next
 module _ (n : ℕ) (s : List ℕ) (link : ℕ) where
   pub within_none : Within n s link 0
   within_none space t en c p = absurd (omega arith)
 
   pub lists_none : Lists n s link (replicate 1024 0)
   lists_none = All-replicate (Member n s link) 1024 0 (omega arith, within_none)
-
-  pub within_first : Within n s link link
-  within_first space t en c p = record { fields = t; chain = c; ends = end_self t }
 
   module _ (j : ℕ) (h : Head) (e : h ≡ head_at s j) (past : 0 < j) (w : Within n s link j) where
     pub within_next : Within n s link h.next

@@ -2,7 +2,6 @@
 use mathlib.Core.Path.{◌≡◌, refl, ap, sym, subst, ◌∙◌}
 use mathlib.Core.Bool.{Bool, true, false, cond, ◌&&◌}
 use mathlib.Core.List.{List}
-use mathlib.Core.Logic.{inl}
 use Rattle.std.specs.Prelude.{Option, None, Some}
 use Rattle.std.specs.Bool.{then_some}
 use Prim.Native.Nat.{ℕ, ◌+◌, ◌<◌, ◌≤◌}
@@ -31,7 +30,7 @@ use Rattle.buffers.proofs.Rows.{chain_next}
 use Rattle.buffers.proofs.Known.{next_at_lem, known_some, known_name, behind_known}
 use Rattle.partners.specs.Naming.{Finds, Within, noted, Notes, Matched, Walked, StructsFed}
 use Rattle.partners.proofs.Noting.{noted_long, notes_trans, noted_says}
-use Rattle.partners.proofs.Naming.{end_self, end_next, end_has, held_past, name_is, within_first, within_next, within_here, want_is, pairs_found}
+use Rattle.partners.proofs.Naming.{end_next, end_has, held_past, name_is, within_next, within_here, want_is, pairs_found}
 
 -- which fields feed those of lf, of which the first stands at the place of the first of pf, a part of rf
 abbrev feed_from : Feed → Fields → Fields → Fields → Option Feed
@@ -49,16 +48,6 @@ pub record Walking (n : ℕ) (s t : List ℕ) (known : Option ℕ) (by_name : Fe
   pub within : Within n t r j
   pub whole : (feed : Option Feed) → ((space : Space) → n ≡ space.n → FedFrom known by_name space s t low i r j feed)
       → (space : Space) → n ≡ space.n → StructsFed known by_name space s t floor l r feed
-
-module _ (n : ℕ) (s t : List ℕ) (known : Option ℕ) (by_name : Feed) (floor l r key : ℕ) (old : List ℕ) where
-  pub walk_from : Walking n s t known by_name floor l r key old floor l r old
-  walk_from =
-      record {
-        long = refl;
-        notes = λ space en k. inl refl;
-        within = within_first n t r;
-        whole = λ feed f space en a o up lf rf x y. f space en a o up lf rf rf x y (end_self rf) y;
-      }
 
 -- the returns of the walk
 module _ (n : ℕ) (s t : List ℕ) (known : Option ℕ) (by_name : Feed) (floor l r key : ℕ) (old : List ℕ) (low i j : ℕ) (table : List ℕ)

@@ -29,7 +29,8 @@ pub record Picks (space : Space) (s : List ℕ) (name : List ℕ) (t : Fields) (
 abbrev pub Finds : ℕ → List ℕ → List ℕ → ℕ → ℕ → Type 0
 Finds n s name link found = (space : Space) (t : Fields) → n ≡ space.n → Chain space s link t → Picks space s name t found
 
--- what a search says of record l, where p stands at its place in the chain at r and something may be known of the names of both chains
+-- what a search says of record l, where p stands at its place in the chain at r and something may be known of
+-- the names of both chains
 abbrev pub RowPairs : Option ℕ → Space → List ℕ → List ℕ → ℕ → ℕ → ℕ → ℕ → Type 0
 RowPairs known space s t l r p found =
     (name : List ℕ) (nullable : Bool) (shape : Shape) (parts rest rf pf : Fields) → Chain space s l (field name nullable shape parts rest) → Chain space t r rf → Chain space t p pf
@@ -41,7 +42,8 @@ pub record Tried (space : Space) (s : List ℕ) (link : ℕ) (t : Fields) : Type
   pub chain : Chain space s link fields
   pub ends : EndOf fields t
 
--- an index of a chain by its names has a row for each of 1,024 values of the upper bits of a number that goes by their bytes
+-- an index of a chain by its names has a row for each of 1,024 values of the upper bits of a number that goes
+-- by their bytes
 abbrev pub row_for : List ℕ → ℕ
 row_for name = mixed 0 name / 4194304
 
@@ -57,7 +59,8 @@ Member n s link j = (j < 1024) × Within n s link j
 abbrev pub Lists : ℕ → List ℕ → ℕ → List ℕ → Type 0
 Lists n s link = All (Member n s link)
 
--- the rows of an index, and what stands before each record in its row, lead to records of whatever chain stands at a link
+-- the rows of an index, and what stands before each record in its row, lead to records of whatever chain stands
+-- at a link
 abbrev pub Indexed : ℕ → List ℕ → ℕ → List ℕ → List ℕ → Type 0
 Indexed n s link heads olds = Lists n s link heads × Lists n s link olds
 
@@ -95,7 +98,8 @@ pub record Matched (n : ℕ) (s t : List ℕ) (floor l r key : ℕ) (old new : L
   pub notes : Notes n s t key old new
   pub asks : (space : Space) → n ≡ space.n → (a o up : ℕ) (lf rf : Fields) → Held space s floor l a o up lf → Chain space t r rf → b ≡ fields_have_same_names lf rf
 
--- which fields feed those of a Struct: the ones at their places where the names stand in one order, by_name's where they are the same in another
+-- which fields feed those of a Struct: the ones at their places where the names stand in one order, by_name's
+-- where they are the same in another
 abbrev pub structs_feed : Feed → Fields → Fields → Option Feed
 structs_feed by_name l r = cond (same_order l r) (Some Feed.Place) (cond (fields_have_same_names l r) (Some by_name) None)
 

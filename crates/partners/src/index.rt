@@ -1,4 +1,5 @@
-// The search for a name in a chain by an index of its names.
+//! The search for a name in a chain by an index of its names.
+
 ghost use Rattle.std.specs.Prelude.{◌≡◌, ◌<◌, ◌≤◌, length};
 ghost use Rattle.std.specs.Option.{IfSome};
 ghost use Rattle.partners.specs.Naming.{Finds, Indexed, row_for};
@@ -7,8 +8,8 @@ use crate::search::{find, is_named};
 use sheet::label::{label_at, mix};
 use sheet::record::head_at;
 
-// An index of a chain by its names: the last record of each row, and for each record the one before it in its row. Each record of a chain is below 1,024. The
-// chain stands beside it: `Indexed` would be one ghost field more, and each step of `add` would have to keep it.
+/// An index of a chain by its names: the last record of each row, and for each record the one
+/// before it in its row; 0 is none. Each record of a chain is below 1,024.
 #[derive(Clone, Copy)]
 pub(crate) struct Index {
     heads: [u16; 1024],
@@ -23,7 +24,7 @@ fn row_at(name: &[u8]) -> usize
 }
 
 impl Index {
-    // The index of the chain at a link.
+    /// The index of the chain at a link.
     pub(crate) fn of(t: &[u8], n: usize, link: usize) -> Index
         requires { n ≤ 1024 }
         ensures { Indexed n t.now link result.heads result.olds }
@@ -57,8 +58,9 @@ impl Index {
         }
     }
 
-    // A field of the chain at r that has a name; 0 where there is none. The index says which are tried first. None where eight of a row were tried in
-    // vain: a row is longer where names are made to fall into it. On None nothing rests but the time that the search takes.
+    /// A field of the chain at `r` that has a name; 0 where there is none. The index says which are
+    /// tried first. None where eight of a row were tried in vain: a row is longer where names are
+    /// made to fall into it.
     pub(crate) fn look_up(&self, t: &[u8], n: usize, want: &[u8], r: usize) -> Option<usize>
         requires { ((n ≤ 1024) × (length want.now ≤ 255)) × Indexed n t.now r self.now.heads self.now.olds }
         ensures { IfSome result (λ j. (j < 1024) × Finds n t.now want.now r j) }

@@ -1,5 +1,5 @@
-// What feeds the fields of a chain by their names, and how many they are. Slices and links stand one by one: floor and l move on in the loops, and
-// `are_searched` hands them on as they stand.
+//! What feeds the fields of a chain by their names, and how many they are.
+
 ghost use Rattle.std.specs.Prelude.{◌≡◌, not, ℕ, ◌≤◌, length, eqb};
 ghost use Rattle.sheet.specs.Types.{Fields, arity};
 ghost use Rattle.buffers.specs.Writes.{side};
@@ -18,8 +18,9 @@ use buffers::{Feed, Space};
 use sheet::label::label_at;
 use sheet::record::head_at;
 
-// Whether each name of the chain at a link of s is one of the chain at a link of t, of which there is an index. Those that are found are noted in a table,
-// from a key on. Where a row of the index is long, the rest are looked for in order.
+// Whether each name of the chain at a link of s is one of the chain at a link of t, of which there
+// is an index. Those that are found are noted in a table, from a key on. Where a row of the index
+// is long, the rest are looked for in order.
 fn are_listed(
     s: &[u8],
     t: &[u8],
@@ -71,8 +72,7 @@ fn are_indexed(
     are_listed(s, t, n, floor, l, r, &Index::of(t, n, r), key, table)
 }
 
-// The same by a search for each name. An index is made where there are many: no loop is shared with `are_listed`, as this one goes over to it after four names,
-// and what they share is the way along the chain.
+// The same by a search for each name. From the fifth name on an index is made.
 fn are_searched(
     s: &[u8],
     t: &[u8],
@@ -109,8 +109,9 @@ fn are_searched(
     true
 }
 
-// What feeds the fields of the chain at a link of s: those at their places in the chain at a link of t where the names stand in one order, by_name where they are
-// the same in another. Names that stand in order are noted on the way, and the search goes on from the first that does not.
+// What feeds the fields of the chain at a link of s: those at their places in the chain at a link
+// of t where the names stand in one order, by_name where they are the same in another. Names that
+// stand in order are noted on the way, and the search goes on from the first that does not.
 fn feed_along(
     s: &[u8],
     t: &[u8],
@@ -148,7 +149,11 @@ fn feed_along(
     Some(Feed::Place)
 }
 
-// What feeds the fields of the chain at a link of a side, where that of the other is the right of two Structs. Partners that are found are noted in a table.
+/// What feeds the fields of the chain at `l` of the left from the chain at `r` of the right:
+/// `Feed::Place` where the names stand in one order, `by_name` where they are the same in another,
+/// and none where a name of the left is missing. Where `known` says at which record the two chains
+/// differ, the names before it are not compared. Partners whose names were compared are noted in
+/// the table.
 pub fn struct_feed(
     sheet: &[u8],
     work: &[u8],
@@ -201,7 +206,7 @@ fn are_as_many(s: &[u8], t: &[u8], n: usize, floor: usize, l: usize, r: usize) -
     j == 0
 }
 
-// Whether the chains at two links have as many fields.
+/// Whether the chains at two links have as many fields.
 pub fn same_arity(
     sheet: &[u8],
     work: &[u8],

@@ -1,4 +1,6 @@
-// The search for the names of a chain in another by an order of the names, for names that are made to fall into one row of an index.
+//! The search for the names of a chain in another by an order of the names, for names that are
+//! made to fall into one row of an index.
+
 ghost use Rattle.std.specs.Prelude.{◌≡◌, ◌<◌, ◌≤◌, length};
 ghost use Rattle.partners.specs.Naming.{Finds, Lists, Matched, name_of};
 
@@ -16,8 +18,8 @@ fn name_of(t: &[u8], n: usize, j: u16) -> &[u8]
     label_at(t, n, h.name, h.nlen)
 }
 
-// Lists the records of the chain at a link, and says how many they are. Each is past the one before it and below 1,024, so that there is room for all. Nothing
-// rests on the list being whole.
+// Lists the records of the chain at a link, and says how many they are. Each is past the one before
+// it and below 1,024, so that there is room for all.
 fn list(t: &[u8], n: usize, link: usize, recs: &mut [u16; 1024]) -> usize
     requires { (n ≤ 1024) × Lists n t.now link recs.old }
     ensures { (result ≤ 1024) × Lists n t.now link recs.new }
@@ -37,8 +39,8 @@ fn list(t: &[u8], n: usize, link: usize, recs: &mut [u16; 1024]) -> usize
     k
 }
 
-// A field of the chain at r that has a name; 0 where there is none. It is looked for by halving among records of that chain, where 0 is none, and what these do
-// not have in the whole chain. So nothing rests on their order but the time that this takes.
+// A field of the chain at r that has a name; 0 where there is none. It is looked for by halving
+// among records of that chain, where 0 is none, and what these do not have in the whole chain.
 fn look_up(t: &[u8], n: usize, want: &[u8], r: usize, recs: &[u16]) -> usize
     requires { ((n ≤ 1024) × (length want.now ≤ 255)) × Lists n t.now r recs.now }
     ensures { (result < 1024) × Finds n t.now want.now r result }
@@ -49,8 +51,8 @@ fn look_up(t: &[u8], n: usize, want: &[u8], r: usize, recs: &[u16]) -> usize
     }
 }
 
-// Whether each name of the chain at a link of s is one of the chain at r of t, of which records are at hand in the order of their names. Its loop stands by
-// itself: that of `names::are_listed` comes over to it.
+// Whether each name of the chain at a link of s is one of the chain at r of t, of which records are
+// at hand in the order of their names.
 fn are_among(
     s: &[u8],
     t: &[u8],
@@ -83,7 +85,8 @@ fn are_among(
     true
 }
 
-// The same, where they are put in order first. It is not inlined: its array is for names that are made to be hard, and lies in no other frame.
+/// The same, where they are put in order first. It is not inlined: its array is for names that are
+/// made to be hard, and lies in no other frame.
 #[inline(never)]
 pub(crate) fn are_found_in_order(
     s: &[u8],

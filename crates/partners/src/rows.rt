@@ -1,4 +1,5 @@
-// The row of each field of the left: what feeds it.
+//! The row of each field of the left: what feeds it.
+
 ghost use Rattle.std.specs.Prelude.{◌≡◌, not, ◌≤◌};
 ghost use Rattle.sheet.specs.Head.{head_at};
 ghost use Rattle.sheet.specs.Read.{label_at};
@@ -10,13 +11,13 @@ ghost use Rattle.partners.specs.Naming.{Finds, RowPairs, row_of};
 
 use crate::search::{are_known, find};
 use crate::table::partner_in;
-use buffers::copy::is_nullable;
 use buffers::write::{look, sides};
 use buffers::{Feed, Row, Space};
 use sheet::Head;
 use sheet::label::label_at;
 
-// The sources of two chains, the left in the work space where swap is set, what is known of their names, and a table of partners.
+// The sources of two chains, the left in the work space where swap is set, what is known of their
+// names, and a table of partners.
 #[derive(Clone, Copy)]
 struct Rows<'a> {
     sheet: &'a [u8],
@@ -34,13 +35,14 @@ fn row_of(partner: usize, a: Head, b: Head, next: usize) -> Row
 {
     Row {
         partner,
-        nullable: is_nullable(a) || is_nullable(b),
+        nullable: a.nullable() || b.nullable(),
         next,
     }
 }
 
 impl Rows<'_> {
-    // The record of the right that has the name of the record of the left whose head is x, in the chain at r; 0 where there is none.
+    // The record of the right that has the name of the record of the left whose head is x, in the
+    // chain at r; 0 where there is none.
     fn searched(&self, x: Head, r: usize) -> usize
         requires { Bounded x }
         ensures { Finds self.now.space.n (side (not self.now.swap) self.now.sheet.now self.now.work.now) (label_at (side self.now.swap self.now.sheet.now self.now.work.now) self.now.space.n x.name x.nlen) r result }
@@ -50,7 +52,8 @@ impl Rows<'_> {
         find(t, n, label_at(s, n, x.name, x.nlen), r)
     }
 
-    // The same of record l, where p is the record at its place. Where it is known or the table says which it is, no name is compared.
+    // The same of record l, where p is the record at its place. Where it is known or the table says
+    // which it is, no name is compared.
     fn partner(&self, x: Head, l: usize, r: usize, p: usize) -> usize
         requires { Bounded x }
         ensures { x ≡ head_at (side self.now.swap self.now.sheet.now self.now.work.now) l → Partners self.now.space self.now.sheet.now self.now.work.now self.now.table.now → RowPairs self.now.known self.now.space (side self.now.swap self.now.sheet.now self.now.work.now) (side (not self.now.swap) self.now.sheet.now self.now.work.now) l r p result }
@@ -88,8 +91,10 @@ impl Rows<'_> {
     }
 }
 
-// What feeds the field at a link of the left, where something may be known of the names of both chains from it on. A feed is a value and no closure: it goes
-// down with the rows, and contracts say what it means.
+/// What feeds the field at `l` of the left, by the chain at `r` of the right, of which record `p`
+/// stands at its place. Where `known` says at which record the chains from there on differ, and it
+/// is past the field, the names of `l` and `p` are taken to be the same. Nothing is said for a
+/// table with an entry that is not true (`Partners`).
 pub fn row(
     sheet: &[u8],
     work: &[u8],

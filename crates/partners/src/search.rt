@@ -1,4 +1,5 @@
-// The search for a name in a chain.
+//! The search for a name in a chain.
+
 ghost use Rattle.std.specs.Prelude.{◌≡◌, ◌<◌, ◌≤◌, length, ltb, ◌&&◌};
 ghost use Rattle.sheet.specs.Read.{label_at};
 ghost use Rattle.sheet.specs.Names.{same_bytes};
@@ -10,7 +11,7 @@ use sheet::Head;
 use sheet::label::same_label;
 use sheet::record::head_at;
 
-// Whether a record has a name.
+/// Whether a record, whose head is `h`, has a name.
 pub(crate) fn is_named(t: &[u8], n: usize, h: Head, want: &[u8]) -> bool
     requires { ((n < 65536) × Bounded h) × (length want.now ≤ 255) }
     ensures { result ≡ same_bytes want.now (label_at t.now n h.name h.nlen) }
@@ -18,7 +19,7 @@ pub(crate) fn is_named(t: &[u8], n: usize, h: Head, want: &[u8]) -> bool
     same_label(want, 0, want.len(), t, 16 * n + h.name, h.nlen)
 }
 
-// Whether a link leads to a record, whose head is h, that has a name.
+/// Whether a link leads to a record, whose head is `h`, that has a name.
 pub(crate) fn is_field_named(t: &[u8], n: usize, j: usize, h: Head, want: &[u8]) -> bool
     requires { ((n < 65536) × Bounded h) × (length want.now ≤ 255) }
     ensures { result ≡ (ltb 0 j && (ltb j n && same_bytes want.now (label_at t.now n h.name h.nlen))) }
@@ -26,7 +27,7 @@ pub(crate) fn is_field_named(t: &[u8], n: usize, j: usize, h: Head, want: &[u8])
     0 < j && j < n && is_named(t, n, h, want)
 }
 
-// A field of the chain at a link that has a name; 0 where there is none.
+/// A field of the chain at a link that has a name; 0 where there is none.
 pub(crate) fn find(t: &[u8], n: usize, want: &[u8], link: usize) -> usize
     requires { (n ≤ 1024) × (length want.now ≤ 255) }
     ensures { (result < 1024) × Finds n t.now want.now link result }
@@ -47,7 +48,8 @@ pub(crate) fn find(t: &[u8], n: usize, want: &[u8], link: usize) -> usize
     0
 }
 
-// Whether record i and record j at its place are known to have one name, as the chains of both first differ past i.
+/// Whether record `i` and record `j` at its place are known to have one name, as the chains of both
+/// first differ past `i`.
 pub(crate) fn are_known(known: Option<usize>, i: usize, j: usize) -> bool
     ensures { result ≡ (ltb 0 j && known_past known i) }
 {

@@ -1,11 +1,13 @@
-// A table of partners: for a record of a side, the record of a chain of the other side that has its name. An entry is one number, 1,048,576 times the number of
-// the record, and 1,024 times the link of the chain, and the partner: so a table may be short, where records share a place, and what another left there says
-// nothing. Only this file makes an entry and takes it apart.
+//! A table of partners: for a record of a side, the record of a chain of the other side that
+//! has its name. An entry is one number, 1,048,576 times the number of the record, and 1,024
+//! times the link of the chain, and the partner: so a table may be short, where records share a
+//! place, and what another left there says nothing.
+
 ghost use Rattle.std.specs.Prelude.{◌≡◌, ◌<◌, get_or};
 ghost use Rattle.buffers.specs.Partners.{key_of};
 ghost use Rattle.partners.specs.Naming.{place_in, partner_in, noted};
 
-// The number of record i of a side.
+/// The number of record `i` of a side.
 pub(crate) fn key_of(swap: bool, i: usize) -> usize
     requires { i < 65536 }
     ensures { result ≡ key_of swap i }
@@ -32,7 +34,8 @@ fn at(table: &[u32], k: usize) -> usize
     table.get(k).map_or(0, |&e| e as usize)
 }
 
-// The partner of record i of a side in the chain at r, as a table says; 0 where it says nothing of them.
+/// The partner of record `i` of a side in the chain at `r`, as a table says; 0 where it says
+/// nothing of them.
 pub(crate) fn partner_in(table: &[u32], swap: bool, i: usize, r: usize) -> usize
     ensures { result ≡ partner_in table.now swap i r }
 {
@@ -48,7 +51,8 @@ pub(crate) fn partner_in(table: &[u32], swap: bool, i: usize, r: usize) -> usize
     }
 }
 
-// Notes that record j of the chain at r is the partner of the record of number k, where there is a place for it.
+/// Notes that record `j` of the chain at `r` is the partner of the record of number `k`, where
+/// there is a place for it.
 pub(crate) fn note(table: &mut [u32], k: usize, r: usize, j: usize)
     requires { j < 1024 }
     ensures { table.new ≡ noted table.old k r j }
