@@ -40,7 +40,8 @@ use Rattle.merge.proofs.Merging.{means_for, any_known, merges_none, known_none}
 use Rattle.partners.proofs.Naming.{Asks, same_arity, names_found, names_missing, by_name_fits, end_self, order_names, order_by_name}
 use Rattle.buffers.proofs.Fielding.{typed_reads}
 
--- which fields feed those of a Struct in a union: the ones at their places where the names stand in one order, and where they are not the same
+-- which fields feed those of a Struct in a union: the ones at their places where the names stand in one order,
+-- and where they are not the same
 abbrev pub struct_feed : Fields → Fields → Feed
 struct_feed l r = cond (same_order l r) Feed.Place (cond (fields_have_same_names l r) Feed.Name Feed.Place)
 

@@ -52,15 +52,16 @@ abbrev pub innermost : ℕ → List Wrapper → ℕ
 innermost k [] = k
 innermost k (z ∷ zs) = innermost z.shape.kind zs
 
--- Where the run of Dictionaries begins whose first is the field f, behind wrappers that are kept: with x, at record l, where that is a Dictionary and all wrappers
--- are; or behind run ends.
+-- Where the run of Dictionaries begins whose first is the field f, behind wrappers that are kept: with x, at
+-- record l, where that is a Dictionary and all wrappers are; or behind run ends.
 abbrev pub Begins : Space → List ℕ → ℕ → DataType → List Wrapper → ℕ → Fields → Type 0
 Begins space s l x kept i f =
     ((x.shape.kind ≡ Kind.dictionary) × ((kept ≡ []) × (i ≡ l)))
     ⊎ ((innermost x.shape.kind kept ≡ Kind.run_end_encoded) × (Chain space s i f × (i + count f ≡ l + size x)))
 
--- The way down from the wrapper x at record l towards a type of kind j: wrappers that are kept, a run of Dictionaries, and the core. The record of the core is
--- known, and that of the run, which begins with x where x and all others are Dictionaries.
+-- The way down from the wrapper x at record l towards a type of kind j: wrappers that are kept, a run of
+-- Dictionaries, and the core. The record of the core is known, and that of the run, which begins with x where x
+-- and all others are Dictionaries.
 pub record Descends (space : Space) (s : List ℕ) (j l : ℕ) (d : Descent) (x : DataType) : Type 0 where
   pub part_name : List ℕ
   pub part_nullable : Bool
@@ -111,7 +112,8 @@ pub record PlacedView (space : Space) (s w v : List ℕ) (r i : ℕ) (to : Spot)
 abbrev pub run_gives_way : Space → List ℕ → Descent → ℕ → Bool
 run_gives_way space w d i = not (eqb d.run d.core) && eqb (head_at (region space w) i).kind Kind.utf8_view
 
--- a wrapper, written at a goal with its parts from a up to e, stays so, or its run of Dictionaries gives way to the Utf8View at record i
+-- a wrapper, written at a goal with its parts from a up to e, stays so, or its run of Dictionaries gives way to
+-- the Utf8View at record i
 pub record Settled (space : Space) (s w v : List ℕ) (d : Descent) (a : Spot) (g : Goal) (i : ℕ) (e : Spot) (o : Out) : Type 0 where
   pub stays : run_gives_way space w d i ≡ false → (o ≡ Ok e) × (v ≡ w)
   pub whole : run_gives_way space w d i ≡ true → d.run < d.first → LaidPlain space w v g view.shape o

@@ -5,12 +5,14 @@ use Rattle.buffers.specs.Differ.{type_differs}
 use Rattle.buffers.specs.Typed.{Typed}
 use Rattle.buffers.specs.declared.Space.{Space}
 
--- a number that is known is that of the record at which two types first differ, the first of which is record l, or 0 where they are the same
+-- a number that is known is that of the record at which two types first differ, the first of which is record l,
+-- or 0 where they are the same
 abbrev pub Known : Option ℕ → Bool → ℕ → DataType → DataType → Type 0
 Known known named l x y = (d : ℕ) → known ≡ Some d → type_differs named l x y ≡ d
 
--- What two chains say of the types of the field at l and of record partner, where record p stands at the place of l, and next follows l: nothing where
--- partner is not at that place, or the difference is not past l; 0, that they are the same, where it is past the field.
+-- What two chains say of the types of the field at l and of record partner, where record p stands at the place
+-- of l, and next follows l: nothing where partner is not at that place, or the difference is not past l; 0,
+-- that they are the same, where it is past the field.
 abbrev pub row_known : Option ℕ → ℕ → ℕ → ℕ → ℕ → Option ℕ
 row_known None l next partner p = None
 row_known (Some d) l next partner p = cond (eqb partner p && ltb l d) (Some (cond (eqb next 0 || ltb d next) d 0)) None

@@ -22,7 +22,8 @@ use Rattle.buffers.specs.declared.Feed.{Feed}
 pub record Tabled (space : Space) (s w table : List ℕ) : Type 0 where
   pub partners : Partners space s w table
 
--- two types, of which something may be known, were merged as a rule says, where no more than `left` records are left in both
+-- two types, of which something may be known, were merged as a rule says, where no more than `left` records are
+-- left in both
 pub record MergesKnown (known : Option ℕ) (named : Bool) (answer : DataType → DataType → Option DataType) (space : Space) (left : ℕ) (swap : Bool) (s w v : List ℕ) (l r : ℕ) (g : Goal) (o : Out) : Type 0 where
   pub writes : Writes space w v g o
   pub means : (x y : DataType) → Typed space (side swap s w) l x → Typed space (side (not swap) s w) r y → size x + size y ≤ left → Known known named l x y
@@ -39,7 +40,8 @@ abbrev pub field_of : List ℕ → Bool → Option DataType → Option Fields
 field_of name nullable None = None
 field_of name nullable (Some t) = Some (before name nullable t end)
 
--- a field was merged with the type of another, where something may be known of the chains of both, as a rule says, under its own name and nullability
+-- a field was merged with the type of another, where something may be known of the chains of both, as a rule
+-- says, under its own name and nullability
 pub record MergesField (known : Option ℕ) (named : Bool) (answer : DataType → DataType → Option DataType) (space : Space) (left : ℕ) (swap : Bool) (s w v : List ℕ) (l r : ℕ) (to : Spot) (o : Out) : Type 0 where
   pub kept : Kept space w v to.at to.label
   pub grows : Grows space to o

@@ -1,5 +1,6 @@
-// The merge of two types. Each call hands down how many records may be left in both types, and that number falls.
-// A kind is the byte of a record: public functions take any byte, of which an enum of 38 kinds would ask more.
+//! The merge of two types, by the rules of the source with `coerce_fn` as the recursion. Each
+//! call hands down how many records may be left in both types, and that number falls.
+
 ghost use Rattle.std.specs.Prelude.{◌≡◌, ℕ, None, true, false, not, cond, ◌+◌, ◌-◌, ◌≤◌, ◌<◌, eqb, ◌&&◌};
 ghost use Rattle.coercion.specs.Answers.{coercion, list_struct};
 ghost use Rattle.coercion.specs.Nested.{struct_coercion};
@@ -20,7 +21,7 @@ use crate::Merger;
 use crate::descent::passes;
 use crate::known::row_known;
 use buffers::alike::same_sides;
-use buffers::copy::{copy_head, copy_parent, is_nullable};
+use buffers::copy::{copy_head, copy_parent};
 use buffers::field::{first_link, name_goal, next_link, row_end};
 use buffers::lay::{copy_type, lay, tie};
 use buffers::plain::{is_list_question, list_kind, list_size};
@@ -35,7 +36,8 @@ use partners::rows::row;
 use sheet::Head;
 use wrappers::walk::way;
 
-// How many records the type at a link has. It ends where the chain goes on, or with the last record.
+// How many records the type at a link has. It ends where the chain goes on, or with the last
+// record.
 fn records_from(n: usize, link: usize, next: usize) -> usize
     ensures { result ≡ cond (eqb next 0) n next - link }
 {
@@ -51,8 +53,15 @@ fn are_sorted(x: Head, y: Head) -> bool
 }
 
 impl<'a> Merger<'a> {
-    // The common type of two types, of which something may be known, or none. The table of partners is short where the left type has few records,
-    // for each of its entries is set to 0.
+    /// The common type of the type at `l` of the left and that at `r` of the right, written at `g`:
+    /// `type_union_resolution_coercion` in a list, else `type_union_coercion` or
+    /// `comparison_coercion`. `NoType` where there is none, `Full` where there is no room for the
+    /// records or labels of both. `left` is how many records the two have at most together; for
+    /// more the answer is left free. `known` says at which record of the left they first differ, 0
+    /// where they are the same, if that is known; in a list names count.
+    ///
+    /// The table of partners is as short as the left type allows, since each of its entries is set
+    /// to 0.
     pub fn coerce(
         &self,
         work: &mut [u8],
@@ -76,8 +85,8 @@ impl<'a> Merger<'a> {
         self.coerce_many(work, left, swap, known, l, r, g)
     }
 
-    // The same, where the left type has many records. It is not inlined: with the large table in the frame of `coerce` the union of two run ends takes 212 ns in
-    // place of 207.
+    // The same, where the left type has many records. It is not inlined, so that the large table is
+    // not in the frame of `coerce`.
     #[inline(never)]
     fn coerce_many(
         &self,
@@ -92,7 +101,6 @@ impl<'a> Merger<'a> {
         requires { Room work.old self.now.space × Ready self.now.space g }
         ensures { MergesKnown known (is_list_question (asked self.now.question)) (coercion (rules_of self.now.question self.now.mask)) self.now.space left swap self.now.sheet.now work.old work.new l r g result }
     {
-        // No heap: the table is in the frame.
         self.common(work, &mut [0u32; 2048], left, swap, known, 0, l, r, g)
     }
 
@@ -132,7 +140,8 @@ impl<'a> Merger<'a> {
         )
     }
 
-    // What feeds the fields of two Structs at their links: the fields at their places where names stand in one order, and by_name where they are the same.
+    // What feeds the fields of two Structs at their links: the fields at their places where names
+    // stand in one order, and by_name where they are the same.
     fn struct_feed(
         &self,
         work: &[u8],
@@ -188,14 +197,13 @@ impl<'a> Merger<'a> {
         if k < 37 && j < 37 {
             return self.nested(work, table, left - 1, swap, Some(d), l, r, g);
         }
-        // A list and a pair have rules of their own: functions that contracts name, and no closure.
         if is_list_question(self.question) {
             return self.resolve(work, table, left - 1, swap, Some(d), l, r, g);
         }
         self.unwrap(work, table, left - 1, swap, Some(d), hint, l, r, g)
     }
 
-    // The rules of a list, after the test for sameness.
+    // `type_union_resolution_coercion`, after the test for sameness.
     #[cycle(merging)]
     fn resolve(
         &self,
@@ -258,7 +266,7 @@ impl<'a> Merger<'a> {
         Err(Failure::NoType)
     }
 
-    // Two wrappers: their parts are coerced one by one.
+    // Two wrappers of one kind: their parts are coerced one by one.
     #[cycle(merging)]
     fn both_parts(
         &self,
@@ -295,8 +303,9 @@ impl<'a> Merger<'a> {
         )
     }
 
-    // A wrapper whose value is coerced with another type, the value on the left. The wrappers below it that would come here too are passed: their records are
-    // copied at once, and their core is coerced.
+    // A wrapper whose value is coerced with another type, the value on the left. The wrappers below
+    // it that would come here too are passed: their records are copied at once, and their core is
+    // coerced.
     #[cycle(merging)]
     fn rewrapped(
         &self,
@@ -329,7 +338,8 @@ impl<'a> Merger<'a> {
         self.settle(work, swap, descent, a, g, b.at, e)
     }
 
-    // The value of a wrapper, coerced with a type of the other side under its own name and nullability.
+    // The value of a wrapper, coerced with a type of the other side under its own name and
+    // nullability.
     #[cycle(merging)]
     fn coerce_field(
         &self,
@@ -348,12 +358,12 @@ impl<'a> Merger<'a> {
         ensures stays_tabled { Tabled self.now.space self.now.sheet.now work.new table.new }
     {
         let x = look(self.sheet, &*work, swap, l);
-        let g = name_goal(self.sheet, work, self.space, swap, x, is_nullable(x), to)?;
+        let g = name_goal(self.sheet, work, self.space, swap, x, x.nullable(), to)?;
         self.coerce_value(work, table, left, swap, l, r, g)
     }
 
-    // The common type of a value and another type, or none. A wrapper that is passed and the other type come to their rule at once, as do two types without
-    // parts whose kinds differ.
+    // The common type of a value and another type, or none. A wrapper that is passed and the other
+    // type come to their rule at once, as do two types without parts whose kinds differ.
     #[cycle(merging)]
     fn coerce_value(
         &self,
@@ -384,7 +394,8 @@ impl<'a> Merger<'a> {
         self.common(work, table, left, swap, None, 0, l, r, g)
     }
 
-    // The rules of union and compare, after the test for alikeness. Of the two rules for wrappers one is asked, as the other has no answer that it lacks.
+    // The rules of union and compare, after the test for alikeness. Of the two rules for wrappers
+    // one is asked, as the other has no answer that it lacks.
     #[cycle(merging)]
     fn unwrap(
         &self,
@@ -404,7 +415,7 @@ impl<'a> Merger<'a> {
         ensures merges_hinted { MergesHinted hint self.now.mask known (is_list_question (asked self.now.question)) (unwrapped (rules_of self.now.question self.now.mask) (coercion (rules_of self.now.question self.now.mask))) self.now.space (left + 1) swap self.now.sheet.now work.old work.new l r g result }
         ensures stays_tabled { Tabled self.now.space self.now.sheet.now work.new table.new }
     {
-        // Each answer has an arm of its own: in an arm for the rest the proof does not learn that there is a type or no room.
+        // Each answer has an arm of its own, since the proof goes by cases.
         match self.wrapper(work, table, left, swap, known, hint, l, r, g) {
             Ok(d) => Ok(d),
             Err(Failure::NoType) => self.nested(work, table, left, swap, known, l, r, g),
@@ -412,7 +423,8 @@ impl<'a> Merger<'a> {
         }
     }
 
-    // The rule for wrappers that is asked of two types, where a wrapper of its kind is on either side, or on both.
+    // `dictionary_coercion` or `ree_coercion`, whichever is asked, where a wrapper of its kind is
+    // on either side, or on both.
     #[cycle(merging)]
     fn wrapper(
         &self,
@@ -449,7 +461,7 @@ impl<'a> Merger<'a> {
             }
             return self.common(work, table, left, swap, None, t.hint, a, r, g);
         }
-        // No mirror of the case above: the common type takes the left's names, so the value is asked on its own side.
+        // The common type takes the left's names, so the value is asked on its own side.
         if j == kind {
             if same_sides(self.sheet, &*work, n, !swap, b, l, true) {
                 return copy_type(self.sheet, work, self.space, !swap, r, g);
@@ -459,7 +471,7 @@ impl<'a> Merger<'a> {
         Err(Failure::NoType)
     }
 
-    // Two types that are no wrappers: lists, structs, maps, and types without parts.
+    // Two types that are no wrappers: lists, Structs, Maps, and types without parts.
     #[cycle(merging)]
     fn nested(
         &self,
@@ -482,7 +494,6 @@ impl<'a> Merger<'a> {
             return self.list_rule(work, table, left, swap, known, l, r, g);
         }
         if k == 35 && j == 35 {
-            // As in `common`, a list's rule and a pair's are functions that contracts name.
             if is_list_question(self.question) {
                 return self.list_struct(work, table, left, swap, known, l, r, g);
             }
@@ -584,7 +595,7 @@ impl<'a> Merger<'a> {
         Err(Failure::NoType)
     }
 
-    // Two structs of a list.
+    // Two Structs of a list: types by name, and nullability by place.
     #[cycle(merging)]
     fn list_struct(
         &self,
@@ -680,11 +691,12 @@ impl<'a> Merger<'a> {
     {
         let x = look(self.sheet, &*work, swap, l);
         let own = row_known(known, l, x.next, r, r);
-        let g = name_goal(self.sheet, work, self.space, swap, x, is_nullable(x), to)?;
+        let g = name_goal(self.sheet, work, self.space, swap, x, x.nullable(), to)?;
         self.struct_rule(work, table, left, swap, own, l, r, g)
     }
 
-    // The rows of two chains: each field of the left is coerced with the one that feeds it, and then come the rows behind it.
+    // The rows of two chains: each field of the left is coerced with the one that feeds it, and
+    // then come the rows behind it.
     #[cycle(merging)]
     fn rows(
         &self,

@@ -1,5 +1,6 @@
-// The way down the wrappers of a type to the core that meets another type, and the wrappers that give way to Utf8View.
-// A kind is the byte of a record, as in coerce.rt.
+//! The way down the wrappers of a type to the core that meets another type, and the wrappers
+//! that give way to Utf8View.
+
 ghost use Rattle.std.specs.Prelude.{◌≡◌, true, not, cond, eqb};
 ghost use Rattle.sheet.specs.Head.{head_at};
 ghost use Rattle.buffers.specs.Writes.{side};
@@ -8,7 +9,6 @@ ghost use Rattle.wrappers.specs.Ways.{is_wrapper};
 ghost use Rattle.merge.specs.Descent.{passes, run_gives_way, Descended, Stops, NamedView, PlacedView, Settled};
 
 use crate::Merger;
-use buffers::copy::is_nullable;
 use buffers::field::name_goal;
 use buffers::lay::lay_plain;
 use buffers::span::copy_span;
@@ -17,8 +17,9 @@ use buffers::{Goal, Out, Space, Spot};
 use coercion::Figures;
 use sheet::record::head_at;
 
-// The way down from a wrapper: the record of its first part; that of the core at which the wrappers end that are passed; and that at which the run of
-// Dictionaries about the core begins, which is the core itself where there is none.
+/// The way down from a wrapper: the record of its first part; that of the core at which the
+/// wrappers end that are passed; and that at which the run of Dictionaries about the core begins,
+/// which is the core itself where there is none.
 #[derive(Clone, Copy)]
 pub struct Descent {
     pub first: usize,
@@ -26,7 +27,8 @@ pub struct Descent {
     pub run: usize,
 }
 
-// Whether a wrapper of kind k that meets a type of kind j comes to the rule for one wrapper of its kind.
+/// Whether a wrapper of kind `k` that meets a type of kind `j` comes to the rule for one wrapper of
+/// its kind.
 pub(crate) fn passes(k: u8, j: u8) -> bool
     ensures { result ≡ passes k j }
 {
@@ -40,8 +42,9 @@ fn run_after(k: u8, value: usize, run: usize) -> usize
     if k == 38 { value } else { run }
 }
 
-// Walks down from the wrapper of kind k at record l, towards a type of kind j. A link is followed only upward. It is not inlined, nor is `place_view`, so that
-// the frame in the recursion stays small.
+// Walks down from the wrapper of kind k at record l, towards a type of kind j. A link is followed
+// only upward. It is not inlined, nor is `place_view`, so that the frame in the recursion stays
+// small.
 #[inline(never)]
 fn walk_down(s: &[u8], space: Space, k: u8, j: u8, l: usize) -> Descent
     requires { is_wrapper k ≡ true }
@@ -87,7 +90,7 @@ fn run_gives_way(work: &[u8], space: Space, descent: Descent, i: usize) -> bool
 }
 
 impl<'a> Merger<'a> {
-    // The way down from the wrapper of a kind at a link towards a type of the other side.
+    /// The way down from the wrapper of a kind at a link towards a type of the other side.
     pub(crate) fn descend(&self, work: &[u8], swap: bool, kind: u8, l: usize, r: usize) -> Descent
         requires { is_wrapper kind ≡ true }
         ensures descended { Descended self.now.space (side swap self.now.sheet.now work.now) kind (head_at (side (not swap) self.now.sheet.now work.now) r).kind l result }
@@ -104,11 +107,12 @@ impl<'a> Merger<'a> {
         ensures { NamedView self.now.space (side swap self.now.sheet.now work.old) work.old work.new link to result }
     {
         let h = look(self.sheet, &*work, swap, link);
-        let g = name_goal(self.sheet, work, self.space, swap, h, is_nullable(h), to)?;
+        let g = name_goal(self.sheet, work, self.space, swap, h, h.nullable(), to)?;
         lay_plain(work, self.space, g, Figures::of_kind(27))
     }
 
-    // The parts of a wrapper, the first of which is record r, with Utf8View in the place of record i.
+    // The parts of a wrapper, the first of which is record r, with Utf8View in the place of record
+    // i.
     #[inline(never)]
     fn place_view(&self, work: &mut [u8], swap: bool, r: usize, i: usize, to: Spot) -> Out
         requires { Room work.old self.now.space × Inside self.now.space to }
@@ -118,8 +122,8 @@ impl<'a> Merger<'a> {
         self.named_view(work, swap, i, d)
     }
 
-    // A wrapper, which was written at a goal, its parts from a up to e: "Dict with View type is redundant", so the Dictionaries about a Utf8View, which was
-    // written at record i, give way to it.
+    /// A wrapper that was written at `g`, its parts from `a` up to `e`, about a core at record `i`.
+    /// Dictionaries directly about Utf8View give way to it.
     pub(crate) fn settle(
         &self,
         work: &mut [u8],

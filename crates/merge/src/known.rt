@@ -1,4 +1,5 @@
-// Where two types differ, by the number of a record, so that no record is compared twice.
+//! Where two types differ, by the number of a record, so that no record is compared twice.
+
 ghost use Rattle.std.specs.Prelude.{◌≡◌, not, ◌<◌};
 ghost use Rattle.buffers.specs.Plain.{asked, is_list_question};
 ghost use Rattle.buffers.specs.Writes.{side};
@@ -9,7 +10,8 @@ use buffers::alike::differ_sides;
 use buffers::plain::is_list_question;
 
 impl<'a> Merger<'a> {
-    // The record at which two types first differ, or 0; they are compared only where it is not known.
+    /// The record at which two types first differ, or 0; they are compared only where it is not
+    /// known.
     pub(crate) fn first_difference(
         &self,
         work: &[u8],
@@ -28,7 +30,8 @@ impl<'a> Merger<'a> {
         differ_sides(self.sheet, work, self.space.n, swap, l, r, named)
     }
 
-    // What is known of the names of two chains by where they differ: in a list alone names are compared.
+    /// What is known of the names of two chains by where they differ: in a list alone names are
+    /// compared.
     pub(crate) fn known_names(&self, known: Option<usize>) -> Option<usize>
         ensures { result ≡ known_names (is_list_question (asked self.now.question)) known }
     {
@@ -40,8 +43,9 @@ impl<'a> Merger<'a> {
     }
 }
 
-// What is known of the types of the field at l and of record partner by where their chains differ; record p stands at the place of l, and next follows l.
-// Some(0) says that they are the same, as `differ_type` does.
+/// What is known of the types of the field at `l` and of record `partner` by where their chains
+/// differ; record `p` stands at the place of `l`, and `next` follows `l`. `Some(0)` says that they
+/// are the same.
 pub(crate) fn row_known(
     known: Option<usize>,
     l: usize,

@@ -43,7 +43,7 @@ coerce_field-coerce_value-requires t c =
 
 pub coerce_field-returns-clause-merges_field : goal.coerce_field-returns-clause-merges_field
 coerce_field-returns-clause-merges_field t c =
-    field_alone _ _ _ _ _ _ _ _ _ _ c.look-x.ensures.0 _ _ c.in_ok-g.ensures.named _ _ _ c.requires.room.0 refl c.is_nullable.ensures (rw c.in_ok-g.ensures.goal at c.coerce_value.ensures.merges)
+    field_alone _ _ _ _ _ _ _ _ _ _ c.look-x.ensures.0 _ _ c.in_ok-g.ensures.named _ _ _ c.requires.room.0 refl c.nullable.ensures (rw c.in_ok-g.ensures.goal at c.coerce_value.ensures.merges)
 
 pub coerce_value-rewrapped-requires : goal.coerce_value-rewrapped-requires
 coerce_value-rewrapped-requires t c =
@@ -99,7 +99,7 @@ entry-struct_rule-requires t c =
 
 pub entry-returns-clause-merges_field : goal.entry-returns-clause-merges_field
 entry-returns-clause-merges_field t c =
-    field_on _ _ _ _ _ _ _ _ _ _ c.look-x.ensures.0 _ _ c.in_ok-g.ensures.named _ _ _ c.requires.room.0 refl c.is_nullable.ensures c.row_known-own.ensures (rw c.in_ok-g.ensures.goal at c.struct_rule.ensures.merges_known)
+    field_on _ _ _ _ _ _ _ _ _ _ c.look-x.ensures.0 _ _ c.in_ok-g.ensures.named _ _ _ c.requires.room.0 refl c.nullable.ensures c.row_known-own.ensures (rw c.in_ok-g.ensures.goal at c.struct_rule.ensures.merges_known)
 
 pub list_rule-returns-clause-merges_known : goal.list_rule-returns-clause-merges_known
 list_rule-returns-clause-merges_known t c =
