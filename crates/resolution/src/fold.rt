@@ -1,4 +1,5 @@
-// The fold of a list, and the one pair of a union or a comparison.
+//! The fold of a list, and the one pair of a union or a comparison.
+
 ghost use Rattle.std.specs.Prelude.{◌≡◌, Some, true, ◌<◌};
 ghost use Rattle.coercion.specs.Answers.{coercion, fold_from, fold_types, type_union_resolution, pair_answer};
 ghost use Rattle.buffers.specs.Region.{Room, region, Inside};
@@ -20,7 +21,7 @@ use values::taken::{is_taken, taken_kinds};
 use values::value::{Leaf, common_type, is_plain, leaf_of};
 
 impl<'a> Resolver<'a> {
-    // What a merge of two types shares.
+    /// What a merge of two types shares.
     pub(crate) fn merger(&self, question: Question) -> Merger<'a>
         ensures { result ≡ record { sheet = self.now.sheet; space = self.now.space; question = question; mask = self.now.mask } }
     {
@@ -32,8 +33,8 @@ impl<'a> Resolver<'a> {
         }
     }
 
-    // The common type, in a list, of the type at a link and the candidate that ends at d, of which it is known where they differ; it takes the candidate's
-    // place.
+    // The common type, in a list, of the type at a link and the candidate that ends at d, of which
+    // it is known where they differ; it takes the candidate's place.
     fn step(&self, work: &mut [u8], known: usize, at: usize, d: Spot) -> Out
         requires room { Room work.old self.now.space × Inside self.now.space d }
         requires compared { Compared (Some known) true self.now.space (Candidate self.now.space work.old d) self.now.sheet.now at }
@@ -45,7 +46,8 @@ impl<'a> Resolver<'a> {
         merger.coerce(work, left, false, Some(known), at, 1, UNNAMED)
     }
 
-    // The same of a candidate whose core is at a record. Where the core alone changes, only that is written.
+    // The same of a candidate whose core is at a record. Where the core alone changes, only that is
+    // written.
     fn step_list(&self, work: &mut [u8], core: usize, link: usize, d: Spot) -> Out
         requires room { Room work.old self.now.space × Inside self.now.space d }
         requires core_at { CoreAt self.now.space (region self.now.space work.old) 1 core }
@@ -72,7 +74,8 @@ impl<'a> Resolver<'a> {
         self.step(work, known, link, d)
     }
 
-    // The common type of the types at two links of the sheet, of which something may be known. The second is read from a copy of the sheet's bytes.
+    // The common type of the types at two links of the sheet, of which something may be known. The
+    // second is read from a copy of the sheet's bytes.
     fn meet(
         &self,
         work: &mut [u8],
@@ -90,8 +93,8 @@ impl<'a> Resolver<'a> {
         merger.coerce(work, 2 * self.space.n, false, known, link, other, UNNAMED)
     }
 
-    // The candidate that ends at d, folded with the types at a link past floor. Nulls are skipped. The candidate's core says nothing of a type with parts, and is
-    // not looked for.
+    // The candidate that ends at d, folded with the types at a link past floor. Nulls are skipped.
+    // For a type with parts the candidate's core is not looked for.
     fn fold_from(&self, work: &mut [u8], floor: usize, link: usize, d: Spot) -> Out
         requires { Room work.old self.now.space × Inside self.now.space d }
         ensures { Folds (fold_from (rules_of Question.List self.now.mask)) self.now.space (Candidate self.now.space work.old d) self.now.sheet.now work.old work.new floor link result }
@@ -124,7 +127,8 @@ impl<'a> Resolver<'a> {
         Ok(end)
     }
 
-    // The type of record `first`, folded with the types at a link past floor, of the first of which something may be known. Nulls are skipped.
+    // The type of record `first`, folded with the types at a link past floor, of the first of which
+    // something may be known. Nulls are skipped.
     fn fold_first(
         &self,
         work: &mut [u8],
@@ -164,8 +168,8 @@ impl<'a> Resolver<'a> {
         self.fold_from(work, floor, link, d)
     }
 
-    // A type without parts, folded with the types at a link past floor. The candidate is a value up to the first type with parts, a zone or an order. Nulls are
-    // skipped.
+    // A type without parts, folded with the types at a link past floor. The candidate is a value up
+    // to the first type with parts, a zone or an order. Nulls are skipped.
     fn fold_plain(&self, work: &mut [u8], first: Leaf, floor: usize, link: usize) -> Out
         requires { Room work.old self.now.space × (first.size < 4294967296) }
         ensures { Folds (fold_from (rules_of Question.List self.now.mask)) self.now.space (Valued first) self.now.sheet.now work.old work.new floor link result }
@@ -196,7 +200,8 @@ impl<'a> Resolver<'a> {
         self.fold_written(work, candidate, last, at)
     }
 
-    // The type of record `first`, which is not Null, folded with the types at a link past floor, of the first of which something may be known.
+    // The type of record `first`, which is not Null, folded with the types at a link past floor, of
+    // the first of which something may be known.
     fn fold_entry(
         &self,
         work: &mut [u8],
@@ -237,8 +242,8 @@ impl<'a> Resolver<'a> {
         Err(Failure::NoType)
     }
 
-    // The type of record `first`, folded with the types at a link past floor, of the first of which something may be known. A first Null gives way to the next
-    // type.
+    // The type of record `first`, folded with the types at a link past floor, of the first of which
+    // something may be known. A first Null gives way to the next type.
     fn fold_behind(
         &self,
         work: &mut [u8],
@@ -257,7 +262,8 @@ impl<'a> Resolver<'a> {
         self.fold_entry(work, known, first, floor, link)
     }
 
-    // `type_union_resolution`, of the types at a link. Types that are the same as the first leave it as it is: the fold begins at the first that is another.
+    /// `type_union_resolution`, of the types at a link. Types that are the same as the first leave
+    /// it as it is: the fold begins at the first that is another.
     pub(crate) fn type_union_resolution(&self, work: &mut [u8], link: usize) -> Out
         requires { Room work.old self.now.space × (0 < link) }
         ensures { Reached (type_union_resolution (rules_of Question.List self.now.mask)) self.now.space self.now.sheet.now work.old work.new 0 link result }
@@ -284,7 +290,7 @@ impl<'a> Resolver<'a> {
         copy_field(self.sheet, work, self.space, false, link, FRONT)
     }
 
-    // The common type of the two types at a link, where there are two.
+    /// The common type of the two types at a link, where there are two.
     pub(crate) fn pair(&self, work: &mut [u8], question: Question, link: usize) -> Out
         requires { Room work.old self.now.space × (0 < link) }
         ensures { Reached (pair_answer (rules_of question self.now.mask)) self.now.space self.now.sheet.now work.old work.new 0 link result }

@@ -1,4 +1,5 @@
-// A type without parts that is written where a candidate stands.
+//! A type without parts that is written where a candidate stands.
+
 ghost use Rattle.std.specs.Prelude.{◌<◌};
 ghost use Rattle.buffers.specs.Region.{Room};
 ghost use Rattle.values.specs.Value.{Holdable};
@@ -9,10 +10,10 @@ use buffers::lay::lay;
 use buffers::{Failure, Goal, Out, Shape, Spot};
 use values::value::Leaf;
 
-// Where an answer is written: record 1, and the first label.
+/// Where an answer is written: record 1, and the first label.
 pub(crate) const FRONT: Spot = Spot { at: 1, label: 0 };
 
-// The same place, for a type without a name.
+/// The same place, for a type without a name.
 pub(crate) const UNNAMED: Goal = Goal {
     at: 1,
     label: 0,
@@ -21,7 +22,7 @@ pub(crate) const UNNAMED: Goal = Goal {
 };
 
 impl Resolver<'_> {
-    // Writes such a type.
+    /// Writes such a type, and says where it ends.
     pub(crate) fn lay_front(&self, work: &mut [u8], x: Leaf) -> Spot
         requires { Room work.old self.now.space × (x.size < 4294967296) }
         ensures { Fronted self.now.space work.old work.new x result }
@@ -30,7 +31,7 @@ impl Resolver<'_> {
         Spot { at: 2, label: 0 }
     }
 
-    // Writes a common type there, if there is one.
+    /// Writes a common type there, if there is one.
     pub(crate) fn lay_joint(&self, work: &mut [u8], joint: Option<Leaf>) -> Out
         requires { Room work.old self.now.space × Holdable joint }
         ensures { JointLaid self.now.space work.old work.new joint result }

@@ -1,4 +1,6 @@
-// The answer for the listed types of a sheet, in work space: the fold of a list, and the one pair of a union or a comparison.
+//! The answer for the listed types of a sheet, in work space: the fold of a list, and the one
+//! pair of a union or a comparison.
+
 #![tactic(auto)]
 
 mod fold;
@@ -18,8 +20,10 @@ use buffers::plain::is_list_question;
 use buffers::{Failure, Out, Question, Space};
 use resolver::Resolver;
 
-// The answer to a question on the listed types of a sheet, written at the front of the second half of the work space. Record 1 is the first of them, if there
-// is one. A list and a pair have rules of their own: functions that contracts name, and no closure.
+/// The answer to a question on the listed types of a sheet: `type_union_resolution` in a list, else
+/// the common type of the two types. It is written at the front of the second half of the work
+/// space, its first record at number 1; `NoType` where there is none. What else stands in the two
+/// halves afterwards is left free.
 pub fn answer(sheet: &[u8], work: &mut [u8], space: Space, question: Question, mask: u64) -> Out
     requires { Room work.old space }
     ensures { Reached (answer_of (asked question) (rules_of question mask)) space sheet.now work.old work.new 0 (start space.n) result }

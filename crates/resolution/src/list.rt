@@ -1,4 +1,5 @@
-// What a list is asked before it is folded: of which categories its types are.
+//! What a list is asked before it is folded: of which categories its types are.
+
 ghost use Rattle.std.specs.Prelude.{◌≡◌};
 ghost use Rattle.sheet.specs.Types.{Fields};
 ghost use Rattle.coercion.specs.Data.{types_of};
@@ -10,8 +11,9 @@ use rules::category::{core_kind, is_mixed, is_supported, with_category};
 use sheet::record::head_at;
 
 impl Resolver<'_> {
-    // The bits of the categories of the types at a link; all bits where a type has no category. More than one bit means no answer, a form of document 01, so no
-    // Option is needed. Not inlined, so that the loop has registers of its own: in the middle of a whole call it makes a list of integers take 1.1 times as long.
+    // The bits of the categories of the types at a link; all bits where a type has no category,
+    // since more than one bit means no answer. It is not inlined, so that the loop has registers of
+    // its own.
     #[inline(never)]
     fn categories(&self, link: usize) -> u8
         ensures { (ts : Fields) → Listed self.now.space self.now.sheet.now 0 link ts → result ≡ seen_bits 0 (types_of ts) }
@@ -34,7 +36,7 @@ impl Resolver<'_> {
         bits
     }
 
-    // Whether the categories of the types at a link allow an answer.
+    /// Whether the categories of the types at a link allow an answer.
     pub(crate) fn is_fitting(&self, link: usize) -> bool
         ensures { (ts : Fields) → Listed self.now.space self.now.sheet.now 0 link ts → result ≡ categories_fit (types_of ts) }
     {

@@ -1,9 +1,10 @@
-// What all functions of a fold share.
+//! What all functions of a fold share.
+
 ghost use Rattle.std.specs.Prelude.{◌<◌};
 
 use buffers::Space;
 
-// The sheet and its sizes, and the mask of the types that Null may become. The sheet lists a type.
+/// The sheet and its sizes, and the mask of the kinds that Null may become. The sheet lists a type.
 #[derive(Clone, Copy)]
 pub(crate) struct Resolver<'a> {
     pub sheet: &'a [u8],

@@ -1,4 +1,6 @@
-// What is read in the first half of the work space: a candidate that is moved from the second, or the sheet's own bytes.
+//! What is read in the first half of the work space: a candidate that is moved from the second,
+//! or the sheet's own bytes.
+
 ghost use Rattle.buffers.specs.Region.{Room, Inside};
 ghost use Rattle.resolution.specs.Reached.{Shifted, Mirrored};
 
@@ -6,7 +8,7 @@ use crate::resolver::Resolver;
 use buffers::Spot;
 
 impl Resolver<'_> {
-    // Moves the candidate that ends at d.
+    /// Moves the candidate that ends at `d`.
     pub(crate) fn shift(&self, work: &mut [u8], d: Spot)
         requires { Room work.old self.now.space × Inside self.now.space d }
         ensures { Shifted self.now.space work.old work.new d }
@@ -17,7 +19,7 @@ impl Resolver<'_> {
         work.copy_within(half + labels..half + labels + d.label, labels);
     }
 
-    // Lays the sheet's bytes in the first half, so that its types can be read from there too.
+    /// Lays the sheet's bytes in the first half, so that its types can be read from there too.
     pub(crate) fn mirror(&self, work: &mut [u8])
         requires { Room work.old self.now.space }
         ensures { Mirrored self.now.space self.now.sheet.now work.old work.new }

@@ -1,19 +1,19 @@
-// A candidate that is wrappers around a type without parts.
+//! A candidate that is wrappers around a type without parts.
+
 ghost use Rattle.coercion.specs.Answers.{coercion};
 ghost use Rattle.buffers.specs.Region.{Room, Inside};
 ghost use Rattle.buffers.specs.Plain.{rules_of};
 ghost use Rattle.resolution.specs.Reached.{Candidate, Cored, Steps};
 
 use crate::resolver::Resolver;
-use buffers::copy::is_nullable;
 use buffers::{Failure, Goal, Out, Question, Spot};
-use merge::Merger;
 use sheet::figure::label_bytes;
 use sheet::record::head_at;
 
 impl Resolver<'_> {
-    // The common type of the type at a link and such a candidate that ends at d, where only the core changes. The core's record is the last, and so are its
-    // labels: it is written anew, and the wrappers stay.
+    /// The common type of the type at a link and such a candidate that ends at `d`, where only the
+    /// core changes. The core's record is the last, and so are its labels: it is written anew, and
+    /// the wrappers stay.
     pub(crate) fn step_core(&self, work: &mut [u8], link: usize, d: Spot) -> Out
         requires room { Room work.old self.now.space × Inside self.now.space d }
         requires cored { Cored (rules_of Question.List self.now.mask) self.now.space self.now.sheet.now work.old link d }
@@ -32,7 +32,7 @@ impl Resolver<'_> {
             at,
             label: d.label - own,
             nlen: h.nlen,
-            nullable: is_nullable(h),
+            nullable: h.nullable(),
         };
         self.shift(work, d);
         let merger = self.merger(Question::List);
