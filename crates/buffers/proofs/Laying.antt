@@ -16,7 +16,7 @@ use Rattle.sheet.proofs.Spans.{span_join, span_nil, span_move}
 use Rattle.sheet.proofs.Heads.{span_head}
 use Rattle.buffers.specs.Writes.{side, Put}
 use Rattle.buffers.specs.Region.{Room, region, Kept, Held, Ready, Named, moved_label, CopiedHead, CopiedChain}
-use Rattle.buffers.specs.Goal.{past, Writes, Laid, LaidPlain, LaidZoned, CopiedType, shape_for, zoned_shape}
+use Rattle.buffers.specs.Goal.{past, Laid, LaidPlain, LaidZoned, CopiedType, shape_for, zoned_shape}
 use Rattle.buffers.specs.declared.Space.{Space}
 use Rattle.buffers.specs.declared.Spot.{Spot}
 use Rattle.buffers.specs.declared.Goal.{Goal}
@@ -24,7 +24,7 @@ use Rattle.buffers.specs.Out.{Out}
 use Rattle.std.specs.Prelude.{Ok, Err}
 use Rattle.buffers.specs.declared.Failure.{Failure}
 use Rattle.buffers.specs.declared.Failure.TheVariants.{NoType, Full}
-use Rattle.buffers.proofs.Frames.{span_frame, stands_frame, kept_self, kept_trans, kept_wider}
+use Rattle.buffers.proofs.Frames.{span_frame, stands_frame, kept_trans, kept_wider}
 use Rattle.buffers.proofs.Copying.{span_region, label_kept, head_kept, held_side, moved_name}
 use Rattle.buffers.proofs.Chained.{held_first}
 
@@ -63,10 +63,6 @@ head_laid space w v g kind figure scale sz first sorted a b place lt ea eb ep p 
             label = span_join name [] (named_kept space w v g.at (g.label + g.nlen) g (omega arith) kept nm).span span_nil;
           };
     }
-
--- nothing was written, for want of a record
-pub no_record : (space : Space) (w : List ℕ) (g : Goal) → space.n ≤ g.at → Writes space w w g (Err Full)
-no_record space w g h = record { kept = kept_self w g.at (g.label + g.nlen); passes = tt }
 
 pub plain_laid : (space : Space) (w v : List ℕ) (g : Goal) (kind figure scale : ℕ) → Ready space g → g.at < space.n → Laid space w v g (shape_for kind figure scale 0 false) 0
     → {d : Spot} → d ≡ past g 0 → LaidPlain space w v g (shape_for kind figure scale 0 false) (Ok d)

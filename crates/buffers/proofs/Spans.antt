@@ -168,7 +168,8 @@ module _ (s : List ℕ) (n : ℕ) where
         ),
       )
 
--- a chain that was moved with what is before it, from number link to number at; its first record is number x behind that
+-- a chain that was moved with what is before it, from number link to number at; its first record is number x
+-- behind that
 moved_behind : (link at x : ℕ) (t : Fields) → at + x + count t < 65536 → moved_items link at (items_of (link + x) t) ≡ items_of (at + x) t
 unfolding items_of moved_items count
 moved_behind link at x end h = refl

@@ -11,7 +11,6 @@ use borrow.Author.Tests.{not-true}
 use Rattle.sheet.specs.Tests.{between}
 use Rattle.sheet.specs.Kind.{is_kind}
 use Rattle.sheet.proofs.Tests.{never, and_fst, and_snd, or_fst, or_snd}
-use Rattle.kinds.proofs.Chain.{first}
 use Rattle.coercion.specs.declared.Figures.{Figures}
 use Rattle.coercion.specs.Data.{DataType, Rules, Question, list, union, compare, first_of, figures_of, as_type}
 use Rattle.coercion.specs.Kinds.{is_numeric, is_string, is_date, is_time}
@@ -23,7 +22,8 @@ use Rattle.coercion.specs.Answers.{of_kind_type, string_number}
 use Rattle.coercion.proofs.Ranked.{kind_from}
 use Rattle.coercion.proofs.Tables.{below2, at2}
 use Rattle.coercion.proofs.Words.{or_none}
-use Rattle.buffers.specs.Plain.{string_time, plain_rules}
+use Rattle.buffers.specs.Plain.{string_time, plain_answers, plain_rules}
+use Rattle.buffers.specs.Laws.{picked, PickedRule}
 use Rattle.buffers.specs.Steps.{Figured}
 
 abbrev is_some : {A : Type 0} → Option A → Bool
@@ -46,17 +46,6 @@ speaks k j =
     ∷ is_some (binary_coercion k j)
     ∷ []
 
--- the place of the rule that is asked
-abbrev pub turns : ℕ → ℕ → List (Bool × ℕ)
-turns k j =
-    (is_numeric k && is_numeric j, 0)
-    ∷ (eqb k 1 || eqb j 1, 3)
-    ∷ (is_string k && is_string j, 2)
-    ∷ ((is_string k || is_string j) && (is_numeric k || is_numeric j), 4)
-    ∷ ((is_string k || is_string j) && (between 18 24 k || between 18 24 j), 5)
-    ∷ (between 18 24 k || between 18 24 j, 1)
-    ∷ []
-
 -- no rule speaks, or none but one
 abbrev none_of : List Bool → Bool
 none_of [] = true
@@ -67,7 +56,7 @@ alone t [] = true
 alone zero (b ∷ bs) = none_of bs
 alone (suc t) (b ∷ bs) = not b && alone t bs
 
-tabled : below2 (λ k j. alone (first 6 (turns k j)) (speaks k j)) 39 ≡ true
+tabled : below2 (λ k j. alone (picked k j) (speaks k j)) 39 ≡ true
 unfolding between temporal_coercion binary_coercion
 tabled = refl
 
@@ -110,18 +99,6 @@ module _ (rules : Rules) (l r : DataType) where
   abbrev j : ℕ
   j = r.shape.kind
 
-  -- the rules of `plain_rules`, in its order
-  abbrev pub voices : List (Option DataType)
-  voices =
-      as_type (binary_numeric_coercion (figures_of l) (figures_of r))
-      ∷ temporal_coercion_nonstrict_timezone l r
-      ∷ of_kind_type (string_coercion k j)
-      ∷ null_coercion rules.mask l r
-      ∷ string_number rules.question l r
-      ∷ string_time rules.question l r
-      ∷ of_kind_type (binary_coercion k j)
-      ∷ []
-
   no_number : (q : Question) → (is_numeric k && is_string j) || (is_string k && is_numeric j) ≡ false → string_number q l r ≡ None
   unfolding string_numeric_coercion string_numeric_union_coercion
   no_number q h = go q (or_fst (is_numeric k && is_string j) _ h) (or_snd (is_numeric k && is_string j) _ h)
@@ -156,21 +133,26 @@ module _ (rules : Rules) (l r : DataType) where
   unfolding null_coercion
   no_null h = rw (or_fst (eqb k 1) _ h, or_snd (eqb k 1) _ h)
 
-  heard : Voices (speaks k j) voices
+  heard : Voices (speaks k j) (plain_answers rules l r)
   heard =
       no_numbers also no_times also no_strings also no_null also no_number rules.question also no_string_time rules.question also no_kind (binary_coercion k j)
       also done
 
 -- a kind is below 39
-kind_below : {h : Figures} {t : DataType} → Figured h t → t.shape.kind < 39
+kind_below : (k : ℕ) → is_kind k ≡ true → k < 39
 unfolding is_kind
-kind_below {h} {t} a = omega (arith, (kind_from 1 38 t.shape.kind a.known).1)
+kind_below k h = omega (arith, (kind_from 1 38 k h).1)
 
--- what the rule says whose turn it is
-pub spoken : (rules : Rules) {x y : Figures} (l r : DataType) → Figured x l → Figured y r → (t : ℕ) → first 6 (turns x.kind y.kind) ≡ t
-    → {o : Option DataType} → o ≡ get_or (voices rules l r) t None → o ≡ plain_rules rules l r
+-- the rule that two kinds pick
+pub picked_answers : PickedRule
 unfolding plain_rules
-spoken rules {x} {y} l r p q t e h =
-    let i = at2 (λ k j. alone (first 6 (turns k j)) (speaks k j)) 39 tabled l.shape.kind r.shape.kind (kind_below p) (kind_below q) in
-    let s : first 6 (turns l.shape.kind r.shape.kind) ≡ t = rw (p.kind, q.kind) e in
-    h ∙ sym (sole (first 6 (turns l.shape.kind r.shape.kind)) (heard rules l r) i ∙ ap (λ (t : ℕ). get_or (voices rules l r) t None) s)
+picked_answers rules l r p q =
+    sym (sole (picked l.shape.kind r.shape.kind) (heard rules l r)
+    (at2 (λ k j. alone (picked k j) (speaks k j)) 39 tabled l.shape.kind r.shape.kind (kind_below l.shape.kind p) (kind_below r.shape.kind q)))
+
+-- what that rule says, by the figures of the two types
+pub spoken : (rules : Rules) {x y : Figures} (l r : DataType) → Figured x l → Figured y r → (t : ℕ) → picked x.kind y.kind ≡ t
+    → {o : Option DataType} → o ≡ get_or (plain_answers rules l r) t None → o ≡ plain_rules rules l r
+spoken rules l r p q t e h =
+    let s : picked l.shape.kind r.shape.kind ≡ t = rw (p.kind, q.kind) e in
+    h ∙ ap (λ (t : ℕ). get_or (plain_answers rules l r) t None) (sym s) ∙ picked_answers rules l r p.known q.known

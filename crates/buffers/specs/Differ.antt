@@ -1,4 +1,5 @@
--- Where two types first differ, by the number of a record of the first. Records follow each other: a record's parts stand behind it, and its next behind them.
+-- Where two types first differ, by the number of a record of the first. Records follow each other: a record's
+-- parts stand behind it, and its next behind them.
 use Rattle.std.specs.Prelude.{◌≡◌, ℕ, ◌+◌, ◌<◌, ◌≤◌, Bool, false, cond, List, [], ◌∷◌, eqb, ltb}
 use Rattle.std.specs.Prelude.{Option, None, Some}
 use Rattle.std.specs.Bool.{beq}
@@ -13,8 +14,9 @@ use Rattle.buffers.specs.Source.{Source, type_of}
 abbrev pub first_of : ℕ → ℕ → ℕ
 first_of d e = cond (eqb d 0) e d
 
--- The record at which two chains first differ, with their names or without, where the first begins at record i: 0 where the chains are the same, and up, the
--- record whose parts they are, where one has more fields than the other.
+-- The record at which two chains first differ, with their names or without, where the first begins at record i:
+-- 0 where the chains are the same, and up, the record whose parts they are, where one has more fields than the
+-- other.
 unfoldable pub fields_differ : Bool → ℕ → ℕ → Fields → Fields → ℕ
 fields_differ named up i end end = 0
 fields_differ named up i end (field name nullable shape parts rest) = up
@@ -36,12 +38,14 @@ DifferTypes s n i t m j named e =
     → Source s n 0 i r o up (field name nullable shape parts rest) → Source t m 0 j r' o' up' (field name' nullable' shape' parts' rest')
     → e ≡ type_differs named i (type_of shape parts) (type_of shape' parts')
 
--- what the comparison of two chains says of whatever chains two links lead to, the first past floor; d is the record whose parts they are
+-- what the comparison of two chains says of whatever chains two links lead to, the first past floor; d is the
+-- record whose parts they are
 abbrev pub DifferChains : List ℕ → ℕ → ℕ → ℕ → List ℕ → ℕ → ℕ → Bool → ℕ → ℕ → Type 0
 DifferChains s n floor i t m j named d e =
     (r o up : ℕ) (a : Fields) (r' o' up' : ℕ) (b : Fields) → Source s n floor i r o up a → Source t m 0 j r' o' up' b → e ≡ fields_differ named d i a b
 
--- a number that is known is that of the record at which two chains first differ, the first of which begins at record l; one below l says nothing
+-- a number that is known is that of the record at which two chains first differ, the first of which begins at
+-- record l; one below l says nothing
 abbrev pub RowsKnown : Option ℕ → Bool → ℕ → Fields → Fields → Type 0
 RowsKnown known named l lf pf = (d : ℕ) → known ≡ Some d → 0 < l → l ≤ d → fields_differ named 0 l lf pf ≡ d
 

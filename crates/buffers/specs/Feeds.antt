@@ -17,8 +17,8 @@ abbrev pub EndOf : Fields → Fields → Type 0
 EndOf t end = t ≡ end
 EndOf t (field name nullable shape parts rest) = (t ≡ field name nullable shape parts rest) ⊎ EndOf t rest
 
--- which chains give the fields of lf their types and join their nullability: rf is the right chain, pf the part of it at lf's place.
--- By name the right's names differ, so that whichever field has a name is the one
+-- which chains give the fields of lf their types and join their nullability: rf is the right chain, pf the part
+-- of it at lf's place. By name the right's names differ, so that whichever field has a name is the one
 abbrev pub Feeds : Feed → Fields → Fields → Fields → Fields → Fields → Type 0
 Feeds Feed.Place lf rf pf tf nf = (tf ≡ pf) × (nf ≡ pf)
 Feeds Feed.Own lf rf pf tf nf = (tf ≡ pf) × (nf ≡ lf)

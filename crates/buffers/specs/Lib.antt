@@ -11,3 +11,4 @@ pub mod Partners
 pub mod Plain
 pub mod Steps
 pub mod Span
+pub mod Laws

@@ -20,7 +20,8 @@ pub record Present (space : Space) (s : List ℕ) (link : ℕ) (name : List ℕ)
 abbrev pub key_of : Bool → ℕ → ℕ
 key_of swap i = cond swap (1024 + i) i
 
--- what an entry e says of record i of s: field e % 1024 of the chain at e / 1024 % 1024 of t has the name of record i; 0 says nothing
+-- what an entry e says of record i of s: field e % 1024 of the chain at e / 1024 % 1024 of t has the name of
+-- record i; 0 says nothing
 abbrev pub Partner : Space → List ℕ → List ℕ → ℕ → ℕ → Type 0
 Partner space s t i e =
     0 < e → (name : List ℕ) (nullable : Bool) (shape : Shape) (parts rest rf : Fields) → Chain space s i (field name nullable shape parts rest) → Chain space t (e / 1024 % 1024) rf

@@ -1,5 +1,5 @@
 -- The question that is asked, and the rules for types without parts.
-use Rattle.std.specs.Prelude.{ℕ, Bool, true, false, [], ◌∷◌}
+use Rattle.std.specs.Prelude.{ℕ, Bool, true, false, List, [], ◌∷◌}
 use Rattle.std.specs.Prelude.{Option, None}
 use Rattle.coercion.specs.Data.{DataType, Rules, first_of, figures_of, as_type}
 use Rattle.coercion.specs.Data as Data
@@ -31,15 +31,18 @@ string_time Data.list l r = None
 string_time Data.union l r = string_temporal_coercion l r
 string_time Data.compare l r = string_temporal_coercion l r
 
--- the rules for types without parts
-unfoldable pub plain_rules : Rules → DataType → DataType → Option DataType
-plain_rules rules l r =
-    first_of
-    (as_type (binary_numeric_coercion (figures_of l) (figures_of r))
+-- what each rule for types without parts says, in the order in which they are tried
+abbrev pub plain_answers : Rules → DataType → DataType → List (Option DataType)
+plain_answers rules l r =
+    as_type (binary_numeric_coercion (figures_of l) (figures_of r))
     ∷ temporal_coercion_nonstrict_timezone l r
     ∷ of_kind_type (string_coercion l.shape.kind r.shape.kind)
     ∷ null_coercion rules.mask l r
     ∷ string_number rules.question l r
     ∷ string_time rules.question l r
     ∷ of_kind_type (binary_coercion l.shape.kind r.shape.kind)
-    ∷ [])
+    ∷ []
+
+-- the rules for types without parts
+unfoldable pub plain_rules : Rules → DataType → DataType → Option DataType
+plain_rules rules l r = first_of (plain_answers rules l r)

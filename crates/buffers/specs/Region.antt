@@ -75,7 +75,8 @@ moved_link x link at = cond (ltb link x && ltb (at + (x - link)) 65536) (at + (x
 abbrev pub moved_label : ℕ → ℕ → ℕ
 moved_label o len = cond (eqb len 0) 0 o
 
--- the head of record `link` at a goal: its own figures and zone, the goal's name and nullability, its parts after it, and a next record that is given
+-- the head of record `link` at a goal: its own figures and zone, the goal's name and nullability, its parts
+-- after it, and a next record that is given
 abbrev pub goal_head : Head → ℕ → Goal → ℕ → Head
 goal_head h link g next =
     record {
@@ -103,7 +104,8 @@ pub record Named (space : Space) (w : List ℕ) (g : Goal) (name : List ℕ) : T
   pub long : length name ≡ g.nlen
   pub span : Span (region space w) (16 * space.n + g.label) name
 
--- what is said of a head that was copied: whatever field stands at its place, its shape stands at the goal, under whatever name stands there
+-- what is said of a head that was copied: whatever field stands at its place, its shape stands at the goal,
+-- under whatever name stands there
 abbrev pub HeadMeans : Space → List ℕ → List ℕ → List ℕ → Head → ℕ → Goal → ℕ → Out → Type 0
 HeadMeans space s w v h link g next (Ok d) =
     (d.at ≡ g.at + 1)

@@ -57,7 +57,8 @@ unfoldable pub moved_items : ℕ → ℕ → List Item → List Item
 moved_items link at [] = []
 moved_items link at (x ∷ xs) = moved_item link at x ∷ moved_items link at xs
 
--- what is said of records that were copied, from number link up to end: whatever records stand there stand at the destination
+-- what is said of records that were copied, from number link up to end: whatever records stand there stand at
+-- the destination
 abbrev pub SpanMeans : Space → List ℕ → List ℕ → ℕ → ℕ → Spot → Out → Type 0
 SpanMeans space s v link end to (Ok d) =
     (o : ℕ) (xs : List Item) → Strip s space.n link o xs → ItemsRight xs → link + length xs ≡ end → end ≤ space.n → o + length (item_labels xs) ≤ space.m

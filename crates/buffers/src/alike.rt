@@ -1,6 +1,7 @@
-// Where two chains of fields, or two types, first differ, with the names of their fields or without, and whether they are the same. A link of the first is
-// followed only to a record past floor, so that each comparison ends. Each buffer stands with its number of records and no struct for the two: `differ_sides`
-// has one number for both buffers, and would make two structs at each call.
+//! Where two chains of fields, or two types, first differ, with the names of their fields or
+//! without, and whether they are the same. `a` has `n` records and `b` has `m`. A link of the
+//! first is followed only to a record past floor, so that each comparison ends.
+
 ghost use Rattle.std.specs.Prelude.{◌≡◌, ℕ, not, ◌∷◌, [], ◌/◌, ◌%◌, ◌<◌};
 ghost use Rattle.std.specs.Bool.{beq};
 ghost use Rattle.sheet.specs.Tests.{all_of, implies};
@@ -19,8 +20,7 @@ use sheet::Head;
 use sheet::label::{label_at, same, same_name};
 use sheet::record::head_at;
 
-// Whether the zones that bytes 4 to 7 of two records place are the same. By the two numbers and not `Head::zone_at`: the contract is of these bytes alone, and
-// `same_content` hands on no more of the heads.
+// Whether the zones that bytes 4 to 7 of two records place are the same.
 fn same_zone(a: &[u8], n: usize, p: usize, b: &[u8], m: usize, q: usize) -> bool
     requires { (n < 65536) × (m < 65536) }
     ensures { result ≡ same_bytes (label_at a.now n (p % 65536) (p / 65536 % 256)) (label_at b.now m (q % 65536) (q / 65536 % 256)) }
@@ -43,8 +43,7 @@ fn same_content(a: &[u8], n: usize, g: Head, b: &[u8], m: usize, h: Head) -> boo
     }
 }
 
-// Whether bytes 0, 2 and 3 and the bits for sorted and for a zone of two records are the same. No derived `==`: of the flags two bits count here, and bytes 4
-// to 7 are compared apart.
+// Whether bytes 0, 2 and 3 and the bits for sorted and for a zone of two records are the same.
 #[tactic(auto, unfolding(sheet::specs::Tests::all_of))]
 fn same_figures(g: Head, h: Head) -> bool
     ensures { result ≡ same_figures g h }
@@ -55,8 +54,8 @@ fn same_figures(g: Head, h: Head) -> bool
         && g.flags / 2 % 4 == h.flags / 2 % 4
 }
 
-// Whether the shapes of two records are the same. Inlined, as `differ_heads` is: as a call, which reads the heads from memory, it makes a list of one zoned
-// Timestamp take half as long again.
+// Whether the shapes of two records are the same. Inlined, as `differ_heads` is, so that heads at
+// hand are not read from memory again.
 #[inline(always)]
 #[tactic(auto, using(crate::proofs::Sameness::shape_is))]
 fn same_shape(a: &[u8], n: usize, g: Head, b: &[u8], m: usize, h: Head) -> bool
@@ -78,8 +77,8 @@ fn same_record(a: &[u8], n: usize, g: Head, b: &[u8], m: usize, h: Head, named: 
         && (!named || same_name(a, n, g, b, m, h))
 }
 
-// The record at which the chain that a link of a leads to and the one that a link of b leads to first differ. The first chain is the parts of record floor, or
-// what is left of them.
+// The record at which the chain that a link of a leads to and the one that a link of b leads to
+// first differ. The first chain is the parts of record floor, or what is left of them.
 fn differ_fields(
     a: &[u8],
     n: usize,
@@ -119,8 +118,9 @@ fn differ_fields(
     if y == 0 { 0 } else { floor }
 }
 
-// The record at which two types first differ, record i of a and one of b, whose heads are read already: a list reads the head of its first type once, and not
-// again for each of the others. By `differ_type`, as a call, a list of one zoned Timestamp takes 1.4 times as long.
+/// The record at which two types first differ, record `i` of `a` and one of `b`, whose heads are
+/// read already; 0 where they are the same. A list reads the head of its first type once for all
+/// the others.
 #[inline(always)]
 pub fn differ_heads(
     a: &[u8],
@@ -145,19 +145,21 @@ pub fn differ_heads(
     differ_fields(a, n, i, g.first, b, m, h.first, named)
 }
 
-// The record at which the type of record i of a and that of record j of b first differ.
+/// The record at which the type of record `i` of `a` and that of record `j` of `b` first differ, by
+/// its number in `a`; 0 where they are the same. Names count where `named` is set; the nullability
+/// of the two records themselves does not.
 pub fn differ_type(a: &[u8], n: usize, i: usize, b: &[u8], m: usize, j: usize, named: bool) -> usize
     requires { (n < 65536) × (m < 65536) }
     ensures { DifferTypes a.now n i b.now m j named result }
 {
-    // The kinds are read alone first, for speed: most types that differ do there.
+    // The kinds are read alone first, as most types that differ do there.
     if head_at(a, i).kind != head_at(b, j).kind {
         return i;
     }
     differ_heads(a, n, i, head_at(a, i), b, m, head_at(b, j), named)
 }
 
-// The record at which the type of record l of a side and that of record r of the other first differ.
+/// The same of record `l` of the left and record `r` of the right.
 pub fn differ_sides(
     sheet: &[u8],
     work: &[u8],
@@ -174,7 +176,8 @@ pub fn differ_sides(
     differ_type(a, n, l, b, n, r, named)
 }
 
-// Whether the type of record l of a side is that of record r of the other.
+/// Whether the type of record `l` of the left is that of record `r` of the right. Names count where
+/// `named` is set.
 pub fn same_sides(
     sheet: &[u8],
     work: &[u8],

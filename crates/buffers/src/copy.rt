@@ -1,7 +1,7 @@
-// Copying a chain of a side to the destination.
-ghost use Rattle.std.specs.Prelude.{◌≡◌, false, cond, ◌+◌, ◌*◌, ◌/◌, ◌≤◌, ◌<◌, length};
-ghost use Rattle.sheet.specs.Head.{head_at, nullable_in, zoned_in, zone_len};
-ghost use Rattle.sheet.specs.Encode.{bit};
+//! Copying a chain of a side to the destination.
+
+ghost use Rattle.std.specs.Prelude.{◌≡◌, false, cond, ◌+◌, ◌*◌, ◌/◌, ◌≤◌, ◌<◌};
+ghost use Rattle.sheet.specs.Head.{head_at, zoned_in, zone_len};
 ghost use Rattle.sheet.specs.Bounds.{Bounded};
 ghost use Rattle.buffers.specs.Writes.{side};
 ghost use Rattle.buffers.specs.Region.{Room, Inside, Ready, moved_link, moved_label, goal_head, CopiedHead, CopiedBare, CopiedRecord, CopiedChain};
@@ -11,6 +11,8 @@ use crate::write::{look, put_head, put_label};
 use crate::{Failure, Goal, Out, Space, Spot};
 use sheet::Head;
 
+/// A link `x` of records that were copied from number `link` on, where the first now has number
+/// `at`; 0 where it leads to none of those behind the first.
 pub(crate) fn moved_link(x: usize, link: usize, at: usize) -> usize
     requires { (x < 65536) × (at < 65536) }
     ensures { (result ≡ moved_link x link at) × (result < 65536) }
@@ -22,20 +24,21 @@ pub(crate) fn moved_link(x: usize, link: usize, at: usize) -> usize
     }
 }
 
+/// The offset of a label of `len` bytes whose place is `o`: an empty one has offset 0.
 pub(crate) fn moved_label(o: usize, len: usize) -> usize
     ensures { (result ≡ moved_label o len) × (result ≤ o) }
 {
     if len == 0 { 0 } else { o }
 }
 
-// The length of a record's zone; 0 where it has none, and no Option, as so many bytes are copied.
+/// The length of a record's zone in bytes; 0 where it has none.
 pub(crate) fn zone_bytes(h: Head) -> usize
     ensures { (result ≡ cond (zoned_in h) (zone_len h) 0) × (result < 256) }
 {
     if h.zoned() { h.zone_len() } else { 0 }
 }
 
-// Bytes 4 to 7 of a record whose zone belongs at a place.
+/// Bytes 4 to 7 of a record whose zone, if it has one, belongs at the offset `label`.
 pub(crate) fn moved_quad(h: Head, label: usize) -> usize
     requires { (label < 65536) × Bounded h }
     ensures { (result ≡ cond (zoned_in h) (moved_label label (zone_len h) + 65536 * zone_len h) h.quad) × (result < 4294967296) }
@@ -63,7 +66,8 @@ fn goal_head(h: Head, link: usize, g: Goal, next: usize) -> Head
     }
 }
 
-// Copies the head and the zone of record `link` of a side to a goal.
+/// Copies the head `h` and the zone of record `link` of a side to a goal, with `next` as its next
+/// link; its parts are to stand behind it. `Full` where the zone does not fit.
 pub fn copy_head(
     sheet: &[u8],
     work: &mut [u8],
@@ -94,8 +98,8 @@ pub fn copy_head(
     Ok(g.past(zlen))
 }
 
-// Copies the head of record `link`, which has no zone, to a goal, as the last of its chain. Unlike `copy_head` it needs no sheet, asks for no room for a zone
-// and cannot fail.
+// Copies the head of record `link`, which has no zone, to a goal, as the last of its chain: no
+// sheet is read, and it cannot fail.
 fn copy_bare(work: &mut [u8], space: Space, h: Head, link: usize, g: Goal) -> Out
     requires { (Room work.old space × Ready space g) × ((g.at < space.n) × (Bounded h × (zoned_in h ≡ false))) }
     ensures { CopiedBare space work.old work.new h link g result }
@@ -104,8 +108,8 @@ fn copy_bare(work: &mut [u8], space: Space, h: Head, link: usize, g: Goal) -> Ou
     Ok(g.past(0))
 }
 
-// The same for a record of a side that may have a zone. Of one that has none, as that of a wrapper, the head alone is written. With
-// `copy_head` in its place a Dictionary in a list takes 253 ns in place of 238.
+/// `copy_head` for the last record of its chain. Of a record without a zone, as that of a wrapper,
+/// the head alone is written.
 pub fn copy_parent(
     sheet: &[u8],
     work: &mut [u8],
@@ -124,13 +128,6 @@ pub fn copy_parent(
     copy_bare(work, space, h, link, g)
 }
 
-// `Head::nullable` by a name that four crates call: `h.nullable()` at each of the eight places says no more, so it would be no plainer.
-pub fn is_nullable(h: Head) -> bool
-    ensures { result ≡ nullable_in h }
-{
-    h.nullable()
-}
-
 // Copies record `link` of a side, with its labels, and without its parts.
 fn copy_record(
     sheet: &[u8],
@@ -145,12 +142,13 @@ fn copy_record(
     requires read { h ≡ head_at (side swap sheet.now work.old) link }
     ensures { CopiedRecord space (side swap sheet.now work.old) work.old work.new link to result }
 {
-    let g = name_goal(sheet, work, space, swap, h, is_nullable(h), to)?;
+    let g = name_goal(sheet, work, space, swap, h, h.nullable(), to)?;
     let next = moved_link(h.next, link, to.at);
     copy_head(sheet, work, space, swap, h, link, g, next)
 }
 
-// Copies the chain that a link of a side leads to. Where nothing follows a record, its parts are what is left.
+/// Copies the chain that a link of a side leads to. Where nothing follows a record, its parts are
+/// what is left, so that a chain of last fields costs no recursion.
 pub(crate) fn copy_fields(
     sheet: &[u8],
     work: &mut [u8],

@@ -1,5 +1,5 @@
-// Writing the fields of a chain, one by one.
-// A kind is the byte of a record: public functions take any byte, of which an enum of 38 kinds would ask more.
+//! Writing the fields of a chain, one by one.
+
 ghost use Rattle.std.specs.Prelude.{◌≡◌, cond, ◌+◌, ◌≤◌, ◌<◌, eqb, Ok, Err};
 ghost use Rattle.buffers.specs.declared.Failure.{Failure};
 ghost use Rattle.sheet.specs.Bounds.{Bounded};
@@ -7,13 +7,13 @@ ghost use Rattle.buffers.specs.Writes.{side};
 ghost use Rattle.buffers.specs.Region.{Room, Inside};
 ghost use Rattle.buffers.specs.Typed.{NamedAt, NamedGoal, CopiedField};
 
-use crate::copy::is_nullable;
 use crate::lay::copy_type;
 use crate::write::{look, put_label};
 use crate::{Failure, Goal, Out, Space, Spot};
 use sheet::Head;
 
-// The link to the parts of a record, which follow it where a chain is not empty.
+/// The link of record `at` to its parts, which stand behind it, where the chain at `link` is not
+/// empty; else 0.
 pub fn first_link(at: usize, link: usize) -> usize
     requires { at < 65535 }
     ensures { (result ≡ cond (eqb link 0) 0 (at + 1)) × (result < 65536) }
@@ -21,21 +21,23 @@ pub fn first_link(at: usize, link: usize) -> usize
     if link == 0 { 0 } else { at + 1 }
 }
 
-// The link to the rows from one place up to another, where there are any.
+/// The link to the rows from one place up to another; 0 where there are none.
 pub fn next_link(d: Spot, e: Spot) -> usize
     ensures { (result ≡ cond (eqb d.at e.at) 0 d.at) × (result ≤ d.at) }
 {
     if d.at == e.at { 0 } else { d.at }
 }
 
-// The end of the left chain, which must be that of the right.
+/// The place where the left chain ends, and where that of the right must end too: `NoType` where a
+/// field `p` of it is left.
 pub fn row_end(p: usize, to: Spot) -> Out
     ensures { result ≡ cond (eqb p 0) (Ok to) (Err Failure.NoType) }
 {
     if p == 0 { Ok(to) } else { Err(Failure::NoType) }
 }
 
-// Writes the name of a record of a side at a place, where there is room for it. Whether it fitted is all that is told: `name_goal` makes a Result of it.
+/// Writes the name of a record of a side, whose head is `h`, at a place, and says whether there was
+/// room for it.
 pub fn name_field(
     sheet: &[u8],
     work: &mut [u8],
@@ -61,7 +63,7 @@ pub fn name_field(
     true
 }
 
-// The same, and the goal of a field there.
+/// The same, and the goal of a field there; `Full` where there is no room for the name.
 pub fn name_goal(
     sheet: &[u8],
     work: &mut [u8],
@@ -81,7 +83,7 @@ pub fn name_goal(
     }
 }
 
-// Copies the field at a link of a side, without those behind it.
+/// Copies the field at a link of a side, without those behind it. `Full` where it does not fit.
 pub fn copy_field(
     sheet: &[u8],
     work: &mut [u8],
@@ -94,6 +96,6 @@ pub fn copy_field(
     ensures { CopiedField space (side swap sheet.now work.old) work.old work.new link to result }
 {
     let h = look(sheet, &*work, swap, link);
-    let g = name_goal(sheet, work, space, swap, h, is_nullable(h), to)?;
+    let g = name_goal(sheet, work, space, swap, h, h.nullable(), to)?;
     copy_type(sheet, work, space, swap, link, g)
 }

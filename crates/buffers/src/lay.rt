@@ -1,7 +1,6 @@
-// Writing a type at a goal.
-// A kind is the byte of a record: public functions take any byte, of which an enum of 38 kinds would ask more.
-ghost use Rattle.std.specs.Prelude.{◌≡◌, Bool, true, false, cond, ◌+◌, ◌*◌, ◌≤◌, ◌<◌, length};
-ghost use Rattle.sheet.specs.Encode.{bit};
+//! Writing a type at a goal.
+
+ghost use Rattle.std.specs.Prelude.{false, ◌+◌, ◌*◌, ◌≤◌, ◌<◌, length};
 ghost use Rattle.buffers.specs.Writes.{side};
 ghost use Rattle.buffers.specs.Region.{Room, Ready};
 ghost use Rattle.buffers.specs.Goal.{Laid, LaidPlain, LaidZoned, CopiedType, Tied, shape_for};
@@ -13,7 +12,7 @@ use coercion::Figures;
 use sheet::Head;
 use sheet::record::head_at;
 
-// Writes the record of a type without a zone, with a link to its parts.
+/// Writes the record of a type without a zone, as the last of its chain, with a link to its parts.
 pub fn lay(work: &mut [u8], space: Space, g: Goal, shape: Shape, first: usize)
     requires { (Room work.old space × Ready space g) × ((g.at < space.n) × ((shape.size < 4294967296) × (first < 65536))) }
     ensures { Laid space work.old work.new g (shape_for shape.kind shape.figure shape.scale shape.size shape.sorted) first }
@@ -36,7 +35,7 @@ pub fn lay(work: &mut [u8], space: Space, g: Goal, shape: Shape, first: usize)
     )
 }
 
-// Writes a type that has neither parts nor a zone.
+/// Writes a type that has neither parts nor a zone. `Full` where there is no record left.
 pub fn lay_plain(work: &mut [u8], space: Space, g: Goal, f: Figures) -> Out
     requires { Room work.old space × Ready space g }
     ensures { LaidPlain space work.old work.new g (shape_for f.kind f.figure f.scale 0 false) result }
@@ -48,7 +47,8 @@ pub fn lay_plain(work: &mut [u8], space: Space, g: Goal, f: Figures) -> Out
     Ok(g.past(0))
 }
 
-// Writes a type that has a zone, which may be empty.
+/// Writes a type that has a zone, which may be empty. `Full` where the record or the zone does not
+/// fit.
 pub(crate) fn lay_zoned(
     work: &mut [u8],
     space: Space,
@@ -85,7 +85,8 @@ pub(crate) fn lay_zoned(
     Ok(g.past(zlen))
 }
 
-// Copies the type at a link of a side to a goal.
+/// Copies the type at a link of a side to a goal, under the goal's name and nullability. `Full`
+/// where it does not fit.
 pub fn copy_type(
     sheet: &[u8],
     work: &mut [u8],
@@ -108,7 +109,7 @@ pub fn copy_type(
     copy_fields(sheet, work, space, swap, h.first, d)
 }
 
-// Ties a record that was written to the next of its chain, by a link.
+/// Ties record `at` of the destination to the next of its chain, by a link.
 pub fn tie(work: &mut [u8], space: Space, at: usize, next: usize)
     requires { Room work.old space × ((at < space.n) × (next < 65536)) }
     ensures { Tied space work.old work.new at next }

@@ -1,14 +1,23 @@
-// Types in lent buffers: whether two are the same, how one is copied or laid, and the rules for types without parts.
-// A kind is the byte of a record: public functions take any byte, of which an enum of 38 kinds would ask more.
+//! Types in lent buffers: whether two are the same, how one is copied or written, and the rules
+//! for types without parts.
+//!
+//! The functions of this crate and of those above it share their parameters. `sheet` has the
+//! bytes of a sheet; `work` is the work space, whose first half may be read and whose second
+//! half is the destination; `space` has the sizes of both. Of two types the left stands in the
+//! sheet and the right in the work space, or the other way round where `swap` is set. A link is
+//! the number of a record, and 0 leads nowhere. A kind is byte 0 of a record: any byte is
+//! taken, and one that is no kind has no rule.
+
 #![tactic(auto)]
 
-ghost use Rattle.std.specs.Prelude.{◌≡◌, false, ◌+◌, ◌*◌, ◌<◌};
+ghost use Rattle.std.specs.Prelude.{◌≡◌, false, ◌+◌, ◌<◌};
 ghost use Rattle.buffers.specs.Goal.{past};
 ghost use Rattle.buffers.specs.Typed.{goal_at};
 
 pub mod alike;
 pub mod copy;
 pub mod field;
+pub mod laws;
 pub mod lay;
 pub mod plain;
 pub mod span;
@@ -18,14 +27,18 @@ pub mod write;
 use coercion::Figures;
 use std::fmt;
 
-// What is asked of two types.
+/// What is asked of listed types.
 #[derive(Clone, Copy)]
 pub enum Question {
+    /// `type_union_resolution`, of any number of types.
     List,
+    /// `type_union_coercion`, of two types.
     Union,
+    /// `comparison_coercion`, of two types.
     Compare,
 }
 
+/// Writes `list`, `union` or `compare`.
 impl fmt::Display for Question {
     fn fmt<W: fmt::Write>(&self, f: &mut fmt::Formatter<W>) -> fmt::Result {
         f.write_str(match self {
@@ -36,10 +49,8 @@ impl fmt::Display for Question {
     }
 }
 
-// The sizes that all functions share: the sheet's records and label bytes, and the length of half of the work space, which is the sheet's. The buffers are
-// passed beside it: a struct that held them and the fact `Room` would need a clause in each contract that the sheet and the sizes stay, so it is no plainer.
-// Sheet and side stand beside it too: the side changes from call to call, so a struct of them would be made at each. That n is at most 1,024 is a part of
-// `Room`, so no ghost field says it again; what only reads asks for it alone.
+/// The sizes that all functions share: `n` records of the sheet, its header among them; `m` label
+/// bytes; and `half`, the bytes of half of the work space, as many as the sheet has.
 #[derive(Clone, Copy)]
 pub struct Space {
     pub n: usize,
@@ -47,25 +58,29 @@ pub struct Space {
     pub half: usize,
 }
 
-// A place in the destination: the next record and the next label.
+/// A place in the destination: the number of the next record, and the offset of the next label
+/// among the label bytes.
 #[derive(Clone, Copy)]
 pub struct Spot {
     pub at: usize,
     pub label: usize,
 }
 
-// Why nothing was written: there is no common type, or no room.
+/// Why nothing was written.
 #[derive(Clone, Copy)]
 pub enum Failure {
+    /// There is no common type.
     NoType,
+    /// There is no room for records or labels; no accepted sheet comes to it.
     Full,
 }
 
-// The place before which what was written ends.
+/// The place behind what was written. After an `Err` the destination is left free from the place on
+/// that the function was given.
 pub type Out = Result<Spot, Failure>;
 
-// A place in the destination for a type under a name. The name's bytes stand there already, nlen of them from label on. That it lies in the room of a Space
-// says `Ready`, and no ghost field, as it has no Space: each Goal and Spot would carry the sizes that all share.
+/// A place in the destination for a type under a name: its record, and its labels, of which the
+/// first `nlen` bytes are the name and stand there already.
 #[derive(Clone, Copy)]
 pub struct Goal {
     pub at: usize,
@@ -75,7 +90,7 @@ pub struct Goal {
 }
 
 impl Spot {
-    // The goal of a field at this place, under a name of nlen bytes.
+    /// The goal of a field at this place, under a name of `nlen` bytes.
     pub fn goal(self, nlen: usize, nullable: bool) -> Goal
         ensures { result ≡ goal_at self nlen nullable }
     {
@@ -89,7 +104,7 @@ impl Spot {
 }
 
 impl Goal {
-    // The place past its record and its labels, the last zlen of which are a zone.
+    /// The place past its record and its labels, the last `zlen` bytes of which are a zone.
     pub(crate) fn past(self, zlen: usize) -> Spot
         requires { (self.at < 65536) × (self.label + self.nlen + zlen < 65536) }
         ensures { result ≡ past self zlen }
@@ -101,7 +116,8 @@ impl Goal {
     }
 }
 
-// The shape of a type without a zone: figures, and what a record says besides. With Figures as a field each use would name it.
+/// A type without its parts and its zone: figures, and what else its record says. The size is that
+/// of a FixedSizeBinary or FixedSizeList, and 0 elsewhere; a Map may be sorted.
 #[derive(Clone, Copy)]
 pub struct Shape {
     pub kind: u8,
@@ -111,10 +127,10 @@ pub struct Shape {
     pub sorted: bool,
 }
 
+/// The shape of a type that has only figures.
 impl From<Figures> for Shape {
     ghost from_gives = { λ f s. s ≡ record { kind = f.kind; figure = f.figure; scale = f.scale; size = 0; sorted = false } };
 
-    // Of a type that has only figures.
     fn from(f: Figures) -> Shape {
         Shape {
             kind: f.kind,
@@ -126,26 +142,34 @@ impl From<Figures> for Shape {
     }
 }
 
-// Which field of the right chain gives a field of the left its type, and which chain its nullability: the one at its place for both; its place's type and
-// no nullability but its own; the one of its name for both; the one of its name, with the nullability at its place.
+/// Which field of the right gives a field of the left its type, and which joins its nullability.
 #[derive(Clone, Copy)]
 pub enum Feed {
+    /// The field at its place does both.
     Place,
+    /// The field at its place gives the type, and the nullability is the left's own.
     Own,
+    /// The field of its name does both.
     Name,
+    /// The field of its name gives the type, and the one at its place joins the nullability.
     NameThenPlace,
 }
 
-// What a rule for types without parts says: figures, a Timestamp of a unit with the zone of the two, or one of the two types.
+/// What a rule for types without parts says of two types.
 #[derive(Clone, Copy)]
 pub enum Step {
+    /// A type of these figures.
     Lay(Figures),
+    /// A Timestamp of this unit, with the left's zone if it has one, else the right's.
     Stamp(u8),
+    /// The left type.
     Left,
+    /// The right type.
     Right,
 }
 
-// What feeds one row: a record of the right, 0 for none; whether the field is nullable; and the place of the next row.
+/// What feeds one row: the record of the right that gives the type, 0 for none; whether the field
+/// is nullable; and the record of the right at the place of the next row.
 #[derive(Clone, Copy)]
 pub struct Row {
     pub partner: usize,

@@ -1,5 +1,6 @@
-// The rules for types without parts, from their figures, and the shape of two lists' common list, from the heads of two records.
-// A kind is the byte of a record: public functions take any byte, of which an enum of 38 kinds would ask more.
+//! The rules for types without parts, from their figures, and the shape of two lists' common
+//! list, from the heads of two records.
+
 ghost use Rattle.std.specs.Prelude.{◌≡◌, ◌<◌};
 ghost use Rattle.sheet.specs.Bounds.{Bounded};
 ghost use Rattle.coercion.specs.Data.{DataType, figures_of, as_type};
@@ -23,13 +24,15 @@ use rules::times::{temporal_coercion, timeunit_coercion};
 use sheet::Head;
 use sheet::figure::within;
 
+/// Whether the question is a list's: then names are compared, and strings become no times.
 pub fn is_list_question(question: Question) -> bool
     ensures { result ≡ is_list_question (asked question) }
 {
     matches!(question, Question::List)
 }
 
-// The kind of two lists' common list. The kind and the size are two functions, as they are two definitions.
+/// The kind of two lists' common list, as `list_coercion` has it: FixedSizeList for two of one
+/// size, LargeList where one is, else List.
 pub fn list_kind(x: Head, y: Head) -> u8
     ensures { result ≡ list_kind x y }
 {
@@ -42,7 +45,7 @@ pub fn list_kind(x: Head, y: Head) -> u8
     }
 }
 
-// Its size; 0 where it has none, which is what the record of such a list holds there.
+/// The size of two lists' common list; 0 where it has none.
 pub fn list_size(x: Head, y: Head) -> usize
     requires { Bounded y }
     ensures { (result ≡ list_size x y) × (result < 4294967296) }
@@ -110,7 +113,6 @@ fn null(mask: u64, x: Figures, y: Figures) -> Option<Step>
     of_side(null_coercion(mask, x.kind, y.kind))
 }
 
-// The question is data of the call: a closure in its place would be handed down through all rules to be called here.
 fn string_number(question: Question, x: Figures, y: Figures) -> Option<Step>
     ensures { (l r : DataType) → Figured x l → Figured y r → step_of result l r ≡ string_number (asked question) l r }
 {
@@ -129,7 +131,9 @@ fn string_time(question: Question, x: Figures, y: Figures) -> Option<Step>
     of_moment(string_temporal_coercion(x.kind, x.figure, y.kind, y.figure))
 }
 
-// The rules for types without parts. Of two kinds one rule at most says a type, so the tests find that rule and the others are not asked.
+/// What the rules for types without parts say of two types of these figures. Of two kinds one rule
+/// at most says a type (`laws::picked_rule`), so the tests find that rule and the others are not
+/// asked.
 pub fn plain_step(question: Question, mask: u64, x: Figures, y: Figures) -> Option<Step>
     ensures { (l r : DataType) → Figured x l → Figured y r → step_of result l r ≡ plain_rules (rules_of question mask) l r }
 {
@@ -162,7 +166,6 @@ pub fn plain_step(question: Question, mask: u64, x: Figures, y: Figures) -> Opti
     of_found(binary_coercion(k, j))
 }
 
-// No From, since neither type is this crate's.
 fn figures(h: Head) -> Figures
     ensures { result ≡ record { kind = h.kind; figure = h.figure; scale = h.scale } }
 {
@@ -173,7 +176,7 @@ fn figures(h: Head) -> Figures
     }
 }
 
-// The same, from the heads of two records.
+/// The same, from the heads of two records.
 pub fn plain(question: Question, mask: u64, x: Head, y: Head) -> Option<Step>
     ensures { (l r : DataType) → Reads x l → Reads y r → step_of result l r ≡ plain_rules (rules_of question mask) l r }
 {

@@ -1,4 +1,6 @@
-// Copying records that stand one behind the other: their heads at once, then what differs in each head, and their labels at once.
+//! Copying records that stand one behind the other: their heads at once, then what differs in
+//! each head, and their labels at once.
+
 ghost use Rattle.std.specs.Prelude.{◌≡◌, not, eqb, ◌&&◌, ◌+◌, ◌-◌, ◌≤◌, ◌<◌};
 ghost use Rattle.sheet.specs.Head.{zoned_in};
 ghost use Rattle.sheet.specs.Bounds.{Bounded};
@@ -43,8 +45,9 @@ fn is_bare(h: Head) -> bool
     h.nlen == 0 && !h.zoned()
 }
 
-// Mends heads that were copied from number link on: their links and the places of their labels become those of the records where they stand now. Each of the
-// three cases puts its head itself, so that no more is written than what it changes: a record takes 5 to 7 cycles in place of the 11 of one `put_head` for all.
+// Mends heads that were copied from number link on: their links and the places of their labels
+// become those of the records where they stand now. Each of the three cases puts its head itself,
+// so that no more is computed than what it changes.
 fn move_heads(work: &mut [u8], space: Space, link: usize, count: usize, to: Spot) -> Out
     requires { Room work.old space × (Inside space to × (to.at + count ≤ space.n)) }
     ensures { MovedHeads space (region space work.old) to.at work.old work.new link count to result }
@@ -79,8 +82,8 @@ fn move_heads(work: &mut [u8], space: Space, link: usize, count: usize, to: Spot
     Ok(Spot { at, label })
 }
 
-// Where the labels of the records of a side from number link up to end begin, where there are any; else 0, which
-// nothing reads.
+// Where the labels of the records of a side from number link up to end begin, where there are any;
+// else 0.
 fn labels_from(sheet: &[u8], work: &[u8], swap: bool, link: usize, end: usize) -> usize
     ensures { LabelsBegin (side swap sheet.now work.now) link end result }
 {
@@ -98,8 +101,8 @@ fn labels_from(sheet: &[u8], work: &[u8], swap: bool, link: usize, end: usize) -
     0
 }
 
-// What `copy_span` does where there is room for the records, however many they are and whatever labels they have. It is not inlined, so that the frame in the
-// recursion of `merge` stays small.
+// What `copy_span` does where there is room for the records, however many they are and whatever
+// labels they have. It is not inlined, so that the frame in the recursion of `merge` stays small.
 #[inline(never)]
 fn copy_items(
     sheet: &[u8],
@@ -139,9 +142,10 @@ fn copy_items(
     Ok(d)
 }
 
-// Copies the records of a side from number link up to end, which stand one behind the other, with their labels, to a place. Links are moved with the records.
-// Most often it is one record without labels, the index of a Dictionary, of which a head is put and no more. With `copy_items` for it a Dictionary in a list
-// takes 239 ns in place of 222, and 236 where this is not inlined.
+/// Copies the records of a side from number `link` up to `end`, which stand one behind the other,
+/// with their labels, to a place. Links among them are moved with the records. `Full` where records
+/// or labels do not fit. Most often it is one record without labels, the index of a Dictionary, of
+/// which a head is put and no more: that case is inlined.
 #[inline(always)]
 pub fn copy_span(
     sheet: &[u8],

@@ -1,4 +1,5 @@
-// Writing what a rule for types without parts says.
+//! Writing what a rule for types without parts says.
+
 ghost use Rattle.std.specs.Prelude.{◌≡◌, not, length};
 ghost use Prim.Native.Nat.{ℕ, ◌≤◌};
 ghost use Rattle.sheet.specs.Bounds.{Filled};
@@ -18,7 +19,8 @@ use rules::zone::{Place, zone_coercion};
 use sheet::Head;
 use sheet::label::fill;
 
-// Where the zone of a record stands in a slice of a length: what lies inside, where the slice ends before it does.
+// Where the zone of a record stands in a slice of a length: what lies inside, where the slice ends
+// before it does.
 fn zone_place(h: Head, n: usize, length: usize) -> Place
     requires { n ≤ 1024 }
     ensures { result ≡ place_of h n length }
@@ -31,7 +33,8 @@ fn zone_place(h: Head, n: usize, length: usize) -> Place
     }
 }
 
-// Fills a buffer with the zone of two records, the left's if it has one, else the right's, and says how many bytes it has.
+// Fills a buffer with the zone of two records, the left's if it has one, else the right's, and says
+// how many bytes it has.
 fn zone_into<'a>(
     sheet: &'a [u8],
     work: &'a [u8],
@@ -51,7 +54,8 @@ fn zone_into<'a>(
     fill(z, 0, z.len(), buf)
 }
 
-// Writes a Timestamp of a unit with the zone of two records of which one has a zone. All of the zone is read before one byte is written.
+// Writes a Timestamp of a unit with the zone of two records of which one has a zone. All of the
+// zone is read before one byte is written.
 fn stamp_zoned(
     sheet: &[u8],
     work: &mut [u8],
@@ -65,13 +69,14 @@ fn stamp_zoned(
     requires { Room work.old space × Ready space g }
     ensures { LaidZoned space work.old work.new g 22 unit (either_zone (side swap sheet.now work.old) (side (not swap) sheet.now work.old) space.n x y) result }
 {
-    // No heap: the zone is held here, as it may stand in what is then written.
+    // The zone is held here, as it may stand in what is then written.
     let mut buf = [0u8; 255];
     let k = zone_into(sheet, &*work, space.n, swap, x, y, &mut buf);
     lay_zoned(work, space, g, 22, unit, &buf[..k])
 }
 
-// Writes a Timestamp of a unit with the zone of two types: the left's if it has one, else the right's.
+// Writes a Timestamp of a unit with the zone of two types: the left's if it has one, else the
+// right's.
 fn stamp(
     sheet: &[u8],
     work: &mut [u8],
@@ -93,7 +98,7 @@ fn stamp(
     lay_plain(work, space, g, Figures::of_unit(22, unit))
 }
 
-// Writes what a step says of the types at two links. A step is a value and no closure, as `values::lays_view` asks which one it is, and it is laid or valued.
+// Writes what a step says of the types at two links.
 fn lay_step(
     sheet: &[u8],
     work: &mut [u8],
@@ -115,7 +120,8 @@ fn lay_step(
     }
 }
 
-// Writes what the rules for types without parts say of the types at two links.
+/// Writes what the rules for types without parts say of the types at `l` and `r`: `NoType` where
+/// they say nothing, `Full` where there is no room for the record or the zone.
 pub fn plain_rule(
     sheet: &[u8],
     work: &mut [u8],

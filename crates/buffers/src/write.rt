@@ -1,6 +1,6 @@
-// Writing heads and labels into the work space.
-// A kind is the byte of a record: public functions take any byte, of which an enum of 38 kinds would ask more.
-ghost use Rattle.std.specs.Prelude.{◌≡◌, Bool, not, ◌+◌, ◌*◌, ◌≤◌, ◌<◌, length, take, drop};
+//! Reading sides, and writing heads and labels into the work space.
+
+ghost use Rattle.std.specs.Prelude.{◌≡◌, not, ◌+◌, ◌≤◌, ◌<◌, length, take, drop};
 ghost use Rattle.sheet.specs.Head.{head_at, bytes_of};
 ghost use Rattle.sheet.specs.Bounds.{Bounded};
 ghost use Rattle.buffers.specs.Writes.{side, Put};
@@ -9,28 +9,29 @@ use sheet::Head;
 use sheet::label::label_at;
 use sheet::record::head_at;
 
-// The buffer that a side is read from, and that of the other side. In this crate all but `put_label` choose here.
+/// The buffer that the left is read from, and the right's.
 pub fn sides<'a>(sheet: &'a [u8], work: &'a [u8], swap: bool) -> (&'a [u8], &'a [u8])
     ensures { (result.0.now ≡ side swap sheet.now work.now) × (result.1.now ≡ side (not swap) sheet.now work.now) }
 {
     if swap { (work, sheet) } else { (sheet, work) }
 }
 
-// The head of record r of a side.
+/// The head of record `r` of the left, or of the right where the caller turns `swap` round; zeros
+/// past the end of the buffer.
 pub fn look(sheet: &[u8], work: &[u8], swap: bool, r: usize) -> Head
     ensures { (result ≡ head_at (side swap sheet.now work.now) r) × Bounded result }
 {
     head_at(sides(sheet, work, swap).0, r)
 }
 
-// The kind of record r of a side.
+/// The kind of record `r` of a side.
 pub fn kind_at(sheet: &[u8], work: &[u8], swap: bool, r: usize) -> u8
     ensures { result ≡ (head_at (side swap sheet.now work.now) r).kind }
 {
     look(sheet, work, swap, r).kind
 }
 
-// The record of the second part of record r of a side.
+/// The record of the second part of record `r` of a side: a wrapper's value.
 pub fn value_at(sheet: &[u8], work: &[u8], swap: bool, r: usize) -> usize
     ensures { result ≡ (head_at (side swap sheet.now work.now) (head_at (side swap sheet.now work.now) r).first).next }
 {
@@ -38,7 +39,7 @@ pub fn value_at(sheet: &[u8], work: &[u8], swap: bool, r: usize) -> usize
     look(sheet, work, swap, first).next
 }
 
-// Puts bytes into a buffer, from at on.
+/// Puts bytes into a buffer, from `at` on.
 pub(crate) fn put(work: &mut [u8], at: usize, bytes: &[u8])
     requires { at + length bytes.now ≤ length work.old }
     ensures { Put work.old work.new at bytes.now }
@@ -46,7 +47,7 @@ pub(crate) fn put(work: &mut [u8], at: usize, bytes: &[u8])
     work[at..at + bytes.len()].copy_from_slice(bytes);
 }
 
-// Puts the sixteen bytes of a head into a buffer.
+/// Puts the sixteen bytes of a head into a buffer, from `at` on.
 pub(crate) fn put_head(work: &mut [u8], at: usize, h: Head)
     requires { (at + 16 ≤ length work.old) × Bounded h }
     ensures { Put work.old work.new at (bytes_of h) }
@@ -76,7 +77,8 @@ pub(crate) fn put_head(work: &mut [u8], at: usize, h: Head)
     put(work, at, &bytes)
 }
 
-// Puts a label of the work space at another place of it: what lies inside, where the work space ends before it does.
+// Puts a label of the work space at another place of it: what lies inside, where the work space
+// ends before it does.
 fn put_own(work: &mut [u8], from: usize, len: usize, at: usize)
     requires { (from + len < 4294967296) × (at + len ≤ length work.old) }
     ensures { Put work.old work.new at (take len (drop from work.old)) }
@@ -87,7 +89,8 @@ fn put_own(work: &mut [u8], from: usize, len: usize, at: usize)
     }
 }
 
-// Puts a label of a side into the work space.
+/// Puts `len` bytes of a side, from `from` on, into the work space, from `at` on: those that the
+/// side has.
 pub(crate) fn put_label(
     sheet: &[u8],
     work: &mut [u8],

@@ -20,7 +20,6 @@ use Rattle.sheet.specs.Read.{label_at, zone_of}
 use Rattle.sheet.specs.Head.{head_at, zoned_in, zone_at, zone_len}
 use Rattle.sheet.specs.declared.Head.{Head}
 use Rattle.sheet.proofs.Tests.{never, and_fst, and_snd, all_at}
-use Rattle.kinds.proofs.Chain.{first}
 use Rattle.coercion.specs.Data.{DataType, Rules, and_then, figures_of, of_unit, zoned}
 use Rattle.coercion.specs.Data as Data
 use Rattle.coercion.specs.Same.{equal}
@@ -40,7 +39,8 @@ use Rattle.buffers.specs.declared.Step.{Step}
 use Rattle.buffers.proofs.Sources.{link_inside, read_shape}
 use Rattle.buffers.proofs.Chained.{held_first, held_next}
 use Rattle.buffers.proofs.Fielding.{typed_reads}
-use Rattle.buffers.proofs.Turns.{turns, spoken}
+use Rattle.buffers.specs.Laws.{picked}
+use Rattle.buffers.proofs.Turns.{spoken}
 use Rattle.wrappers.specs.Ways.{is_wrapper, wrappers_of}
 use Rattle.wrappers.proofs.Cores.{missing, wrapper_is, two_parts, bare_wrappers, wrap_wrappers}
 use Rattle.wrappers.proofs.Values.{Two, typed_two, value_of}
@@ -307,7 +307,7 @@ module _ (mask : ℕ) where
   stamp_stays l r z p q el er ez eu =
       plain_coercion rules l r (omega (arith, el)) (omega (arith, er))
       ∙ ap (cond (equal l r) (Some l))
-      (sym (spoken rules l r (own_figured l p el) (own_figured r q er) 1 (ap₂ (λ (k j : ℕ). first 6 (turns k j)) el er) refl) ∙ told ∙ ap (λ (t : DataType). Some t) (sym (stamp_is l p el)))
+      (sym (spoken rules l r (own_figured l p el) (own_figured r q er) 1 (ap₂ (λ (k j : ℕ). picked k j) el er) refl) ∙ told ∙ ap (λ (t : DataType). Some t) (sym (stamp_is l p el)))
       ∙ cond_self (equal l r) (Some l)
     where
       told : temporal_coercion_nonstrict_timezone l r ≡ Some (zoned (of_unit 22 l.shape.figure) l.shape.zone)
