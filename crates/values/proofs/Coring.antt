@@ -1,4 +1,5 @@
--- Where the core of a type stands: its record is the last of the type if it has no parts, and its labels are the last. Assumes nothing.
+-- Where the core of a type stands: its record is the last of the type if it has no parts, and its labels are
+-- the last. Assumes nothing.
 use mathlib.Core.Path.{◌≡◌, refl, ap, sym, subst, ◌∙◌}
 use mathlib.Core.Bool.{Bool, true, false}
 use mathlib.Core.List.{List}

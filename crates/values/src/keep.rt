@@ -1,4 +1,6 @@
-// Whether a candidate stays as it is when it meets a new type. Below wrappers that hangs on its core alone.
+//! Whether a candidate stays as it is when it meets a new type. Below wrappers that hangs on
+//! its core alone.
+
 ghost use Rattle.std.specs.Prelude.{◌≡◌, true, Some, ◌<◌};
 ghost use Rattle.coercion.specs.Data.{DataType};
 ghost use Rattle.coercion.specs.Answers.{coercion};
@@ -14,15 +16,15 @@ use rules::times::timeunit_coercion;
 use sheet::Head;
 use sheet::record::head_at;
 
-// Where the walk down a type's wrappers ends: at the record of its core. The wrapper is the one directly around that, by its kind, if there is one.
+/// Where the walk down a type's wrappers ends: at the record of its core. The wrapper is the one
+/// directly around that, by its kind, if there is one.
 #[derive(Clone, Copy)]
 pub struct Bottom {
     pub core: usize,
     pub wrapper: Option<u8>,
 }
 
-// The bottom of the type of record r. A link is followed only upward. Other walks to a core end otherwise: those of `rules` and `wrappers` give its kind, 0
-// where there is none, and the last reads either buffer and counts the records that may be left.
+// The bottom of the type of record r. A link is followed only upward.
 fn bottom_at(s: &[u8], space: Space, r: usize) -> Bottom
     ensures { BottomAt space s.now r result }
 {
@@ -43,14 +45,15 @@ fn bottom_at(s: &[u8], space: Space, r: usize) -> Bottom
     Bottom { core, wrapper }
 }
 
-// The bottom of the candidate's type, which may be known already.
+/// The bottom of the candidate's type, at record 1 of the second half, which may be known already.
 pub fn bottom_of(second: &[u8], space: Space, known: Option<Bottom>) -> Bottom
     ensures { BottomIf space second.now known → BottomAt space second.now 1 result }
 {
     known.unwrap_or_else(|| bottom_at(second, space, 1))
 }
 
-// Whether a candidate with this bottom, whose core has the head v, has Utf8View directly in a Dictionary, which would give way to it.
+// Whether a candidate with this bottom, whose core has the head v, has Utf8View directly in a
+// Dictionary, which would give way to it.
 fn gives_way(v: Head, bottom: Bottom) -> bool
     ensures { result ≡ gives_way v.kind bottom.wrapper }
 {
@@ -65,16 +68,18 @@ fn is_common(mask: u64, x: Leaf, y: Leaf, z: Leaf) -> bool
     common_type(Question::List, mask, x, y) == Some(z)
 }
 
-// Whether a Timestamp with a zone stays as it is to the left of a Timestamp: the zone is the left's, and the unit where it is no coarser.
+// Whether a Timestamp with a zone stays as it is to the left of a Timestamp: the zone is the
+// left's, and the unit where it is no coarser.
 fn stays_zoned(x: Head, y: Head) -> bool
     ensures { result ≡ stays_zoned x y }
 {
     x.kind == 22 && x.zoned() && y.kind == 22 && timeunit_coercion(x.figure, y.figure) == x.figure
 }
 
-// Whether the candidate at record 1 of the second half, with this bottom, stays as it is under the type at a link of the sheet. Below a wrapper the core goes
-// left, and a Dictionary of Utf8View gives way to Utf8View, as run ends do not. Nothing is said of other types with parts, zone or order. A struct of what this
-// and `is_core_alone` take would be made anew at each of the two calls, as the work space is lent to `step_list` in between.
+/// Whether the candidate at record 1 of the second half, with this bottom, is known to stay as it
+/// is under the type at a link of the sheet, in a list. Below a wrapper the core goes left, and a
+/// Dictionary of Utf8View gives way to Utf8View, as run ends do not. A no says nothing: the merge
+/// then decides.
 pub fn keeps(
     sheet: &[u8],
     second: &[u8],
@@ -108,8 +113,10 @@ fn lays_view(step: Option<Step>) -> bool
     matches!(step, Some(Step::Lay(f)) if f.kind == 27)
 }
 
-// Whether the candidate at record 1 of the second half is wrappers around a core without parts, which alone changes under the type at a link of the sheet. A
-// Dictionary gives way to Utf8View.
+/// Whether the candidate at record 1 of the second half, whose core is at record `core`, is known
+/// to be wrappers around a core without parts, which alone changes under the type at a link of the
+/// sheet. Types of Utf8View are left to the merge, as a Dictionary gives way to it. A no says
+/// nothing.
 pub fn is_core_alone(
     sheet: &[u8],
     second: &[u8],

@@ -1,4 +1,5 @@
-// Types without parts by value, and candidates that stay as they are under a new type.
+//! Types without parts by value, and candidates that stay as they are under a new type.
+
 #![tactic(auto)]
 
 pub mod keep;

@@ -1,4 +1,6 @@
-// The types that are known to leave a candidate as it is, by kind: in a long list of types without figures few pairs are new.
+//! The types that are known to leave a candidate as it is, by kind: in a long list of types
+//! without figures few pairs are new.
+
 ghost use Rattle.std.specs.Prelude.{◌≡◌, ◌<◌};
 ghost use Rattle.values.specs.Taken.{is_bare, is_taken, taken_kinds};
 
@@ -12,7 +14,8 @@ fn is_bare(x: Leaf) -> bool
     x.figure == 0 && x.scale == 0 && x.size == 0
 }
 
-// Whether a type is known to leave the candidate as it is: Null is skipped, and a type that is wholly its kind may be among those that do.
+/// Whether a type is known to leave the candidate as it is: Null is skipped, and a type that is
+/// wholly its kind may be among `kinds`, bit k for kind k.
 pub fn is_taken(kinds: u64, x: Leaf) -> bool
     requires { x.kind < 32 }
     ensures { result ≡ is_taken kinds x }
@@ -20,7 +23,8 @@ pub fn is_taken(kinds: u64, x: Leaf) -> bool
     x.kind == 1 || is_bare(x) && may_become(kinds, x.kind)
 }
 
-// The kinds that are known to leave the next candidate as it is, after a type was joined with the last.
+/// The kinds that are known to leave the next candidate as it is, after type `x` was joined with
+/// the candidate `last` to `next`.
 pub fn taken_kinds(kinds: u64, x: Leaf, last: Leaf, next: Leaf) -> u64
     requires { x.kind < 32 }
     ensures { result ≡ taken_kinds kinds x last next }

@@ -1,5 +1,5 @@
-// Types without parts, zone or order, by value.
-// A kind is the byte of a record: public functions take any byte, of which an enum of 38 kinds would ask more.
+//! Types without parts, zone or order, by value.
+
 ghost use Rattle.std.specs.Prelude.{◌≡◌, ◌<◌, Some, false};
 ghost use Rattle.sheet.specs.Bounds.{Bounded};
 ghost use Rattle.coercion.specs.Answers.{coercion};
@@ -11,7 +11,8 @@ use buffers::{Question, Shape, Step};
 use coercion::Figures;
 use sheet::Head;
 
-// A type without parts, zone or order: Figures with a size. With Figures as a field each use of a kind or figure would name it.
+/// A type without parts, zone or order: figures, and bytes 4 to 7 of its record, which are the size
+/// of a FixedSizeBinary, and 0 elsewhere.
 #[derive(Clone, Copy, PartialEq)]
 pub struct Leaf {
     pub kind: u8,
@@ -20,6 +21,7 @@ pub struct Leaf {
     pub size: usize,
 }
 
+/// The figures of a type, without its size.
 impl From<Leaf> for Figures {
     ghost from_gives = { λ x f. f ≡ figures_in x };
 
@@ -32,7 +34,7 @@ impl From<Leaf> for Figures {
     }
 }
 
-// Of a type that has no size.
+/// A type that has no size.
 impl From<Figures> for Leaf {
     ghost from_gives = { λ f x. x ≡ record { kind = f.kind; figure = f.figure; scale = f.scale; size = 0 } };
 
@@ -46,6 +48,7 @@ impl From<Figures> for Leaf {
     }
 }
 
+/// The shape of a type, which is not sorted.
 impl From<Leaf> for Shape {
     ghost from_gives = { λ x s. s ≡ record { kind = x.kind; figure = x.figure; scale = x.scale; size = x.size; sorted = false } };
 
@@ -60,14 +63,14 @@ impl From<Leaf> for Shape {
     }
 }
 
-// Whether a head is that of such a type. The lowest flag is the field's: whether it is nullable.
+/// Whether a head is that of such a type. The lowest flag is the field's: whether it is nullable.
 pub fn is_plain(h: Head) -> bool
     ensures { result ≡ is_plain h }
 {
     h.kind < 32 && h.flags < 2
 }
 
-// The type of such a head. No From, as it asks that the head is bounded.
+/// The type of such a head.
 pub fn leaf_of(h: Head) -> Leaf
     requires { Bounded h }
     ensures { (result ≡ leaf_of h) × (result.size < 4294967296) }
@@ -80,8 +83,7 @@ pub fn leaf_of(h: Head) -> Leaf
     }
 }
 
-// The type that a step says of two such types. As neither has a zone, a Timestamp has none. A step is a value and no closure, as `lays_view` asks which one it
-// is, and it is laid or valued.
+// The type that a step says of two such types. As neither has a zone, a Timestamp has none.
 fn said_by(step: Step, x: Leaf, y: Leaf) -> Leaf
     requires { (x.size < 4294967296) × (y.size < 4294967296) }
     ensures { Says (Some step) x y (Some result) }
@@ -94,7 +96,7 @@ fn said_by(step: Step, x: Leaf, y: Leaf) -> Leaf
     }
 }
 
-// The common type of two such types.
+/// The common type of two such types, left then right: what `merge::Merger::coerce` writes of them.
 pub fn common_type(question: Question, mask: u64, x: Leaf, y: Leaf) -> Option<Leaf>
     requires { (x.size < 4294967296) × (y.size < 4294967296) }
     ensures { Joins (coercion (rules_of question mask)) x y result }
