@@ -18,14 +18,14 @@ use Rattle.coercion.specs.Answers.{answer_of, type_union_resolution}
 use Rattle.coercion.specs.declared.Figures.{Figures}
 use Rattle.coercion.proofs.Joins.{asking}
 use Rattle.answers.specs.Call.{Call, Reply, refused, nothing, written, Outcome, settled, answer, outcome}
-use Rattle.answers.specs.Demand.{Asks, Answers}
+use Rattle.answers.specs.LeastType.{Asks, Answers}
 
-abbrev reply_number : Reply → ℕ
+abbrev pub reply_number : Reply → ℕ
 reply_number (refused n) = n
 reply_number nothing = 0
 reply_number (written n) = n
 
-abbrev reply_kind : Reply → ℕ
+abbrev pub reply_kind : Reply → ℕ
 reply_kind (refused n) = 1
 reply_kind nothing = 2
 reply_kind (written n) = 3

@@ -1,5 +1,5 @@
--- What demand 3 asks for can be had: every list of at most 1,023 types of a family can be asked, under every mask that 6 lets pass and over every output
--- and work space that 8 lets pass; and so can each stretch of each cutting of it, and the list of their answers. Assumes nothing.
+-- What the least-type theorem asks for can be had: every list of at most 1,023 types of a family can be asked, and
+-- each stretch of each cutting of it, and the list of their answers. Assumes nothing.
 use mathlib.Core.Path.{◌≡◌, refl, ap, ap₂, sym, subst, ◌∙◌}
 use mathlib.Core.Bool.{Bool, true, false, not, ◌&&◌}
 use mathlib.Core.List.{List, [], ◌∷◌, ◌++◌, map, flatten}
@@ -28,14 +28,11 @@ use Rattle.coercion.proofs.Commons.{Settled, settled}
 use Rattle.coercion.proofs.Fitting.{Fits, in_fits}
 use Rattle.coercion.proofs.PlainRight.{empty_label}
 use Rattle.answers.specs.Call.{Call, bad_mask, bad_pair, refusal}
-use Rattle.answers.proofs.Demanded.{full_rest, stretch_answers}
-use Rattle.answers.specs.Demand.{Asks, Calls, call, NonEmpty}
+use Rattle.answers.specs.Listed.{listed}
+use Rattle.answers.specs.LeastType.{Asks, Calls, call, NonEmpty}
+use Rattle.answers.specs.Premises.{EveryListAsked, EveryCutAsked}
+use Rattle.answers.proofs.LeastType.{full_rest, stretch_answers}
 use Rattle.answers.proofs.Refusing.{accepted_refusal}
-
--- listed types as a chain
-abbrev pub listed : List DataType → Fields
-listed [] = end
-listed (t ∷ ts) = field [] false t.shape t.parts (listed ts)
 
 -- types of figures alone as a chain
 abbrev chain : List Figures → Fields
@@ -165,16 +162,7 @@ unfolding bad_pair
 unrefused c q h m o w =
     accepted_refusal c h ∙ rw (m, q, le-ltb (length c.output) (length c.sheet) o, le-ltb (length c.work) (2 * length c.sheet) w)
 
--- a call on a list of types, with the mask and the buffers that are wanted
-pub record Asked (ts : List DataType) (mask : ℕ) (output work : List ℕ) : Type 0 where
-  pub call : Call
-  pub asks : Asks call ts
-  pub masked : call.mask ≡ mask
-  pub output_is : call.output ≡ output
-  pub work_is : call.work ≡ work
-
-pub asked : (f : Family) (ts : List DataType) → AllIn f ts → length ts ≤ 1023 → (mask : ℕ) → bad_mask mask ≡ false → (output work : List ℕ)
-    → 16 * (1 + length ts) ≤ length output → 32 * (1 + length ts) ≤ length work → Asked ts mask output work
+pub asked : EveryListAsked
 asked f ts a h mask m output work o w =
     let d = drawn f ts a in
     let gs = d.figures in
@@ -224,15 +212,7 @@ module _ (f : Family) (s : Settled f) where
       call k.0 k.1 (stretch_answers f s k.0 ts css n own k.1)
       (stretch_calls css (full_rest ts css n) (in_back f s.laws ts (flatten css) a) (omega arith))
 
--- the calls that demand 3 speaks of, for every cutting
-pub record Cut (css : List (List DataType)) : Type 0 where
-  pub answers : List DataType
-  pub calls : Calls css answers
-  pub last : Call
-  pub asks : Asks last answers
-
-pub every_cut : (f : Family) (types : List DataType) → AllIn f types → SomeIn f types → (css : List (List DataType)) → flatten css ≡ types → NonEmpty css
-    → length types ≤ 1023 → Cut css
+pub every_cut : EveryCutAsked
 every_cut f types a some_one css e n h =
     let s = settled f types some_one in
     let own : AllIn f (flatten css) = subst (AllIn f) (sym e) a in

@@ -1,5 +1,4 @@
--- Demand 3 at calls that are computed: Int8, Null, UInt8, UInt32 in another order, cut in two, the two answers swapped, each call with a mask of its own;
--- and so Decimal128(38,0), Null, (38,10), which outgrow their width, where Null is a stretch by itself. Assumes nothing.
+-- The least-type theorem at two lists whose calls are computed. Assumes nothing.
 use mathlib.Core.Path.{◌≡◌, refl}
 use mathlib.Core.Bool.{Bool, true, ◌&&◌}
 use mathlib.Core.List.Permᴰ
@@ -20,6 +19,7 @@ use Rattle.sheet.specs.Refusals.{torn, bad_kind, linked, bad_chain, met, decimal
 use Rattle.sheet.proofs.Tests.{and_fst, and_snd}
 use Rattle.coercion.specs.Data.{DataType, single, types_of, list, plain, of_kind, first_of}
 use Rattle.coercion.specs.Same.{same_zone, same_shape, same_fields, same_type}
+use Rattle.coercion.specs.declared.Figures.{Figures}
 use Rattle.coercion.specs.Numbers.{decimal, get_wider_decimal_type, decimal_coercion, numerical_coercion, binary_numeric_coercion}
 use Rattle.coercion.specs.Strings.{string_coercion, binary_coercion}
 use Rattle.coercion.specs.Times.{temporal_coercion, temporal_coercion_nonstrict_timezone}
@@ -28,36 +28,10 @@ use Rattle.coercion.specs.Nested.{list_coercion, map_coercion}
 use Rattle.coercion.specs.Answers.{coerce_in, coercion, category_of, has_category, categories_in, fold_from, fold_types, type_union_resolution}
 use Rattle.coercion.specs.Families.{integers, decimals, integer, decimal_of, AllIn, SomeIn, here, null, member, null_type}
 use Rattle.answers.specs.Call.{Call, bad_mask, bad_pair, bad_space, refusal, written, outcome}
-use Rattle.answers.specs.Demand.{Asks, Answers, Calls, call}
+use Rattle.answers.specs.LeastType.{Asks, Answers, Calls, call, NonEmpty, Settles}
+use Rattle.answers.specs.Premises.{int8, int16, int64, uint8, uint32, whole, tenth, call_on, Ran, some_integers, IntegersRun, some_decimals, DecimalsRun}
 use Rattle.answers.proofs.Answering.{answers_one}
-use Rattle.answers.proofs.Demanded.{demand}
-use Rattle.answers.proofs.Asking.{listed, Bytes, bytes_plain}
-
-abbrev pub int8 : DataType
-int8 = plain (of_kind 3)
-
-abbrev pub int16 : DataType
-int16 = plain (of_kind 4)
-
-abbrev pub int64 : DataType
-int64 = plain (of_kind 6)
-
-abbrev pub uint8 : DataType
-uint8 = plain (of_kind 7)
-
-abbrev pub uint32 : DataType
-uint32 = plain (of_kind 9)
-
--- a list call on a sheet of these types, over buffers that are not clean
-abbrev pub call_on : ℕ → List DataType → Call
-call_on mask ts =
-    record {
-      question = list;
-      sheet = encode (listed ts);
-      mask = mask;
-      output = replicate 100 7;
-      work = replicate 200 9;
-    }
+use Rattle.answers.proofs.Asking.{Bytes, bytes_plain}
 
 abbrev all_small : List ℕ → Bool
 all_small [] = true
@@ -66,11 +40,6 @@ all_small (b ∷ bs) = ltb b 256 && all_small bs
 small_bytes : (s : List ℕ) → all_small s ≡ true → Bytes s
 small_bytes [] h = tt
 small_bytes (b ∷ bs) h = (ltb-true b 256 (and_fst (ltb b 256) (all_small bs) h), small_bytes bs (and_snd (ltb b 256) (all_small bs) h))
-
--- a call that is asked and answers
-pub record Ran (mask : ℕ) (ts : List DataType) (t : DataType) : Type 0 where
-  pub asks : Asks (call_on mask ts) ts
-  pub answers : Answers (call_on mask ts) t
 
 ran : (mask : ℕ) (ts : List DataType) (t : DataType) → all_small (call_on mask ts).sheet ≡ true → refusal (call_on mask ts) ≡ 0
     → types_of (read (call_on mask ts).sheet) ≡ ts → (outcome (call_on mask ts)).reply ≡ written (length (encode (single t)))
@@ -81,23 +50,23 @@ ran mask ts t small unrefused reads reply bytes =
       answers = record { reply = reply; bytes = bytes };
     }
 
--- Decimal128(38,0) and (38,10), which no Decimal128 holds
-abbrev pub whole : DataType
-whole = plain (decimal 16 38 128)
+-- that the first two calls ran, in every order and cutting of which the theorem speaks, fixes its type by the last
+settled_type : {types : List DataType} (order : List DataType) (cut : List (List DataType)) {answers : List DataType} (another : List DataType) {mask : ℕ}
+    (g : Figures) → Perm types order → flatten cut ≡ order → NonEmpty cut → Calls cut answers → Perm answers another → Ran mask another (plain g)
+    → (t : DataType) → Settles types t → t ≡ plain g
+settled_type order cut another {mask} g p e n calls q last t s =
+    answers_one (call_on mask another) g t last.answers (s.again order p cut e n _ calls another q (call_on mask another) last.asks)
 
-abbrev pub tenth : DataType
-tenth = plain (decimal 16 38 138)
+-- each call computed: the two stretches of a list, and the list of their answers, swapped
+record Runs : Type 0 where
+  integers_first : Ran 0 (uint8 ∷ int8 ∷ []) int16
+  integers_second : Ran 549755813886 (uint32 ∷ null_type ∷ []) uint32
+  integers_last : Ran 64 (uint32 ∷ int16 ∷ []) int64
+  decimals_first : Ran 2 (tenth ∷ whole ∷ []) tenth
+  decimals_second : Ran 0 (null_type ∷ []) null_type
+  decimals_last : Ran 65536 (null_type ∷ tenth ∷ []) tenth
 
--- each call computed: the two stretches of a list and their answers, swapped; and so once more, where one stretch is a Null alone
-pub record Runs : Type 0 where
-  pub first : Ran 0 (uint8 ∷ int8 ∷ []) int16
-  pub second : Ran 549755813886 (uint32 ∷ null_type ∷ []) uint32
-  pub last : Ran 64 (uint32 ∷ int16 ∷ []) int64
-  pub over : Ran 2 (tenth ∷ whole ∷ []) tenth
-  pub lone : Ran 0 (null_type ∷ []) null_type
-  pub again : Ran 65536 (null_type ∷ tenth ∷ []) tenth
-
-pub runs : Runs
+runs : Runs
 unfolding outcome encode records labels count read walk_from head_at types_of refusal torn one_of all_of bad_kind is_kind between bad_chain linked parts_right arity
     bad_figure any_wrong met record_right figures_right figure_right decimal_right is_decimal cap last_unit size_right sized names_parts bad_label misplaced label_right
     names_differ repeats bad_mask bad_pair bad_space type_union_resolution fold_types fold_from coercion coerce_in first_of same_type same_shape same_fields same_zone
@@ -105,70 +74,54 @@ unfolding outcome encode records labels count read walk_from head_at types_of re
     temporal_coercion_nonstrict_timezone string_coercion binary_coercion null_coercion string_numeric_coercion
 runs =
     record {
-      first = ran 0 (uint8 ∷ int8 ∷ []) int16 refl refl refl refl refl;
-      second = ran 549755813886 (uint32 ∷ null_type ∷ []) uint32 refl refl refl refl refl;
-      last = ran 64 (uint32 ∷ int16 ∷ []) int64 refl refl refl refl refl;
-      over = ran 2 (tenth ∷ whole ∷ []) tenth refl refl refl refl refl;
-      lone = ran 0 (null_type ∷ []) null_type refl refl refl refl refl;
-      again = ran 65536 (null_type ∷ tenth ∷ []) tenth refl refl refl refl refl;
+      integers_first = ran 0 (uint8 ∷ int8 ∷ []) int16 refl refl refl refl refl;
+      integers_second = ran 549755813886 (uint32 ∷ null_type ∷ []) uint32 refl refl refl refl refl;
+      integers_last = ran 64 (uint32 ∷ int16 ∷ []) int64 refl refl refl refl refl;
+      decimals_first = ran 2 (tenth ∷ whole ∷ []) tenth refl refl refl refl refl;
+      decimals_second = ran 0 (null_type ∷ []) null_type refl refl refl refl refl;
+      decimals_last = ran 65536 (null_type ∷ tenth ∷ []) tenth refl refl refl refl refl;
     }
 
--- Int8, Null, UInt8, UInt32, and the order UInt8, Int8, UInt32, Null
-abbrev pub types : List DataType
-types = int8 ∷ null_type ∷ uint8 ∷ uint32 ∷ []
-
-pub all_in : AllIn integers types
-unfolding between
-all_in = (member (integer 3 refl), (null, (member (integer 7 refl), (member (integer 9 refl), tt))))
-
-pub some_in : SomeIn integers types
-unfolding between
-some_in = here (integer 3 refl)
-
-ordered : Perm types (uint8 ∷ int8 ∷ uint32 ∷ null_type ∷ [])
-ordered =
+integers_ordered : Perm some_integers (uint8 ∷ int8 ∷ uint32 ∷ null_type ∷ [])
+integers_ordered =
     ∣ Permᴰ.trans (Permᴰ.cons refl (Permᴰ.swap refl refl))
     (Permᴰ.trans (Permᴰ.swap refl refl) (Permᴰ.cons refl (Permᴰ.cons refl (Permᴰ.swap refl refl)))) ∣₁
 
--- the theorem at these calls
-pub integers_again : Answers (call_on 64 (uint32 ∷ int16 ∷ [])) (demand integers types all_in some_in).0
-unfolding flatten
-integers_again =
-    (demand integers types all_in some_in).1.1.again (uint8 ∷ int8 ∷ uint32 ∷ null_type ∷ []) ordered
-    ((uint8 ∷ int8 ∷ []) ∷ (uint32 ∷ null_type ∷ []) ∷ []) refl tt (int16 ∷ uint32 ∷ [])
-    (call (call_on 0 (uint8 ∷ int8 ∷ [])) runs.first.asks runs.first.answers
-    (call (call_on 549755813886 (uint32 ∷ null_type ∷ [])) runs.second.asks runs.second.answers Calls.end))
-    (uint32 ∷ int16 ∷ []) ∣ Permᴰ.swap refl refl ∣₁ (call_on 64 (uint32 ∷ int16 ∷ [])) runs.last.asks
+pub integers_run : IntegersRun
+unfolding between flatten
+integers_run =
+    record {
+      all_in = (member (integer 3 refl), (null, (member (integer 7 refl), (member (integer 9 refl), tt))));
+      some_in = here (integer 3 refl);
+      ordered = integers_ordered;
+      first = runs.integers_first;
+      second = runs.integers_second;
+      last = runs.integers_last;
+      is =
+          settled_type (uint8 ∷ int8 ∷ uint32 ∷ null_type ∷ []) ((uint8 ∷ int8 ∷ []) ∷ (uint32 ∷ null_type ∷ []) ∷ []) (uint32 ∷ int16 ∷ []) (of_kind 6)
+          integers_ordered refl tt
+          (call (call_on 0 (uint8 ∷ int8 ∷ [])) runs.integers_first.asks runs.integers_first.answers
+          (call (call_on 549755813886 (uint32 ∷ null_type ∷ [])) runs.integers_second.asks runs.integers_second.answers Calls.end))
+          ∣ Permᴰ.swap refl refl ∣₁ runs.integers_last;
+    }
 
--- and the type that it speaks of
-pub integers_type : (demand integers types all_in some_in).0 ≡ int64
-integers_type =
-    answers_one (call_on 64 (uint32 ∷ int16 ∷ [])) (of_kind 6) (demand integers types all_in some_in).0 runs.last.answers integers_again
+decimals_ordered : Perm some_decimals (tenth ∷ whole ∷ null_type ∷ [])
+decimals_ordered = ∣ Permᴰ.trans (Permᴰ.cons refl (Permᴰ.swap refl refl)) (Permᴰ.swap refl refl) ∣₁
 
--- Decimal128(38,0), Null, (38,10), and the order (38,10), (38,0), Null
-abbrev pub wide : List DataType
-wide = whole ∷ null_type ∷ tenth ∷ []
-
-pub wide_in : AllIn (decimals 16) wide
-unfolding is_decimal between decimal_right all_of cap
-wide_in = (member (decimal_of 16 38 0 refl refl (omega arith)), (null, (member (decimal_of 16 38 10 refl refl (omega arith)), tt)))
-
-pub wide_some : SomeIn (decimals 16) wide
-unfolding is_decimal between decimal_right all_of cap
-wide_some = here (decimal_of 16 38 0 refl refl (omega arith))
-
-wide_ordered : Perm wide (tenth ∷ whole ∷ null_type ∷ [])
-wide_ordered = ∣ Permᴰ.trans (Permᴰ.cons refl (Permᴰ.swap refl refl)) (Permᴰ.swap refl refl) ∣₁
-
-pub decimals_again : Answers (call_on 65536 (null_type ∷ tenth ∷ [])) (demand (decimals 16) wide wide_in wide_some).0
-unfolding flatten
-decimals_again =
-    (demand (decimals 16) wide wide_in wide_some).1.1.again (tenth ∷ whole ∷ null_type ∷ []) wide_ordered
-    ((tenth ∷ whole ∷ []) ∷ (null_type ∷ []) ∷ []) refl tt (tenth ∷ null_type ∷ [])
-    (call (call_on 2 (tenth ∷ whole ∷ [])) runs.over.asks runs.over.answers
-    (call (call_on 0 (null_type ∷ [])) runs.lone.asks runs.lone.answers Calls.end))
-    (null_type ∷ tenth ∷ []) ∣ Permᴰ.swap refl refl ∣₁ (call_on 65536 (null_type ∷ tenth ∷ [])) runs.again.asks
-
-pub decimals_type : (demand (decimals 16) wide wide_in wide_some).0 ≡ tenth
-decimals_type =
-    answers_one (call_on 65536 (null_type ∷ tenth ∷ [])) (decimal 16 38 138) (demand (decimals 16) wide wide_in wide_some).0 runs.again.answers decimals_again
+pub decimals_run : DecimalsRun
+unfolding is_decimal between decimal_right all_of cap flatten
+decimals_run =
+    record {
+      all_in = (member (decimal_of 16 38 0 refl refl (omega arith)), (null, (member (decimal_of 16 38 10 refl refl (omega arith)), tt)));
+      some_in = here (decimal_of 16 38 0 refl refl (omega arith));
+      ordered = decimals_ordered;
+      first = runs.decimals_first;
+      second = runs.decimals_second;
+      last = runs.decimals_last;
+      is =
+          settled_type (tenth ∷ whole ∷ null_type ∷ []) ((tenth ∷ whole ∷ []) ∷ (null_type ∷ []) ∷ []) (null_type ∷ tenth ∷ []) (decimal 16 38 138)
+          decimals_ordered refl tt
+          (call (call_on 2 (tenth ∷ whole ∷ [])) runs.decimals_first.asks runs.decimals_first.answers
+          (call (call_on 0 (null_type ∷ [])) runs.decimals_second.asks runs.decimals_second.answers Calls.end))
+          ∣ Permᴰ.swap refl refl ∣₁ runs.decimals_last;
+    }

@@ -1,8 +1,9 @@
 pub mod Marked
 pub mod Answering
-pub mod Demanded
+pub mod LeastType
 pub mod Asking
 pub mod Instance
+pub mod Replies
 pub mod Emitting
 pub mod Refusing
 pub mod Calling

@@ -16,7 +16,7 @@ use Rattle.answers.specs.Call.{Call, bad_mask, bad_pair, Reply, refused, nothing
 use Rattle.std.specs.Prelude.{Option, None, Some, Result, Ok, Err}
 use Rattle.answers.specs.declared.Refusal.{Refusal}
 
--- the paper's number for each refusal of a call
+-- the refusal number for each refusal of a call
 abbrev pub number_of : Refusal → ℕ
 number_of (Refusal.Sheet r) = Sheet.number_of r
 number_of Refusal.Mask = 6

@@ -1,3 +1,7 @@
 pub mod Call
-pub mod Demand
+pub mod LeastType
+pub mod Listed
+pub mod Premises
+pub mod Marked
+pub mod Laws
 pub mod Code

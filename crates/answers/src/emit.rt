@@ -17,7 +17,8 @@ fn write_header(n: usize, m: usize, output: &mut [u8])
     output[4..16].fill(0);
 }
 
-// Writes the one-type sheet of the type that ends at d in the second half of the work space to the front of an output, and says how long it is.
+// Writes the one-type sheet of the type that ends at d in the second half of the work space to the front of an
+// output, and says how long it is.
 pub(crate) fn write_type(work: &[u8], space: Space, d: Spot, output: &mut [u8]) -> usize
     requires { Room work.now space × (Inside space d × (space.half ≤ length output.old)) }
     ensures { (result ≡ 16 * d.at + d.label) × Emits space d work.now output.old output.new }

@@ -1,7 +1,9 @@
-// The three answers over sheets and lent buffers. No public function has a condition of its own: the three calls take any bytes and any mask.
+// The three answers over sheets and lent buffers. No public function has a condition of its own: the three calls take
+// any bytes and any mask.
 #![tactic(auto)]
 
 mod emit;
+pub mod laws;
 mod refuse;
 
 ghost use Rattle.std.specs.Prelude.{◌≡◌};
@@ -17,8 +19,9 @@ use refusals::header::Whole;
 use refuse::refused;
 use sheet::Sizes;
 
-// Why a call is refused: for what is wrong with the sheet; for a mask with a bit outside 1 to 38; for a sheet that does not list two types where a question
-// wants two; or for too little space.
+/// Why a call is refused: for what is wrong with the sheet; for a mask with a bit outside 1 to 38; for a sheet that
+/// does not list two types where a question wants two; or for too little space. `u8::from` gives the refusal number,
+/// 1 to 8.
 #[derive(Clone, Copy)]
 pub enum Refusal {
     Sheet(sheet::Refusal),
@@ -38,7 +41,7 @@ impl From<sheet::Refusal> for Refusal {
 impl From<Refusal> for u8 {
     ghost from_gives = { λ r n. n ≡ number_of r };
 
-    // The paper's number.
+    /// The refusal number.
     fn from(r: Refusal) -> u8 {
         match r {
             Refusal::Sheet(r) => u8::from(r),
@@ -49,24 +52,31 @@ impl From<Refusal> for u8 {
     }
 }
 
-// What a call reports where it is not refused: no type, or the byte length of the one-type sheet, which is at the front of the output.
+/// What a call reports: why it is refused; no type; or the byte length of the one-type sheet at the front of the
+/// output.
 pub type Answer = Result<Option<usize>, Refusal>;
 
-// The common type of any number of listed types. The three calls are three functions, as the C interface has a name for each question.
+/// The common type of any number of listed types, the source's `type_union_resolution`.
+///
+/// `mask` has bit k set where Null may become kind k. `output` has at least as many bytes as the sheet, `work` twice
+/// as many; what stands in them does not matter. Where the call is not refused, the first bytes of `work`, twice as
+/// many as the sheet has, are zero after it.
 pub fn type_union_resolution(sheet: &[u8], mask: u64, output: &mut [u8], work: &mut [u8]) -> Answer
     ensures { record { reply = reply_of result; output = output.new; work = work.new } ≡ outcome (record { question = Data.list; sheet = sheet.now; mask = mask; output = output.old; work = work.old }) }
 {
     ask(Question::List, sheet, mask, output, work)
 }
 
-// The common type of two listed types in a union.
+/// The common type of two listed types in a union, the source's `type_union_coercion`. The buffers are those of
+/// `type_union_resolution`.
 pub fn type_union_coercion(sheet: &[u8], mask: u64, output: &mut [u8], work: &mut [u8]) -> Answer
     ensures { record { reply = reply_of result; output = output.new; work = work.new } ≡ outcome (record { question = Data.union; sheet = sheet.now; mask = mask; output = output.old; work = work.old }) }
 {
     ask(Question::Union, sheet, mask, output, work)
 }
 
-// The type that two listed types are compared as.
+/// The type that two listed types are compared as, the source's `comparison_coercion`. The buffers are those of
+/// `type_union_resolution`.
 pub fn comparison_coercion(sheet: &[u8], mask: u64, output: &mut [u8], work: &mut [u8]) -> Answer
     ensures { record { reply = reply_of result; output = output.new; work = work.new } ≡ outcome (record { question = Data.compare; sheet = sheet.now; mask = mask; output = output.old; work = work.old }) }
 {
@@ -83,7 +93,7 @@ fn ask(question: Question, sheet: &[u8], mask: u64, output: &mut [u8], work: &mu
     ask_whole(question, whole, mask, output, work)
 }
 
-// The same on a sheet that is not torn.
+/// A call, whatever it asks, on a sheet that is not torn.
 pub fn ask_whole(
     question: Question,
     whole: Whole<'_>,

@@ -1,4 +1,4 @@
--- Demand 3, proved of every family, list, order and cutting. Assumes nothing.
+-- The least-type theorem, proved of every family, list, order and cutting. Assumes nothing.
 use mathlib.Core.Path.{◌≡◌, refl, ap, ap₂, sym, subst, ◌∙◌}
 use mathlib.Core.Logic.{∥∥₁_elim, ∥∥₁_map}
 use mathlib.Core.Bool.{false}
@@ -11,7 +11,7 @@ use Rattle.coercion.proofs.Joins.{all, in_all, member_all, perm_in, perm_all, in
 use Rattle.coercion.proofs.Resolving.{in_plain}
 use Rattle.coercion.proofs.Commons.{Settled, settled}
 use Rattle.answers.specs.Call.{Call}
-use Rattle.answers.specs.Demand.{Asks, Answers, Calls, end, call, NonEmpty, EachAnswers, Settles, Demand}
+use Rattle.answers.specs.LeastType.{Asks, Answers, Calls, end, call, NonEmpty, EachAnswers, Settles, LeastTypeTheorem, TwoFamilies}
 use Rattle.answers.proofs.Answering.{answers_prop, answers_of, answers_one}
 
 pub full_rest : (ts : List DataType) (css : List (List DataType)) → NonEmpty (ts ∷ css) → NonEmpty css
@@ -79,13 +79,12 @@ module _ (f : Family) (s : Settled f) where
               (sym (perm_all f s.laws d' own) ∙ ap all are ∙ all_cut f s.laws cut whole ∙ ap all e ∙ sym (perm_all f s.laws d a)) asks));
         }
 
-pub demand : Demand
-demand f types a some_one =
+pub least_type : LeastTypeTheorem
+least_type f types a some_one =
     let s = settled f types some_one in
     (all types, (s.common types a some_one, settles f s types a some_one))
 
--- "A list of Decimal128(20,0) and Nulls alone fits two families, with one answer"
-pub one_answer : (f g : Family) (types : List DataType) (a : AllIn f types) (s : SomeIn f types) (b : AllIn g types) (r : SomeIn g types)
-    → (demand f types a s).0 ≡ (demand g types b r).0
-unfolding demand
-one_answer f g types a s b r = refl
+pub two_families : TwoFamilies
+two_families f g types a some_one b some_other =
+    let s = settled f types some_one in
+    (all types, (s.common types a some_one, ((settled g types some_other).common types b some_other, settles f s types a some_one)))

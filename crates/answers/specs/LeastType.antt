@@ -1,4 +1,4 @@
--- Demand 3: one claim about every list of one family, every order of it and every cutting.
+-- The least-type theorem: one claim about every list of one family, every order of it and every cutting.
 use Rattle.std.specs.Prelude.{◌≡◌, length, take}
 use mathlib.Core.List.{List, [], ◌∷◌, Perm, flatten}
 use Rattle.sheet.specs.Encode.{encode}
@@ -8,14 +8,16 @@ use Rattle.coercion.specs.Data.{DataType, single, types_of, list}
 use Rattle.coercion.specs.Families.{Family, Common, AllIn, SomeIn}
 use Rattle.answers.specs.Call.{Call, refusal, written, outcome}
 
--- a list call on a sheet of these types, which no refusal condition meets; mask, output and work space are its own
+-- a list call on a sheet of these types; mask, output and work space are its own;
+-- "The premise is that no call meets the condition of a refusal number."
 pub record Asks (c : Call) (types : List DataType) : Type 0 where
   pub question : c.question ≡ list
   pub bytes : Plain c.sheet
   pub unrefused : refusal c ≡ 0
   pub reads : types_of (read c.sheet) ≡ types
 
--- "The same answer is the same byte length reported and the same bytes of the one-type sheet": a call answers t
+-- a call answers t: "The same answer is the same byte length that is reported and the same bytes of the one-type
+-- sheet."
 pub record Answers (c : Call) (t : DataType) : Type 0 where
   pub reply : (outcome c).reply ≡ written (length (encode (single t)))
   pub bytes : take (length (encode (single t))) (outcome c).output ≡ encode (single t)
@@ -26,7 +28,7 @@ pub data Calls : List (List DataType) → List DataType → Type 0 where
   call : {stretch : List DataType} {rest : List (List DataType)} {answer : DataType} {answers : List DataType}
       (c : Call) → Asks c stretch → Answers c answer → Calls rest answers → Calls (stretch ∷ rest) (answer ∷ answers)
 
--- "every cutting, from one stretch to as many as there are types": no stretch is empty
+-- "stretches that are not empty", from one to as many as there are types
 abbrev pub NonEmpty : List (List DataType) → Type 0
 NonEmpty [] = Unit
 NonEmpty ([] ∷ css) = ⊥
@@ -39,14 +41,21 @@ EachAnswers (stretch ∷ rest) = ((c : Call) → Asks c stretch → (t : DataTyp
 
 -- What is claimed of a list `types` and its answer t, for each order of the list.
 pub record Settles (types : List DataType) (t : DataType) : Type 0 where
-  -- "In whatever order the types come, the answer is the same, byte for byte"
+  -- it is the answer "to a list call on the types in any order"
   pub in_any_order : (order : List DataType) → Perm types order → (c : Call) → Asks c order → Answers c t
-  -- "wherever that order is cut into non-empty stretches, each answered by a list call of its own"
+  -- "wherever the types in any order are cut into stretches", "each stretch is answered by a list call of its own"
   pub in_stretches : (order : List DataType) → Perm types order → (cut : List (List DataType)) → flatten cut ≡ order → NonEmpty cut → EachAnswers cut
-  -- "the list of those answers, in whatever order, gets that same answer too"
+  -- and it is the answer "to a list call on the answers that the stretches got, in any order"
   pub again : (order : List DataType) → Perm types order → (cut : List (List DataType)) → flatten cut ≡ order → NonEmpty cut → (answers : List DataType)
       → Calls cut answers → (another : List DataType) → Perm answers another → (c : Call) → Asks c another → Answers c t
 
--- demand 3, whole
-abbrev pub Demand : Type 0
-Demand = (f : Family) (types : List DataType) → AllIn f types → SomeIn f types → (t : DataType) × (Common f types t × Settles types t)
+-- the least-type theorem, whole
+abbrev pub LeastTypeTheorem : Type 0
+LeastTypeTheorem = (f : Family) (types : List DataType) → AllIn f types → SomeIn f types → (t : DataType) × (Common f types t × Settles types t)
+
+-- a list may be of two families, which then have one answer: "A list of Decimal128(20,0) and Nulls alone fits two
+-- families, and both say the same answer."
+abbrev pub TwoFamilies : Type 0
+TwoFamilies =
+    (f g : Family) (types : List DataType) → AllIn f types → SomeIn f types → AllIn g types → SomeIn g types
+    → (t : DataType) × (Common f types t × (Common g types t × Settles types t))
