@@ -15,6 +15,7 @@ use Rattle.sheet.proofs.Chains.{encode_length}
 use Rattle.coercion.specs.Data.{DataType, single}
 use Rattle.answers.specs.Call.{Call, conditions, refusal, Reply, refused, nothing, written, Outcome, settled, answer, outcome}
 use Rattle.pemzhulaq.specs.Number.{number_of, shortest, Ranged, reply_of_number}
+use Rattle.pemzhulaq.specs.Laws.{NumbersRanged, NumbersDecode}
 
 -- conditions whose numbers are at most 8
 abbrev Low : List Condition → Type 0
@@ -29,19 +30,19 @@ first_low (c ∷ cs) l = go c.met (first_low cs l.1)
     go true h = l.0
     go false h = h
 
-pub refusal_low : (c : Call) → refusal c ≤ 8
+refusal_low : (c : Call) → refusal c ≤ 8
 unfolding refusal
 refusal_low c =
     first_low (conditions c)
     (omega arith, (omega arith, (omega arith, (omega arith, (omega arith, (omega arith, (omega arith, (omega arith, tt))))))))
 
 -- a header and at least one record
-pub sheet_long : (t : DataType) → shortest ≤ length (encode (single t))
+sheet_long : (t : DataType) → shortest ≤ length (encode (single t))
 unfolding count
 sheet_long t = omega (arith, encode_length (single t))
 
 -- the reply of every call has the number of its case
-pub ranged : (c : Call) → Ranged (outcome c).reply
+pub ranged : NumbersRanged
 unfolding outcome
 ranged c = go (eqb (refusal c) 0) refl (answer c)
   where
@@ -57,5 +58,5 @@ decodes_ranged nothing h = refl
 decodes_ranged (written k) h = rw (ne_eqb k 0 (λ z. omega arith), le-ltb k shortest h)
 
 -- whatever the call, its number says what it replied
-pub decodes : (c : Call) → reply_of_number (number_of (outcome c).reply) ≡ (outcome c).reply
+pub decodes : NumbersDecode
 decodes c = decodes_ranged (outcome c).reply (ranged c)

@@ -8,7 +8,8 @@ number_of (refused k) = k
 number_of nothing = 0
 number_of (written k) = k
 
--- what can be seen after a call of the library: the number that it returns, every byte of the output and every byte of the work space
+-- what can be seen after a call of the library: the number that it returns, every byte of the output and every byte
+-- of the work space
 pub record Seen : Type 0 where
   pub number : ℕ
   pub output : List ℕ
@@ -18,7 +19,7 @@ pub record Seen : Type 0 where
 abbrev pub exported : Outcome → Seen
 exported o = record { number = number_of o.reply; output = o.output; work = o.work }
 
--- "a one-type sheet has at least 32 bytes": its header and one record
+-- "No one-type sheet has fewer than 32 bytes, its header and one record."
 abbrev pub shortest : ℕ
 shortest = 32
 
@@ -28,6 +29,6 @@ Ranged (refused k) = (1 ≤ k) × (k ≤ 8)
 Ranged nothing = Unit
 Ranged (written k) = shortest ≤ k
 
--- the reply that a number stands for: "0 none, 1 to 31 a refusal number, from 32 on the byte length"
+-- the reply that a number stands for: 0 none, 1 to 31 a refusal number, from 32 on a byte length
 abbrev pub reply_of_number : ℕ → Reply
 reply_of_number k = cond (eqb k 0) nothing (cond (ltb k shortest) (refused k) (written k))

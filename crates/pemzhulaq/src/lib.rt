@@ -1,6 +1,8 @@
 // The three calls with one number as the answer, as programs in other languages have them.
 #![tactic(auto)]
 
+pub mod laws;
+
 ghost use Rattle.std.specs.Prelude.{◌≡◌};
 ghost use Rattle.coercion.specs.Data as Data;
 ghost use Rattle.answers.specs.Call.{outcome};
@@ -11,8 +13,7 @@ use answers::{Answer, Refusal, ask_whole};
 use buffers::Question;
 use refusals::header::Whole;
 
-// The number of an answer: 0 for none, 1 to 31 for a refusal, from 32 on the byte length of the one-type sheet. It is no `From`, since neither type is this
-// crate's.
+// The number of an answer: 0 for none, 1 to 31 for a refusal, from 32 on the byte length of the one-type sheet.
 fn number_of(answer: Answer) -> usize
     ensures { result ≡ number_of (reply_of answer) }
 {
@@ -23,8 +24,8 @@ fn number_of(answer: Answer) -> usize
     }
 }
 
-// The number of a call on a sheet that is not torn. The question comes last, so that the rest stays in the registers that it came in. Neither this nor the
-// three calls below are inlined, so that a torn sheet is refused with no frame: by 27 instructions in place of 47, where the Rust side of the benchmark takes 36.
+// The number of a call on a sheet that is not torn. The question comes last, so that the rest stays in the registers
+// that it came in. Neither this nor the three calls below are inlined, so that a torn sheet is refused with no frame.
 #[inline(never)]
 fn number_whole(
     whole: Whole<'_>,
@@ -48,7 +49,9 @@ fn number(question: Question, sheet: &[u8], mask: u64, output: &mut [u8], work: 
     number_whole(whole, mask, output, work, question)
 }
 
-// The common type of any number of listed types. The three calls are three functions, as the C interface has a name for each question.
+/// The common type of any number of listed types, as one number: 0 for none, 1 to 8 for a refusal, from 32 on the
+/// byte length of the one-type sheet at the front of the output. `answers::type_union_resolution` says what the
+/// buffers are.
 #[inline(never)]
 pub fn pemzhulaq_type_union_resolution(
     sheet: &[u8],
@@ -61,7 +64,7 @@ pub fn pemzhulaq_type_union_resolution(
     number(Question::List, sheet, mask, output, work)
 }
 
-// The common type of two listed types in a union.
+/// The common type of two listed types in a union, as one number.
 #[inline(never)]
 pub fn pemzhulaq_type_union_coercion(
     sheet: &[u8],
@@ -74,7 +77,7 @@ pub fn pemzhulaq_type_union_coercion(
     number(Question::Union, sheet, mask, output, work)
 }
 
-// The type that two listed types are compared as.
+/// The type that two listed types are compared as, as one number.
 #[inline(never)]
 pub fn pemzhulaq_comparison_coercion(
     sheet: &[u8],
