@@ -10,7 +10,7 @@ use lib.Dec.{eqb, leb}
 use borrow.Author.Tests.{leb-true, le-ltb}
 use Rattle.sheet.specs.Tests.{between}
 use Rattle.sheet.specs.Kind.{is_kind}
-use Rattle.sheet.specs.Types.{Fields, end, field, arity, count, labels}
+use Rattle.sheet.specs.Types.{Fields, arity, count, labels}
 use Rattle.sheet.specs.Head.{bytes_of}
 use Rattle.sheet.specs.Encode.{link_to, head_of, header, records, encode}
 use Rattle.sheet.specs.Names.{repeats, names_differ}
@@ -22,7 +22,7 @@ use Rattle.sheet.proofs.Chains.{encode_length}
 use Rattle.sheet.proofs.Carrying.{carried_read, carried_accepted}
 use Rattle.coercion.specs.Data.{DataType, plain, types_of, list}
 use Rattle.coercion.specs.declared.Figures.{Figures}
-use Rattle.coercion.specs.Families.{Family, AllIn, SomeIn}
+use Rattle.coercion.specs.Families.{Family, AllIn}
 use Rattle.coercion.proofs.Joins.{all, in_front, in_back, in_cut}
 use Rattle.coercion.proofs.Commons.{Settled, settled}
 use Rattle.coercion.proofs.Fitting.{Fits, in_fits}

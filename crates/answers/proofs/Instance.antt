@@ -5,7 +5,7 @@ use mathlib.Core.List.Permᴰ
 use mathlib.Core.List.{List, [], ◌∷◌, Perm, flatten}
 use Prim.Native.Nat.{ℕ}
 use native.Mathlib.Omega.{arith}
-use lib.ListN.{length, take, replicate}
+use lib.ListN.{length, take}
 use lib.Dec.{ltb}
 use borrow.Author.Tests.{ltb-true}
 use Rattle.sheet.specs.Tests.{all_of, one_of, between}
@@ -17,7 +17,7 @@ use Rattle.sheet.specs.Read.{walk_from, read}
 use Rattle.sheet.specs.Names.{repeats, names_differ}
 use Rattle.sheet.specs.Refusals.{torn, bad_kind, linked, bad_chain, met, decimal_right, figure_right, size_right, figures_right, record_right, any_wrong, bad_figure, label_right, misplaced, bad_label}
 use Rattle.sheet.proofs.Tests.{and_fst, and_snd}
-use Rattle.coercion.specs.Data.{DataType, single, types_of, list, plain, of_kind, first_of}
+use Rattle.coercion.specs.Data.{DataType, single, types_of, plain, of_kind, first_of}
 use Rattle.coercion.specs.Same.{same_zone, same_shape, same_fields, same_type}
 use Rattle.coercion.specs.declared.Figures.{Figures}
 use Rattle.coercion.specs.Numbers.{decimal, get_wider_decimal_type, decimal_coercion, numerical_coercion, binary_numeric_coercion}
@@ -26,9 +26,9 @@ use Rattle.coercion.specs.Times.{temporal_coercion, temporal_coercion_nonstrict_
 use Rattle.coercion.specs.Rules.{null_coercion, string_numeric_coercion}
 use Rattle.coercion.specs.Nested.{list_coercion, map_coercion}
 use Rattle.coercion.specs.Answers.{coerce_in, coercion, category_of, has_category, categories_in, fold_from, fold_types, type_union_resolution}
-use Rattle.coercion.specs.Families.{integers, decimals, integer, decimal_of, AllIn, SomeIn, here, null, member, null_type}
-use Rattle.answers.specs.Call.{Call, bad_mask, bad_pair, bad_space, refusal, written, outcome}
-use Rattle.answers.specs.LeastType.{Asks, Answers, Calls, call, NonEmpty, Settles}
+use Rattle.coercion.specs.Families.{integer, decimal_of, here, null, member, null_type}
+use Rattle.answers.specs.Call.{bad_mask, bad_pair, bad_space, refusal, written, outcome}
+use Rattle.answers.specs.LeastType.{Calls, call, NonEmpty, Settles}
 use Rattle.answers.specs.Premises.{int8, int16, int64, uint8, uint32, whole, tenth, call_on, Ran, some_integers, IntegersRun, some_decimals, DecimalsRun}
 use Rattle.answers.proofs.Answering.{answers_one}
 use Rattle.answers.proofs.Asking.{Bytes, bytes_plain}

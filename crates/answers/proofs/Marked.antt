@@ -1,24 +1,23 @@
 -- The marked cases, as one table of calls: bytes in, bytes out. Assumes nothing.
 use mathlib.Core.Path.{◌≡◌, refl, ap, sym, ◌∙◌}
 use mathlib.Core.Bool.{Bool, true, false, cond, ◌||◌}
-use mathlib.Core.List.{List, [], ◌∷◌, ◌++◌, map, Memᴰ}
+use mathlib.Core.List.{List, [], ◌∷◌, map, Memᴰ}
 use Rattle.std.specs.Prelude.{Option, None, Some}
-use Prim.Native.Nat.{ℕ, ◌+◌, ◌*◌, ◌-◌, ◌^◌, ◌≤◌}
+use Prim.Native.Nat.{ℕ, ◌+◌, ◌*◌}
 use native.Mathlib.Omega.{arith}
 use lib.Dec.{ltb, eqb}
 use borrow.Author.Tests.{le-ltb, eqb-true, eq-eqb}
 use lib.ListN.{length, take, drop, replicate}
 use lib.Seq.{take_at}
 use Rattle.sheet.specs.Tests.{all_of, one_of, between}
-use Rattle.sheet.specs.Kind as Kind
 use Rattle.sheet.specs.Kind.{is_kind, is_decimal, cap, sized, last_unit, parts_right, names_parts}
-use Rattle.sheet.specs.Types.{present, Fields, end, field, arity, count, labels}
+use Rattle.sheet.specs.Types.{arity, count, labels}
 use Rattle.sheet.specs.Head.{head_at}
 use Rattle.sheet.specs.Names.{same_bytes, has_name, repeats, names_differ}
 use Rattle.sheet.specs.Encode.{records, encode}
 use Rattle.sheet.specs.Read.{walk_from, read}
 use Rattle.sheet.specs.Refusals as Sheet
-use Rattle.coercion.specs.Data.{DataType, single, types_of, first_of, Question, list, union, compare, plain, zoned, of_kind, of_unit}
+use Rattle.coercion.specs.Data.{DataType, single, types_of, first_of}
 use Rattle.coercion.specs.Numbers.{decimal}
 use Rattle.coercion.specs.Numbers as Numbers
 use Rattle.coercion.specs.Times as Times
@@ -29,7 +28,7 @@ use Rattle.coercion.specs.Wrappers as Wrappers
 use Rattle.coercion.specs.Nested as Nested
 use Rattle.coercion.specs.Answers as Answers
 use Rattle.answers.specs.Call.{bad_mask, bad_pair, bad_space, refusal, refused, nothing, written, Outcome, outcome, settled, answer}
-use Rattle.answers.specs.Marked.{Entry, table, full_mask, call_with, seen, expected, Enough, MarkedCases, words, spell, MarkedSpelled}
+use Rattle.answers.specs.Marked.{Entry, table, full_mask, call_with, seen, expected, Enough, MarkedCases, MarkedSpelled}
 
 -- lent memory to compute with: three bytes more than are needed, filled
 abbrev output₀ : Entry → List ℕ

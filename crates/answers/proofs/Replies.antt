@@ -18,7 +18,7 @@ use Rattle.sheet.proofs.Accepted.{accepted_encode, accepted_carried}
 use Rattle.sheet.proofs.Chains.{encode_length}
 use Rattle.coercion.specs.Data.{DataType, single}
 use Rattle.coercion.proofs.Shorter.{answer_smaller, answer_shorter}
-use Rattle.answers.specs.Call.{Call, conditions, refusal, refused, nothing, written, Outcome, settled, rules_of, answer, outcome}
+use Rattle.answers.specs.Call.{Call, conditions, refusal, refused, written, Outcome, settled, rules_of, answer, outcome}
 use Rattle.answers.specs.Laws.{AnswerNoLonger, LowestGiven, MetRefused, RefusedUnchanged}
 use Rattle.answers.proofs.Answering.{reply_number, reply_kind}
 use Rattle.answers.proofs.Refusing.{sheet_refusal}
