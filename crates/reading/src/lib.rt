@@ -1,33 +1,28 @@
 // Filling a buffer from a reader, for the programs.
 #![tactic(auto)]
 
-ghost use Rattle.std.specs.Io.KnownBytes.{Consumes};
-ghost use Rattle.std.specs.Prelude.{◌≤◌, length, take};
+ghost use Rattle.std.specs.Prelude.{◌<◌, ◌≤◌, length, take, IfOk};
+ghost use Rattle.std.specs.Io.KnownBytes.{Consumes, IsAtEnd};
 
+use std::io;
 use std::io::Read;
 
-// What one read gives. A read that fails gives nothing.
-fn read_some<R: Read>(reader: &mut R, place: &mut [u8]) -> usize
-    ensures count { result ≤ length place.new }
-    ensures bytes { Consumes (R.remaining reader.old) (R.remaining reader.new) (take result place.new) }
-{
-    reader.read(place).unwrap_or(0)
-}
-
-// Fills a buffer from the front until it is full, the reader ends or a read fails, and tells how many bytes it put there.
-// Where it is known what the reader has left, these are its next bytes, and it has lost them.
-pub fn read_full<R: Read>(reader: &mut R, place: &mut [u8]) -> usize
-    ensures count { result ≤ length place.new }
-    ensures bytes { Consumes (R.remaining reader.old) (R.remaining reader.new) (take result place.new) }
+/// Fills a buffer from the front until it is full or the reader ends, and says how many bytes it put there. Where it
+/// is known what the reader has left, these are its next bytes, it has lost just them, and a buffer that is not
+/// filled means that it has no more. An error is that of the read that failed, an interrupted one too; how much was
+/// read before it, and what then stands in the buffer, is left free.
+pub fn read_full<R: Read>(reader: &mut R, place: &mut [u8]) -> io::Result<usize>
+    ensures count { IfOk result (λ n. n ≤ length place.new) }
+    ensures bytes { IfOk result (λ n. Consumes (R.remaining reader.old) (R.remaining reader.new) (take n place.new)) }
+    ensures end { IfOk result (λ n. n < length place.new → IsAtEnd (R.remaining reader.new)) }
 {
     let mut got = 0;
-    // The step is what a read gave, which no iterator has; `read_exact` does not tell how many bytes there were.
     while got < place.len() {
-        let n = read_some(reader, &mut place[got..]);
+        let n = reader.read(&mut place[got..])?;
         if n == 0 {
-            return got;
+            return Ok(got);
         }
         got += n;
     }
-    got
+    Ok(got)
 }

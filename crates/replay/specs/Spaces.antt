@@ -24,7 +24,8 @@ is_answered output answer = starts_with eqb output answer && is_marked (length a
 abbrev pub is_cleared : List ℕ → ℕ → Bool
 is_cleared work n = leb n (length work) && (all_zero (take n work) && is_marked n (drop n work))
 
--- how many bytes of work space a call leaves zero: twice the sheet where a type or none is expected, none where a refusal is
+-- how many bytes of work space a call leaves zero: twice the sheet where a type or none is expected, none where a
+-- refusal is
 abbrev pub cleared_bytes : Result (Option ℕ) ℕ → ℕ → ℕ
 cleared_bytes (Ok answer) sheet = 2 * sheet
 cleared_bytes (Err number) sheet = 0

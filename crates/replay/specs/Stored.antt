@@ -1,5 +1,5 @@
 -- The stored calls, as oracle/vectors/README.md has their form.
-use Rattle.std.specs.Prelude.{ℕ, cond, ◌&&◌, List, eqb, ltb, get_or, take, drop, Option, None, Some, Result, Ok, Err}
+use Rattle.std.specs.Prelude.{ℕ, cond, List, eqb, ltb, get_or, take, drop, Option, None, Some, Result, Ok, Err}
 use Rattle.std.specs.Int.{w32, w64, from_le_bytes}
 use Rattle.replay.specs.declared.stored.Broken.{Broken}
 use Rattle.buffers.specs.declared.Question.{Question}

@@ -1,7 +1,9 @@
-// Runs the stored calls of data/calls.bin and compares what they answer, and what they leave in the output and the work space, with what is stored.
+// Runs the stored calls of data/calls.bin and compares what they answer, and what they leave in the output and the
+// work space, with what is stored.
 //
-// oracle/vectors/README.md has the form of the file and says how it was made. A file that cannot be opened, or a write that
-// fails, ends the program with its error.
+// oracle/vectors/README.md has the form of the file and says how it was made. A file that cannot be opened, or a
+// write that fails, ends the program with its error. One that cannot be read to its end, or is not in that form, is
+// told of in a line behind the counts.
 #![tactic(auto)]
 
 pub mod spaces;
@@ -66,7 +68,6 @@ impl fmt::Display for Wrong {
     }
 }
 
-// The question is read from the file, so it is told here which call runs.
 fn ask(v: Vector, sheet: &[u8], output: &mut [u8], work: &mut [u8]) -> Answer {
     match v.question {
         Question::List => answers::type_union_resolution(sheet, v.mask, output, work),
@@ -91,7 +92,7 @@ fn given_in(v: Vector, sheet: &[u8], answer: &[u8], output: &mut [u8], work: &mu
 
 // Fills `place`, if there are bytes enough.
 fn read<R: Read>(calls: &mut R, place: &mut [u8]) -> Result<(), Broken> {
-    if read_full(calls, place) == place.len() {
+    if read_full(calls, place)? == place.len() {
         Ok(())
     } else {
         Err(Broken)
@@ -103,7 +104,6 @@ fn run_vector<R: Read>(calls: &mut R, v: Vector) -> Result<Given, Broken> {
     if v.sheet > ROOM || v.answer > ROOM || v.output > ROOM - GUARD || v.work > 2 * ROOM - GUARD {
         return Err(Broken);
     }
-    // No heap, as in the crates that are run: fixed room, lent by the part that is filled.
     let mut sheet = [0u8; ROOM];
     let mut answer = [0u8; ROOM];
     let sheet = &mut sheet[..v.sheet];
@@ -120,7 +120,7 @@ fn run_vector<R: Read>(calls: &mut R, v: Vector) -> Result<Given, Broken> {
 // The next vector and what it gave, none at the end of the file.
 fn turn<R: Read>(calls: &mut R) -> Result<Option<(Vector, Given)>, Broken> {
     let mut head = [0u8; 32];
-    let got = read_full(calls, &mut head);
+    let got = read_full(calls, &mut head)?;
     match stored::entry_of(&head, got)? {
         Some(v) => Ok(Some((v, run_vector(calls, v)?))),
         None => Ok(None),
@@ -145,7 +145,6 @@ fn run<R: Read>(calls: &mut R, tally: &mut Tally<Wrong>) -> Result<(), Broken>
     Err(Broken)
 }
 
-// Each of the three programs has its own: the text about the first wrong one differs, and a closure for it would be longer than these lines.
 fn summary(rt: &impl Print, tally: &Tally<Wrong>) -> io::Result<()> {
     println!(rt; "{tally}")?;
     if let Some((at, wrong)) = tally.first {

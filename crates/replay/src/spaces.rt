@@ -12,6 +12,7 @@ fn mark(i: usize) -> u8
     (i % 251) as u8 + 5
 }
 
+/// Fills a space with marks, from the first byte on.
 pub fn fill(place: &mut [u8])
     ensures { place.new ≡ marks 0 (length place.old) }
 {
@@ -36,21 +37,21 @@ fn is_zero(place: &[u8]) -> bool
     place.iter().all(|byte| *byte == 0)
 }
 
-// Whether an output has an answer at its front and is as it was filled behind it.
+/// Whether an output has an answer at its front and is as it was filled behind it.
 pub fn is_answered(output: &[u8], answer: &[u8]) -> bool
     ensures { result ≡ is_answered output.now answer.now }
 {
     output.starts_with(answer) && is_filled(&output[answer.len()..], answer.len())
 }
 
-// Whether the first n bytes of a work space are zero and the others as they were filled.
+/// Whether the first n bytes of a work space are zero and the others as they were filled.
 pub fn is_cleared(work: &[u8], n: usize) -> bool
     ensures { result ≡ is_cleared work.now n }
 {
     n <= work.len() && is_zero(&work[..n]) && is_filled(&work[n..], n)
 }
 
-// How many bytes of work space a call leaves zero: none where it is refused.
+/// How many bytes of work space a call leaves zero: none where it is refused.
 pub fn cleared(expected: Reply, sheet: usize) -> usize
     requires { sheet ≤ 20000 }
     ensures { result ≡ cleared_bytes expected.0 sheet }

@@ -3,14 +3,20 @@ ghost use Rattle.std.specs.Prelude.{◌≡◌, ◌+◌, ◌≤◌, take, drop};
 ghost use Rattle.replay.specs.Stored.{question_in, length_in, expected_in, number_at, entry_in};
 
 pub use buffers::Question;
-use std::fmt;
+use std::{fmt, io};
 
 // The number that stands for a type that is expected.
 const TYPE: u8 = 32;
 
-// A file that is not in that form, or has a vector that does not fit the room for it.
+/// A file that cannot be read, is not in that form, or has a vector that does not fit the room for it.
 #[derive(Clone, Copy)]
 pub struct Broken;
+
+impl From<io::Error> for Broken {
+    fn from(_e: io::Error) -> Broken {
+        Broken
+    }
+}
 
 // The question of a vector, by its number.
 fn question_of(n: u8) -> Result<Question, Broken>
@@ -24,12 +30,12 @@ fn question_of(n: u8) -> Result<Question, Broken>
     }
 }
 
-// What a call answers: none; a type, by the byte length of its one-type sheet; or a refusal, by its number.
+/// What a call answers: none; a type, by the byte length of its one-type sheet; or a refusal, by its number.
 #[derive(Clone, Copy, PartialEq)]
 pub struct Reply(pub Result<Option<usize>, u8>);
 
 impl Reply {
-    // The byte length of a type's sheet, and no Option: 0 where there is no type, as the file has it in each vector.
+    /// The byte length of a type's sheet, 0 where there is no type, as the file has it in each vector.
     pub fn length(&self) -> usize
         ensures { result ≡ length_in self.now.0 }
     {
@@ -51,8 +57,9 @@ impl fmt::Display for Reply {
     }
 }
 
-// A stored call without its bytes: its question, the answer that is expected, lengths and the mask. The length of the stored answer stands beside what is
-// expected, as the file has it for each call: a call that expects no type is wrong where it is not 0.
+/// A stored call without its bytes: its question, the answer that is expected, the lengths of what is lent and
+/// stored, and the mask. The length of the stored answer stands beside what is expected, as the file has it for each
+/// call: a call that expects no type is wrong where it is not 0.
 #[derive(Clone, Copy)]
 pub struct Vector {
     pub question: Question,
@@ -93,7 +100,7 @@ fn expected_of(number: u8, length: usize) -> Reply
     }
 }
 
-// The stored call that a head describes of which `got` bytes were read, none at the end of the file.
+/// The stored call that a head describes of which `got` bytes were read, none at the end of the file.
 pub fn entry_of(head: &[u8; 32], got: usize) -> Result<Option<Vector>, Broken>
     ensures { result ≡ entry_in head.now got }
 {

@@ -2,7 +2,8 @@
 //
 // An entry is 12 bytes, integers little-endian, and then the sheet: byte 0 the refusal number, 0 for an accepted one,
 // bytes 2-3 n and 4-5 m of an accepted one, bytes 8-11 the sheet's length. vectors/README.md says how they were made.
-// A file that cannot be opened, or a write that fails, ends the program with its error.
+// A file that cannot be opened, or a write that fails, ends the program with its error. One that cannot be read to
+// its end is told of in a line behind the counts.
 #![tactic(auto)]
 
 ghost use Rattle.std.specs.Prelude.{◌≡◌};
@@ -16,8 +17,7 @@ use std::io::Read;
 use std::{fmt, io};
 use tally::Tally;
 
-// A refusal number, or 0 with the n and m of an accepted sheet, as an entry has them. All three are compared: a Result would drop the n and m of an entry that
-// expects a refusal.
+// A refusal number, or 0 with the n and m of an accepted sheet, as an entry has them. All three are compared.
 #[derive(Clone, Copy, PartialEq)]
 struct Verdict {
     number: u8,
@@ -44,9 +44,16 @@ impl fmt::Display for Verdict {
     }
 }
 
-// The file is not read to its end: an entry is cut off, its sheet does not fit the space, or there are more than are stored by far.
+// The file is not read to its end: a read fails, an entry is cut off, its sheet does not fit the space, or there are
+// more than are stored by far.
 #[derive(Clone, Copy)]
 struct CutShort;
+
+impl From<io::Error> for CutShort {
+    fn from(_e: io::Error) -> CutShort {
+        CutShort
+    }
+}
 
 // A sheet that was answered otherwise than expected.
 #[derive(Clone, Copy)]
@@ -64,7 +71,7 @@ impl fmt::Display for Wrong {
 // What the next entry expects, and how long its sheet is. None at the end of the file.
 fn next_entry<R: Read>(stored: &mut R) -> Result<Option<(Verdict, usize)>, CutShort> {
     let mut head = [0u8; 12];
-    let got = read_full(stored, &mut head);
+    let got = read_full(stored, &mut head)?;
     if got == 0 {
         return Ok(None);
     }
@@ -79,19 +86,18 @@ fn next_entry<R: Read>(stored: &mut R) -> Result<Option<(Verdict, usize)>, CutSh
     Ok(Some((wanted, quad_at(&head, 8))))
 }
 
-// What the next sheet should answer and what it does. None at the end of the file. The space holds more than the longest sheet that can be accepted,
-// which has 32,768 bytes.
+// What the next sheet should answer and what it does. None at the end of the file. The space holds more than the
+// longest sheet that can be accepted, which has 32,768 bytes.
 fn next_turn<R: Read>(stored: &mut R) -> Result<Option<(Verdict, Verdict)>, CutShort> {
     let Some((wanted, length)) = next_entry(stored)? else {
         return Ok(None);
     };
-    // No heap, as in the crates that are run: fixed room, lent by the part that is filled.
     let mut space = [0u8; 40000];
     if space.len() < length {
         return Err(CutShort);
     }
     let place = &mut space[..length];
-    if read_full(stored, place) < length {
+    if read_full(stored, place)? < length {
         return Err(CutShort);
     }
     Ok(Some((wanted, Verdict::from(refusals::check(place)))))
@@ -110,7 +116,6 @@ fn run<R: Read>(stored: &mut R, tally: &mut Tally<Wrong>) -> Result<(), CutShort
     Err(CutShort)
 }
 
-// Each of the three programs has its own: the text about the first wrong one differs, and a closure for it would be longer than these lines.
 fn summary(rt: &impl Print, tally: &Tally<Wrong>) -> io::Result<()> {
     println!(rt; "{tally}")?;
     if let Some((at, wrong)) = tally.first {

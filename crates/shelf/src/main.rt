@@ -1,10 +1,13 @@
-// Reads a sheet from standard input and prints what each of the three calls answers to it, with every mask bit from 1 to 38 set.
+// Reads a sheet from standard input and prints what each of the three calls answers to it, with every mask bit from 1
+// to 38 set.
 //
-// A line is the question and then the kind, byte 2, signed scale and number of records of the answer, its header left out; or
-// `none`; or `refused` and the number. A write that fails ends the program with its error.
+// A line is the question and then the kind, byte 2, signed scale and number of records of the answer, its header left
+// out; or `none`; or `refused` and the number. A read or a write that fails ends the program with one line on
+// standard error and status 1.
 #![tactic(auto)]
 
 use answers::Answer;
+use anyhow::anyhow;
 use reading::read_full;
 use std::{fmt, io};
 
@@ -56,7 +59,6 @@ fn print_answer<F: Fn(&[u8], u64, &mut [u8], &mut [u8]) -> Answer>(
 ) -> io::Result<()>
     requires { F.IsAlwaysCallable call }
 {
-    // No heap, as in the crates that are run: fixed room, lent by the part that is filled.
     let mut output = [0u8; MOST];
     let mut work = [0u8; 2 * MOST];
     match call(sheet, MASK, &mut output, &mut work) {
@@ -66,12 +68,14 @@ fn print_answer<F: Fn(&[u8], u64, &mut [u8], &mut [u8]) -> Answer>(
     }
 }
 
-// What has one byte more than the longest sheet is refused as torn.
-fn main(rt: HostRuntime) -> io::Result<()> {
+// An input that has one byte more than the longest sheet is refused as torn, and not read further.
+fn main(rt: HostRuntime) -> anyhow::Result<()> {
     let mut space = [0u8; MOST + 1];
-    let length = read_full(&mut rt.reader(), &mut space);
+    let length = read_full(&mut rt.reader(), &mut space)
+        .map_err(|e| anyhow!("standard input cannot be read: {e}"))?;
     let sheet = &space[..length];
     print_answer(&rt, "list", answers::type_union_resolution, sheet)?;
     print_answer(&rt, "union", answers::type_union_coercion, sheet)?;
-    print_answer(&rt, "compare", answers::comparison_coercion, sheet)
+    print_answer(&rt, "compare", answers::comparison_coercion, sheet)?;
+    Ok(())
 }

@@ -6,7 +6,8 @@ ghost use Rattle.tally.specs.Tally.{wrong_in, first_kept, summary};
 
 use std::fmt;
 
-// What was run, by a noun that is printed, how much of it went wrong, and the first of that with how many were run before it.
+/// What was run, by a noun that is printed, how much of it went wrong, and the first of that with how many were run
+/// before it.
 #[derive(Drop)]
 pub struct Tally<W> {
     pub noun: &'static str,
@@ -17,6 +18,7 @@ pub struct Tally<W> {
 }
 
 impl<W: Copy> Tally<W> {
+    /// Nothing was run.
     pub fn new(noun: &'static str) -> Tally<W>
         ensures noun { result.noun.now ≡ noun.now }
         ensures runs { result.runs ≡ 0 }
@@ -31,7 +33,7 @@ impl<W: Copy> Tally<W> {
         }
     }
 
-    // One more, with what is to be told of it where it went wrong. Only the first of those is kept.
+    /// One more, with what is to be told of it where it went wrong. Only the first of those is kept.
     pub fn count(&mut self, wrong: Option<W>)
         requires { self.old.runs + 1 < 2 ^ 64 }
         ensures noun { self.new.noun.now ≡ self.old.noun.now }

@@ -14,10 +14,11 @@ front k n xs ys rest h i =
 
 pub loop-got-preserved : goal.loop-got-preserved
 loop-got-preserved g c =
+    let read = c.in_ok-n.ensures in
     record {
       within = search rules;
       taken =
-          subst (λ (l : List ℕ). Consumes (g.R.Read.remaining c.args.reader.now) (g.R.Read.remaining c.read_some-n.new.reader) l)
-          (sym (front c.loop-got.got c.read_some-n.result c.loop-got.place c.read_some-n.new.place _ c.loop-got.invariant.within c.read_some-n.ensures.count))
-          (Consumes-trans _ (g.R.Read.remaining c.loop-got.reader) _ _ _ c.loop-got.invariant.taken c.read_some-n.ensures.bytes);
+          subst (λ (l : List ℕ). Consumes (g.R.Read.remaining c.args.reader.now) (g.R.Read.remaining c.read.new.self) l)
+          (sym (front c.loop-got.got c.in_ok-n.n c.loop-got.place c.read.new.buf _ c.loop-got.invariant.within read.bound.0))
+          (Consumes-trans _ (g.R.Read.remaining c.loop-got.reader) _ _ _ c.loop-got.invariant.taken read.bytes.0);
     }
