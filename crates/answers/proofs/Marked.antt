@@ -18,7 +18,6 @@ use Rattle.sheet.specs.Encode.{records, encode}
 use Rattle.sheet.specs.Read.{walk_from, read}
 use Rattle.sheet.specs.Refusals as Sheet
 use Rattle.coercion.specs.Data.{DataType, single, types_of, first_of}
-use Rattle.coercion.specs.Numbers.{decimal}
 use Rattle.coercion.specs.Numbers as Numbers
 use Rattle.coercion.specs.Times as Times
 use Rattle.coercion.specs.Strings as Strings

@@ -7,5 +7,4 @@ ghost use Rattle.pemzhulaq.specs.Laws.{NumbersRanged, NumbersDecode};
 pub fn numbers()
     ensures ranged { NumbersRanged }
     ensures decode { NumbersDecode }
-{
-}
+{}
