@@ -11,7 +11,6 @@ use lib.Count.{ones, ones_in}
 use lib.Dec.{eqb, ltb}
 use borrow.Author.Tests.{eqb-true, eq-eqb, ne_eqb, lt-leb}
 use Rattle.sheet.specs.Kind as Kind
-use Rattle.sheet.specs.Kind.{is_kind, is_decimal}
 use Rattle.sheet.specs.Tests.{between}
 use Rattle.sheet.specs.Types.{end}
 use Rattle.sheet.proofs.Tests.{and_true}

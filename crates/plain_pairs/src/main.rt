@@ -1,8 +1,10 @@
-// Runs every ordered pair of the plain types of data/plain through the plain rules and compares the answers with the stored ones.
+// Runs every ordered pair of the plain types of data/plain through the plain rules and compares the answers with the
+// stored ones.
 //
-// The file: the number of types, in two bytes; the types; and for each left and each right the answers to list, union and compare.
-// A type or an answer is four bytes, and four zeros are none. oracle/README.md says how they were made (`plain`). A file that
-// cannot be opened, or a write that fails, ends the program with its error.
+// The file: the number of types, in two bytes; the types; and for each left and each right the answers to list, union
+// and compare. A type or an answer is four bytes, and four zeros are none. oracle/README.md says how they were made
+// (`plain`). A file that cannot be opened, or a write that fails, ends the program with its error. One that cannot be
+// read, or is not in that form, is told of in a line behind the counts.
 #![tactic(auto)]
 
 pub mod pairs;
@@ -61,9 +63,15 @@ impl fmt::Display for Difference {
     }
 }
 
-// The file has no type, more than there is room for, too few bytes or too many.
+// The file cannot be read, or has no type, more than there is room for, too few bytes or too many.
 #[derive(Clone, Copy)]
 struct Broken;
+
+impl From<io::Error> for Broken {
+    fn from(_e: io::Error) -> Broken {
+        Broken
+    }
+}
 
 fn answer_of(bytes: [u8; 4]) -> Option<Plain> {
     let p = Plain::from(bytes);
@@ -81,7 +89,7 @@ fn run_pair<R: Read>(
     ensures { tally.new.runs ≤ tally.old.runs + 3 }
 {
     let mut wanted = [0u8; 12];
-    if read_full(stored, &mut wanted) < 12 {
+    if read_full(stored, &mut wanted)? < 12 {
         return Err(Broken);
     }
     let (wanted, _) = wanted.as_chunks::<4>();
@@ -113,35 +121,33 @@ fn read_types<'a, R: Read>(stored: &mut R, space: &'a mut [u8]) -> Result<&'a [u
     ensures { IfOk result (λ types. length types.now ≤ 1024) }
 {
     let mut head = [0u8; 2];
-    read_full(stored, &mut head);
+    read_full(stored, &mut head)?;
     let count = usize::from(u16::from_le_bytes(head));
     if count == 0 || count > 256 {
         return Err(Broken);
     }
     let types = &mut space[..count * 4];
-    if read_full(stored, types) < types.len() {
+    if read_full(stored, types)? < types.len() {
         return Err(Broken);
     }
     Ok(types)
 }
 
-fn at_end<R: Read>(stored: &mut R) -> bool {
+fn at_end<R: Read>(stored: &mut R) -> io::Result<bool> {
     let mut one = [0u8; 1];
-    read_full(stored, &mut one) == 0
+    Ok(read_full(stored, &mut one)? == 0)
 }
 
 // There is room for 256 types.
 fn run<R: Read>(stored: &mut R, tally: &mut Tally<Difference>) -> Result<(), Broken>
     requires { tally.old.runs ≡ 0 }
 {
-    // No heap, as in the crates that are run: fixed room, lent by the part that is filled.
     let mut space = [0u8; 1024];
     let types = read_types(stored, &mut space)?;
     run_types(stored, types, tally)?;
-    if at_end(stored) { Ok(()) } else { Err(Broken) }
+    if at_end(stored)? { Ok(()) } else { Err(Broken) }
 }
 
-// Each of the three programs has its own: the text about the first wrong one differs, and a closure for it would be longer than these lines.
 fn summary(rt: &impl Print, tally: &Tally<Difference>) -> io::Result<()> {
     println!(rt; "{tally}")?;
     if let Some((_, first)) = tally.first {

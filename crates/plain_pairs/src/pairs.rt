@@ -1,4 +1,4 @@
-// The plain rules on plain types, as `buffers::plain` has them for a Step: two sets, for the reason at `of_common` of plain.rt.
+// The plain rules on plain types, as `buffers::plain` has them for a Step.
 ghost use Rattle.std.specs.Prelude.{◌≡◌, true, cond, eqb};
 ghost use Rattle.coercion.specs.Data.{first_of};
 ghost use Rattle.coercion.specs.Rules.{null_coercion, string_temporal_coercion};
@@ -30,7 +30,7 @@ fn numeric(l: Plain, r: Plain) -> Option<Plain>
     of_common(binary_numeric_coercion(l.into(), r.into()))
 }
 
-// No Option's `or`, as the zone is the file's number.
+// The left zone, or the right one where the left is 0, which stands for none.
 fn either_zone(l: u8, r: u8) -> u8
     ensures { result ≡ cond (eqb l 0) r l }
 {
@@ -64,7 +64,7 @@ fn null(l: Plain, r: Plain) -> Option<Plain>
     of_side(null_coercion(FULL, l.kind, r.kind), l, r)
 }
 
-// The rules that every question tries first.
+/// The rules that every question tries first.
 pub fn common(l: Plain, r: Plain) -> Option<Plain>
     requires { (is_plain l.kind ≡ true) × (is_plain r.kind ≡ true) }
     ensures { result ≡ plain_of (first_of (common_rules (type_in l) (type_in r))) }
@@ -76,6 +76,7 @@ pub fn common(l: Plain, r: Plain) -> Option<Plain>
         .or(null(l, r))
 }
 
+/// The source's `string_temporal_coercion`.
 pub fn string_temporal(l: Plain, r: Plain) -> Option<Plain>
     ensures { result ≡ plain_of (string_temporal_coercion (type_in l) (type_in r)) }
 {
@@ -86,6 +87,7 @@ pub fn string_temporal(l: Plain, r: Plain) -> Option<Plain>
     )
 }
 
+/// The source's `binary_coercion`.
 pub fn binary(l: Plain, r: Plain) -> Option<Plain>
     ensures { result ≡ of_kind (binary_coercion l.kind r.kind) }
 {

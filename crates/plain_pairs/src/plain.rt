@@ -5,9 +5,8 @@ ghost use Rattle.plain_pairs.specs.Plain.{figures_of, timestamp_in, plain_figure
 use coercion::{Figures, Moment, Side};
 use std::fmt;
 
-// The zone is a number for a Timestamp's zone, 0 for none, or the size of a FixedSizeBinary, as the file has it: which of them it is depends on the kind, so it
-// is no Option.
-// No Figures as a field: each use of a kind or figure would name it.
+/// A type without parts. `zone` is a number for a Timestamp's zone, 0 for none, or the size of a FixedSizeBinary, as
+/// the file has it: the kind says which.
 #[derive(Clone, Copy, Default, PartialEq)]
 pub struct Plain {
     pub kind: u8,
@@ -62,6 +61,7 @@ impl fmt::Display for Plain {
     }
 }
 
+/// A Timestamp of this unit and zone.
 pub fn timestamp(unit: u8, zone: u8) -> Plain
     ensures { result ≡ timestamp_in unit zone }
 {
@@ -73,19 +73,21 @@ pub fn timestamp(unit: u8, zone: u8) -> Plain
     }
 }
 
-// `buffers::plain` has the same for a Step. What is made differs in each arm, so that one function for both would take it arm by arm.
+/// A type of these figures, without zone or size.
 pub fn of_common(c: Option<Figures>) -> Option<Plain>
     ensures { result ≡ of_figures c }
 {
     c.map(Plain::from)
 }
 
+/// A type of this kind, without figures.
 pub fn of_found(k: Option<u8>) -> Option<Plain>
     ensures { result ≡ of_kind k }
 {
     of_common(k.map(Figures::of_kind))
 }
 
+/// The type on the side that a rule names.
 pub fn of_side(s: Option<Side>, l: Plain, r: Plain) -> Option<Plain>
     ensures { result ≡ of_side s l r }
 {
@@ -95,6 +97,7 @@ pub fn of_side(s: Option<Side>, l: Plain, r: Plain) -> Option<Plain>
     }
 }
 
+/// The time on the side that a rule names, as it is or as a Timestamp in nanoseconds with its zone.
 pub fn of_moment(m: Option<Moment>, l: Plain, r: Plain) -> Option<Plain>
     ensures { result ≡ of_moment m l r }
 {

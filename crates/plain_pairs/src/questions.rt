@@ -93,7 +93,7 @@ fn list(first: Plain, second: Plain) -> Option<Plain>
     }
 }
 
-// No answer for a kind that has parts or is none. A question is printed too, so it is a value, and it is told here which function answers it.
+/// The answer to a question on two types, none where one has a kind with parts or no kind.
 #[tactic(auto, unfolding(crate::specs::Typed::answer_in))]
 pub fn answer(question: Question, l: Plain, r: Plain) -> Option<Plain>
     ensures { result ≡ answer_in question l r }
