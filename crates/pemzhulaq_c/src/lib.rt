@@ -1,4 +1,5 @@
-// The static library: the three calls for programs in other languages, which link it. A slice is a pointer and a length, an answer is one number.
+// The static library: the three calls for programs in other languages, which link it. A slice is a pointer and a
+// length, an answer is one number.
 #![tactic(auto)]
 
 ghost use Rattle.std.specs.Prelude.{◌≡◌};
@@ -6,7 +7,12 @@ ghost use Rattle.coercion.specs.Data as Data;
 ghost use Rattle.answers.specs.Call.{outcome};
 ghost use Rattle.pemzhulaq.specs.Number.{exported};
 
-// The common type of any number of listed types. The three calls are three functions, as the C interface has a name for each question.
+/// The common type of any number of listed types, as one number: 0 for none, 1 to 8 for a refusal, from 32 on the
+/// byte length of the one-type sheet at the front of the output.
+///
+/// The output has at least as many bytes as the sheet and the work space twice as many. What a caller in another
+/// language owes is not checked: each pointer leads to as many bytes as the length behind it says, neither buffer
+/// overlaps the other or the sheet, and nothing else writes to them during the call.
 #[unsafe(no_mangle)]
 pub extern "C" fn pemzhulaq_type_union_resolution(
     sheet: &[u8],
@@ -19,7 +25,7 @@ pub extern "C" fn pemzhulaq_type_union_resolution(
     pemzhulaq::pemzhulaq_type_union_resolution(sheet, mask, output, work)
 }
 
-// The common type of two listed types in a union.
+/// The common type of two listed types in a union, as one number. The caller owes the same.
 #[unsafe(no_mangle)]
 pub extern "C" fn pemzhulaq_type_union_coercion(
     sheet: &[u8],
@@ -32,7 +38,7 @@ pub extern "C" fn pemzhulaq_type_union_coercion(
     pemzhulaq::pemzhulaq_type_union_coercion(sheet, mask, output, work)
 }
 
-// The type that two listed types are compared as.
+/// The type that two listed types are compared as, as one number. The caller owes the same.
 #[unsafe(no_mangle)]
 pub extern "C" fn pemzhulaq_comparison_coercion(
     sheet: &[u8],

@@ -71,8 +71,9 @@ fn print_answer<F: Fn(&[u8], u64, &mut [u8], &mut [u8]) -> Answer>(
 // An input that has one byte more than the longest sheet is refused as torn, and not read further.
 fn main(rt: HostRuntime) -> anyhow::Result<()> {
     let mut space = [0u8; MOST + 1];
-    let length = read_full(&mut rt.reader(), &mut space)
-        .map_err(|e| anyhow!("standard input cannot be read: {e}"))?;
+    let length = read_full(&mut rt.reader(), &mut space).map_err(|e| anyhow!(
+        "standard input cannot be read: {e}"
+    ))?;
     let sheet = &space[..length];
     print_answer(&rt, "list", answers::type_union_resolution, sheet)?;
     print_answer(&rt, "union", answers::type_union_coercion, sheet)?;
