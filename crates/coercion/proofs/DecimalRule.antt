@@ -1,4 +1,5 @@
--- The decimal rule for two decimals of one width that a sheet may carry, over the cap too, for all four widths together. Assumes nothing.
+-- The decimal rule for two decimals of one width that a sheet may carry, over the cap too, for all four widths
+-- together. Assumes nothing.
 use mathlib.Core.Path.{◌≡◌, refl, sym, ◌∙◌, ap, ap₂}
 use mathlib.Core.Bool.{Bool, true, false, cond, ◌&&◌}
 use mathlib.Core.List.{[], ◌∷◌}
@@ -6,7 +7,7 @@ use Rattle.std.specs.Prelude.{Option, None, Some}
 use Prim.Native.Nat.{ℕ, ◌+◌, ◌-◌, ◌%◌, ◌<◌, ◌≤◌, min, max}
 use native.Mathlib.Omega.{arith}
 use lib.Dec.{leb, eqb}
-use lib.IntN.{pos, sub_ℕ}
+use lib.IntN.{sub_ℕ}
 use borrow.Author.Tests.{le-leb, leb-true, eq-eqb, ne_eqb, eqb-true}
 use Rattle.sheet.specs.Tests.{between}
 use Rattle.sheet.specs.Kind.{is_decimal, cap}
@@ -18,7 +19,7 @@ use Rattle.coercion.specs.Kinds.{is_numeric}
 use Rattle.coercion.specs.Same.{same_type, equal, alike}
 use Rattle.coercion.specs.Numbers.{ahead, get_wider_decimal_type, decimal_coercion, binary_numeric_coercion}
 use Rattle.coercion.specs.Answers.{ask, coercion}
-use Rattle.coercion.specs.Signed.{signed, max_z, held_z}
+use Rattle.coercion.specs.Wider.{decimal_of, Wider}
 use Rattle.coercion.proofs.Bridge.{signed_is, scale_is, held_is}
 use Rattle.coercion.proofs.Sameness.{type_equal}
 use Rattle.coercion.proofs.Words.{coercion_step}
@@ -47,26 +48,6 @@ fits_right most p s h =
     all_cons _ (le-leb 1 p h.some)
     (all_cons _ (le-leb p most h.few)
     (all_cons _ (le-leb (biased s) (p + 128) h.inside) (all_cons _ (le-leb (p + 1) (biased s) h.short) all_nil)))
-
--- a decimal, of a width's kind, with its precision and its scale byte
-abbrev pub decimal_of : ℕ → ℕ → ℕ → Figures
-decimal_of w p s = record { kind = w; figure = p; scale = s }
-
--- What document 01 says of the common type f of decimals (p,s) and (q,t) of width w.
-pub record Wider (w p s q t : ℕ) (f : Figures) : Type 0 where
-  pub width : f.kind ≡ w
-  -- "scale is the greater s", plus 128
-  pub scale : biased f.scale ≡ max (biased s) (biased t)
-  -- "precision is that plus the greater p − s, held to the cap"
-  pub precision : f.figure ≡ min (cap w) (max (ahead p (biased s)) (ahead q (biased t)) + max (biased s) (biased t) - 256)
-  -- over the cap
-  pub over : cap w < max (ahead p (biased s)) (ahead q (biased t)) + max (biased s) (biased t) - 256 → f.figure ≡ cap w
-  -- both in signed numbers
-  pub signed_scale : signed f.scale ≡ max_z (signed s) (signed t)
-  pub signed_precision : pos f.figure ≡ held_z (cap w) p s q t
-  -- a sheet may carry it
-  pub right : figure_right w f.figure f.scale ≡ true
-  pub byte : f.scale < 256
 
 -- the sum of the greater scale and the greater p − s, of scales a and b plus 128
 abbrev total : ℕ → ℕ → ℕ → ℕ → ℕ

@@ -1,4 +1,5 @@
--- Which field of the right feeds which of the left: under equal name sets each of the right's fields is found once, under the left's names. Assumes nothing.
+-- Which field of the right feeds which of the left: under equal name sets each of the right's fields is found once,
+-- under the left's names. Assumes nothing.
 use mathlib.Core.Path.{◌≡◌, refl, sym, ◌∙◌, ap, ap₂}
 use mathlib.Core.Bool.{Bool, true, false, cond, ◌&&◌, ◌||◌}
 use mathlib.Core.List.Permᴰ
@@ -11,21 +12,9 @@ use Rattle.sheet.specs.Types.{Fields, end, field, arity}
 use Rattle.sheet.specs.Names.{same_bytes, has_name, repeats}
 use Rattle.sheet.proofs.Tests.{and_fst, and_snd, or_fst, or_snd, never}
 use Rattle.sheet.proofs.Bytewise.{same_self, same_equal}
-use Rattle.coercion.specs.Data.{DataType, and_then}
+use Rattle.coercion.specs.Data.{and_then}
 use Rattle.coercion.specs.Nested.{fields_have_same_names, with_name, by_name, partners}
-
--- a field by itself
-pub record Row : Type 0 where
-  pub name : List ℕ
-  pub nullable : Bool
-  pub type : DataType
-
-unfoldable pub rows_of : Fields → List Row
-rows_of end = []
-rows_of (field name nullable shape parts rest) = record { name = name; nullable = nullable; type = record { shape = shape; parts = parts } } ∷ rows_of rest
-
-abbrev pub names_of : Fields → List (List ℕ)
-names_of t = map (λ (r : Row). r.name) (rows_of t)
+use Rattle.coercion.specs.Columns.{Row, rows_of, names_of, Matched, Fed}
 
 abbrev put : Row → Fields → Fields
 put row rest = field row.name row.nullable row.type.shape row.type.parts rest
@@ -117,13 +106,6 @@ module _ (n : List ℕ) where
   same_others (field m b s p q) r h =
       ap₂ ◌&&◌ (has_other n m (same_back n m (or_fst _ _ h)) r) (same_others q r (or_snd (same_bytes n m) _ h))
 
--- The right's fields in the left's order: each of them once, under the left's names.
-pub record Matched (l r : Fields) : Type 0 where
-  pub fields : Fields
-  pub found : by_name l r ≡ Some fields
-  pub named : names_of fields ≡ names_of l
-  pub once : Permᴰ (rows_of r) (rows_of fields)
-
 -- names that differ on the left, each one of the right's, and as many fields on the right
 pub matched : (l r : Fields) → repeats l ≡ false → fields_have_same_names l r ≡ true → arity l ≡ arity r → Matched l r
 unfolding repeats fields_have_same_names arity by_name rows_of
@@ -142,21 +124,15 @@ matched (field n b s p q) r d h a =
       once = Permᴰ.trans k.others (Permᴰ.cons refl m.once);
     }
 
--- "Equal name sets match by name, in the left's order"
+-- "Where the two sets of names are equal, fields match by name, in the order of the left"
 pub partners_by_name : (l r : Fields) → fields_have_same_names l r ≡ true → partners l r ≡ by_name l r
 unfolding partners
 partners_by_name l r h = rw h
 
--- "otherwise by place"
+-- "Where the sets of names differ, fields match by place"
 pub partners_by_place : (l r : Fields) → fields_have_same_names l r ≡ false → partners l r ≡ Some r
 unfolding partners
 partners_by_place l r h = rw h
-
--- Whichever way the fields are paired, each of the right's feeds exactly one of the left's.
-pub record Fed (l r : Fields) : Type 0 where
-  pub fields : Fields
-  pub are : partners l r ≡ Some fields
-  pub once : Permᴰ (rows_of r) (rows_of fields)
 
 pub fed : (l r : Fields) → repeats l ≡ false → arity l ≡ arity r → Fed l r
 fed l r d a = go (fields_have_same_names l r) refl

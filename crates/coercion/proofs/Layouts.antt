@@ -1,4 +1,5 @@
--- Two layouts: what union and compare answer for two Structs, column by column, and which of the right's columns feeds which of the left's. Assumes nothing.
+-- Two layouts: what union and compare answer for two Structs, column by column, and which of the right's columns
+-- feeds which of the left's. Assumes nothing.
 use mathlib.Core.Path.{◌≡◌, refl, sym, ◌∙◌}
 use mathlib.Core.Bool.{true, false}
 use mathlib.Core.List.{List, map, Memᴰ}
@@ -17,30 +18,31 @@ use Rattle.coercion.specs.Nested.{join_fields, fields_have_same_names, by_name, 
 use Rattle.coercion.specs.Wrappers.{is_of}
 use Rattle.coercion.specs.Answers.{coercion}
 use Rattle.coercion.proofs.Fuel.{coercion_asks}
-use Rattle.coercion.proofs.Feeding.{Fed, fed, by_name_found, partners_arity}
-use Rattle.coercion.proofs.Words.{Pairs, by_place, Merged, all_some, merged_some, struct_answer, list_struct_answer, alike_left, rules_for, structs_asked, list_structs_asked, structs_unequal}
+use Rattle.coercion.specs.Columns.{Pairs, rules_for, by_place, Merged, Fed}
+use Rattle.coercion.proofs.Feeding.{fed, by_name_found, partners_arity}
+use Rattle.coercion.proofs.Words.{all_some, merged_some, struct_answer, list_struct_answer, alike_left, structs_asked, list_structs_asked, structs_unequal}
 
 module _ (rules : Rules) (q : Pairs rules.question) (l r : DataType) (ours : is_of Kind.struct l ≡ true) (theirs : is_of Kind.struct r ≡ true) where
-  -- "Where the layouts are alike, the union answer is our layout"
+  -- "Where two layouts are alike, the union answer is the left layout"
   pub layouts_alike : alike l r ≡ true → coercion rules l r ≡ Some l
   layouts_alike h = alike_left rules q l r h
 
-  -- "unequal numbers of columns answer none"
+  -- "Layouts that are not alike, with unequal numbers of columns, have no union answer"
   pub layouts_unequal : (arity l.parts ≡ arity r.parts → ⊥) → coercion rules l r ≡ None
   layouts_unequal n = structs_unequal rules l r ours theirs n
 
-  -- "Where they are not": the Struct rule, which asks each column the same question
+  -- "Where they are not alike, each column is asked the same question"
   by_rule : alike l r ≡ false → coercion rules l r ≡ struct_coercion (coercion rules) l r
   by_rule h = coercion_asks rules l r ∙ structs_asked (coercion rules) rules.mask rules.question q l r ours theirs h
 
-  -- "the column types together are those of the union answer for the two Structs"
+  -- "the column types together are those of the union answer"
   pub layouts_joined : alike l r ≡ false → (t : DataType) → coercion rules l r ≡ Some t
       → (fields : Fields) × (partners l.parts r.parts ≡ Some fields) × (t.shape ≡ shape_of_kind Kind.struct)
       × Merged (coercion rules) l.parts fields fields t.parts
   layouts_joined h t e = struct_answer (coercion rules) l r t (sym (by_rule h) ∙ e)
 
   module _ (fields : Fields) (paired : partners l.parts r.parts ≡ Some fields) where
-    -- "and one column with none makes the whole none"
+    -- "One pair of fields without a common type leaves the Structs without one"
     pub layouts_none : alike l r ≡ false → Memᴰ None (by_place (coercion rules) (types_of l.parts) (types_of fields)) → coercion rules l r ≡ None
     layouts_none h m = go (coercion rules l r) refl
       where
@@ -65,7 +67,7 @@ module _ (rules : Rules) (q : Pairs rules.question) (l r : DataType) (ours : is_
             → struct_coercion (coercion rules) l r ≡ Some (record { shape = shape_of_kind Kind.struct; parts = f })
         step f j = rw (ours, theirs, eq-eqb (arity l.parts) (arity r.parts) a, paired) (rw j)
 
-  -- "Unless the whole is none, every one of their columns feeds exactly one of ours"
+  -- "Unless there is no common type, every field of the right feeds exactly one field of the left"
   pub layouts_fed : repeats l.parts ≡ false → (t : DataType) → coercion rules l r ≡ Some t → Fed l.parts r.parts
   layouts_fed d t e = go (ℕ_discrete (arity l.parts) (arity r.parts))
     where
@@ -73,7 +75,7 @@ module _ (rules : Rules) (q : Pairs rules.question) (l r : DataType) (ours : is_
       go (yes a) = fed l.parts r.parts d a
       go (no n) = let i : None ≡ Some t = sym (layouts_unequal n) ∙ e in let z : ◌≡◌ {A = ℕ} 0 1 = cc in absurd (omega arith)
 
--- In a list: types by name, "but joins nullability by place".
+-- In a list: types by name, "In a list the nullability of Structs is joined by place"
 module _ (mask : ℕ) (l r : DataType) (ours : is_of Kind.struct l ≡ true) (theirs : is_of Kind.struct r ≡ true) where
   pub listed_joined : equal l r ≡ false → (t : DataType) → coercion (rules_for list mask) l r ≡ Some t
       → (fields : Fields) × (by_name l.parts r.parts ≡ Some fields) × (t.shape ≡ shape_of_kind Kind.struct)

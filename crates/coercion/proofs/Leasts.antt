@@ -1,4 +1,5 @@
--- The common type of a list of a family that is ordered by `holds` is the least type that holds them all. Assumes nothing.
+-- The common type of a list of a family that is ordered by `holds` is the least type that holds them all. Assumes
+-- nothing.
 use mathlib.Core.Path.{◌≡◌, refl, ap, sym, ◌∙◌}
 use mathlib.Core.Bool
 use mathlib.Core.Bool.{Bool, true, false, ◌&&◌}
@@ -16,7 +17,7 @@ use Rattle.coercion.proofs.Tables.{below, below3, at, at3}
 use Rattle.coercion.proofs.Codes.{joined, of_one, of_three}
 use Rattle.coercion.proofs.Ranked.{integer_at, integer_up, string_at, timestamp_at, Lawful, Numbered, coded, integers_lawful, integers_numbered, strings_lawful, strings_numbered, timestamps_lawful, timestamps_numbered}
 
--- "Every type holds itself and Null"
+-- "Every type holds itself, and every type holds Null"
 pub holds_null : (f : Family) (t : DataType) → holds f t null_type ≡ true
 unfolding holds
 holds_null integers t = refl

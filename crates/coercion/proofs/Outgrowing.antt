@@ -1,4 +1,5 @@
--- The common type of decimals of one width: the least type that holds them, or (cap, the greatest scale) where none does. Assumes nothing.
+-- The common type of decimals of one width: the least type that holds them, or (cap, the greatest scale) where none
+-- does. Assumes nothing.
 use mathlib.Core.Path.{◌≡◌, refl, ap, ap₂, sym, subst, ◌∙◌}
 use mathlib.Core.Bool.{Bool, true, false, ◌||◌}
 use mathlib.Core.List.{List, [], ◌∷◌}
@@ -57,7 +58,7 @@ module _ (w : ℕ) (known : is_decimal w ≡ true) where
   solid : (t : DataType) (a : Within w t) → is_null t ≡ false
   solid t a = ap is_null a.is ∙ (decimals_coded w known).solid a.extent a.real
 
-  -- "Type (p,s) holds (q,t) where t ≤ s and q − t ≤ p − s"
+  -- "A decimal (p,s) holds (q,t) where t ≤ s and q − t ≤ p − s"
   held : (t u : DataType) (a : Within w t) (b : Within w u) → Covers b.extent a.extent → holds (decimals w) u t ≡ true
   unfolding holds
   held t u a b c =
@@ -180,7 +181,7 @@ module _ (w : ℕ) (known : is_decimal w ≡ true) where
   gathered [] a = none (record { is = refl; over = λ u. tt; greatest = λ s. tt })
   gathered (t ∷ ts) a = with_one t ts a.0 (gathered ts a.1)
 
-  -- the least type, or no type: "(cap, the greatest s of a listed decimal)"
+  -- the least type, or no type of the width: the cap and "the greatest scale that is listed"
   pub decimals_common : (ts : List DataType) → AllIn (decimals w) ts → SomeIn (decimals w) ts → Common (decimals w) ts (all ts)
   decimals_common ts a s = go (gathered ts a)
     where

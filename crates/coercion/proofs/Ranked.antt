@@ -1,4 +1,5 @@
--- The families of finitely many types: the integers with Decimal128(20,0), the strings, the timestamps without a zone. Assumes nothing.
+-- The families of finitely many types: the integers with Decimal128(20,0), the strings, the timestamps without a
+-- zone. Assumes nothing.
 use mathlib.Core.Path.{◌≡◌, refl, ap, sym, subst, ◌∙◌}
 use mathlib.Core.Bool.{Bool, true, false, cond, not}
 use Rattle.std.specs.Prelude.{Option, None, Some}

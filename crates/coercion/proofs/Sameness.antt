@@ -1,7 +1,7 @@
 -- Equal types are the same, and alike types are the same but for names. Assumes nothing.
 use mathlib.Core.Path.{◌≡◌, refl, sym, ◌∙◌, ap, ap₂}
-use mathlib.Core.Bool.{Bool, true, false, cond, ◌&&◌, beq}
-use mathlib.Core.List.{List, []}
+use mathlib.Core.Bool.{Bool, true, false, ◌&&◌, beq}
+use mathlib.Core.List.{List}
 use Prim.Native.Nat.{ℕ, ◌+◌}
 use native.Mathlib.Omega.{arith}
 use borrow.Author.Tests.{eq-eqb, eqb-true}
@@ -11,7 +11,7 @@ use Rattle.sheet.specs.Names.{same_bytes}
 use Rattle.sheet.proofs.Tests.{all_at, all_cons, all_nil, and_fst, and_snd, never}
 use Rattle.sheet.proofs.Bytewise.{same_self, same_equal}
 use Rattle.coercion.specs.Data.{DataType}
-use Rattle.coercion.specs.Same.{same_zone, same_shape, same_fields, same_type, equal, alike}
+use Rattle.coercion.specs.Same.{same_zone, same_shape, same_fields, same_type, equal, alike, seen, strip, shown, nameless}
 
 beq_true : (a b : Bool) → beq a b ≡ true → a ≡ b
 beq_true true true h = refl
@@ -55,14 +55,6 @@ shape_self a =
     (all_cons _ (eq-eqb a.size _ refl)
     (all_cons _ (beq_self a.sorted) (all_cons _ (zone_self a.zone) all_nil)))))
 
--- a chain with its names, or with every name left out
-abbrev pub seen : Bool → List ℕ → List ℕ
-seen named name = cond named name []
-
-unfoldable pub strip : Bool → Fields → Fields
-strip named end = end
-strip named (field name nullable shape parts rest) = field (seen named name) nullable shape (strip named parts) (strip named rest)
-
 name_equal : (named : Bool) (n m : List ℕ) → implies named (same_bytes n m) ≡ true → seen named n ≡ seen named m
 name_equal true n m h = same_equal n m h
 name_equal false n m h = refl
@@ -105,18 +97,6 @@ unfolding strip
 strip_all end = refl
 strip_all (field n b s p q) = ap₂ (λ (x y : Fields). field n b s x y) (strip_all p) (strip_all q)
 
-pub strip_twice : (t : Fields) → strip false (strip false t) ≡ strip false t
-unfolding strip
-strip_twice end = refl
-strip_twice (field n b s p q) = ap₂ (λ (x y : Fields). field [] b s x y) (strip_twice p) (strip_twice q)
-
--- a type with the names of its parts, or without a name at any depth
-abbrev pub shown : Bool → DataType → DataType
-shown named t = record { shape = t.shape; parts = strip named t.parts }
-
-abbrev pub nameless : DataType → DataType
-nameless t = shown false t
-
 pub type_equal : (named : Bool) (l r : DataType) → same_type named l r ≡ true → shown named l ≡ shown named r
 unfolding same_type
 type_equal named l r h =
@@ -140,7 +120,7 @@ equal_same l r h =
 pub equal_self : (t : DataType) → equal t t ≡ true
 equal_self t = type_same true t t refl
 
--- "Alike leaves out field names at every depth", and nothing else
+-- "Alike leaves out the names of fields at every depth", and nothing else
 pub alike_nameless : (l r : DataType) → alike l r ≡ true → nameless l ≡ nameless r
 alike_nameless l r h = type_equal false l r h
 
@@ -150,18 +130,8 @@ nameless_alike l r e = type_same false l r e
 pub alike_self : (t : DataType) → alike t t ≡ true
 alike_self t = nameless_alike t t refl
 
-pub alike_back : (l r : DataType) → alike l r ≡ true → alike r l ≡ true
-alike_back l r h = nameless_alike r l (sym (alike_nameless l r h))
-
-pub alike_on : (l m r : DataType) → alike l m ≡ true → alike m r ≡ true → alike l r ≡ true
-alike_on l m r h k = nameless_alike l r (alike_nameless l m h ∙ alike_nameless m r k)
-
 pub equal_alike : (l r : DataType) → equal l r ≡ true → alike l r ≡ true
 equal_alike l r h = nameless_alike l r (ap nameless (equal_same l r h))
-
--- a type is alike to itself without names
-pub alike_bare : (t : DataType) → alike t (nameless t) ≡ true
-alike_bare t = nameless_alike t (nameless t) (ap (λ (p : Fields). record { shape = t.shape; parts = p }) (sym (strip_twice t.parts)))
 
 -- alike types have as many parts
 strip_arity : (named : Bool) (t : Fields) → arity (strip named t) ≡ arity t

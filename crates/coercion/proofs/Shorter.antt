@@ -8,6 +8,8 @@ use native.Mathlib.Omega.{arith}
 use lib.ListN.{length}
 use Rattle.sheet.specs.Types.{Zone, Fields, end, field, count, labels}
 use Rattle.sheet.specs.Names.{names_differ}
+use Rattle.sheet.specs.Encode.{encode}
+use Rattle.sheet.proofs.Chains.{encode_length}
 use Rattle.coercion.specs.Data.{DataType, size, single, types_of, Question, Rules}
 use Rattle.coercion.specs.Answers.{coercion, answer_of}
 use Rattle.coercion.proofs.Maybe.{If, if_weak, if_some}
@@ -59,6 +61,10 @@ module _ (q : Question) (rules : Rules) (ts : Fields) (t : DataType) (h : names_
   pub answer_shorter : length (labels (single t)) ≤ length (labels ts)
   answer_shorter =
       omega (arith, (answer_is name_length zone_length labels_scales).1, types_weigh name_length zone_length ts, labels_weigh (single t), labels_weigh ts)
+
+  -- so its one-type sheet is no longer than the sheet of the list
+  pub answer_length : length (encode (single t)) ≤ length (encode ts)
+  answer_length = rw (encode_length (single t), encode_length ts) (omega (arith, answer_smaller, answer_shorter))
 
   pub answer_differ : names_differ (single t) ≡ true
   answer_differ = let g = (answer_is nothing one records_scales).0 in apart_differ (single t) (g.0, (g.1, tt))

@@ -1,14 +1,10 @@
--- "Wrong turns", on types: in a list the later zone wins, two widths are not clamped, and nullability goes by place. Assumes nothing.
-use mathlib.Core.Path.{◌≡◌, refl}
-use mathlib.Core.List.{[], ◌∷◌}
-use Rattle.std.specs.Prelude.{Some}
-use Prim.Native.Nat.{ℕ}
+-- In a list the later zone wins. Assumes nothing.
+use mathlib.Core.Path.{refl}
 use Rattle.sheet.specs.Tests.{all_of, between}
-use Rattle.sheet.specs.Kind as Kind
 use Rattle.sheet.specs.Kind.{is_decimal}
-use Rattle.sheet.specs.Types.{present, arity, count}
+use Rattle.sheet.specs.Types.{arity, count}
 use Rattle.sheet.specs.Names.{same_bytes}
-use Rattle.coercion.specs.Data.{DataType, list, Rules, first_of, zoned, of_unit}
+use Rattle.coercion.specs.Data.{first_of}
 use Rattle.coercion.specs.Numbers as Numbers
 use Rattle.coercion.specs.Times as Times
 use Rattle.coercion.specs.Strings as Strings
@@ -18,15 +14,9 @@ use Rattle.coercion.specs.Wrappers as Wrappers
 use Rattle.coercion.specs.Nested as Nested
 use Rattle.coercion.specs.Answers as Answers
 use Rattle.coercion.specs.Answers.{type_union_resolution}
+use Rattle.coercion.specs.Laws.{LaterZone}
 
-abbrev asked : ℕ → Rules
-asked mask = record { question = list; mask = mask }
-
--- a Timestamp in seconds with a zone of one byte
-abbrev stamp : ℕ → DataType
-stamp z = zoned (of_unit Kind.timestamp 0) (present (z ∷ []))
-
-pub later_zone_lem : (mask : ℕ) → type_union_resolution (asked mask) (stamp 65 ∷ stamp 66 ∷ []) ≡ Some (stamp 66)
+pub later_zone_lem : LaterZone
 unfolding all_of between is_decimal arity count same_bytes first_of Same.same_zone Same.same_shape Same.same_fields Same.same_type Wrappers.wrapper_coercion
     Numbers.binary_numeric_coercion Nested.list_coercion Nested.map_coercion Times.temporal_coercion_nonstrict_timezone Strings.string_coercion
     Strings.binary_coercion Plain.null_coercion Plain.string_numeric_coercion Answers.coerce_in Answers.coercion Answers.category_of Answers.has_category

@@ -17,7 +17,8 @@ use Rattle.coercion.specs.Data.{DataType}
 use Rattle.coercion.specs.Nested.{with_name, by_name}
 use Rattle.coercion.proofs.Maybe.{If, if_then, if_cond, if_weak}
 
--- what a chain weighs, where a name weighs what a says and a zone, or none, what b says: its records, or the bytes of its labels
+-- what a chain weighs, where a name weighs what a says and a zone, or none, what b says: its records, or the bytes of
+-- its labels
 abbrev pub weigh : (List ℕ → ℕ) → (Zone → ℕ) → Fields → ℕ
 weigh a b end = 0
 weigh a b (field name nullable shape parts rest) = (a name + b shape.zone) + (weigh a b parts + weigh a b rest)

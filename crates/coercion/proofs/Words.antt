@@ -1,4 +1,4 @@
--- Document 01's words about the answers on types, as theorems over the definitions. Assumes nothing.
+-- What docs/RULES.md says of the answers on types, as theorems over the definitions. Assumes nothing.
 use mathlib.Core.Path.{◌≡◌, refl, sym, ◌∙◌, ap, ap₂, subst}
 use mathlib.Core.Bool.{Bool, true, false, cond, ◌&&◌, ◌||◌}
 use mathlib.Core.List.{List, [], ◌∷◌, map, Memᴰ}
@@ -24,14 +24,9 @@ use Rattle.coercion.specs.Rules as Rules
 use Rattle.coercion.specs.Wrappers as Wrappers
 use Rattle.coercion.specs.Answers.{ask, list_struct, coerce_in, coercion, all_equal, type_union_resolution}
 use Rattle.coercion.proofs.Sameness.{equal_same, equal_self, equal_alike, alike_self, alike_arity}
-use Rattle.coercion.proofs.Feeding.{Row, rows_of, names_of}
+use Rattle.coercion.specs.Columns.{Pairs, of_union, of_compare, rules_for, rows_of, names_of, nulls_of, by_place, Merged, Entry}
 
--- the questions about two types
-pub data Pairs : Question → Type 0 where
-  of_union : Pairs union
-  of_compare : Pairs compare
-
--- "Alike types (`equals_datatype`) give the left"
+-- "Alike types give the left"
 alike_asked : (q : Question) → Pairs q → (rules : Rules) (coerce : DataType → DataType → Option DataType) (l r : DataType)
     → alike l r ≡ true → ask q rules coerce l r ≡ Some l
 unfolding first_of
@@ -60,7 +55,7 @@ equal_left rules l r h =
     let e = equal_same l r h in
     ap (coercion rules l) (sym e) ∙ coercion_step rules l l ∙ equal_asked rules.question rules _ l
 
--- "All the same, with names and nullability: that type, so all Nulls give Null"
+-- "Types that are all equal, in names and nullability too, give that type, so Nulls alone give Null"
 pub list_of_same : (rules : Rules) (t : DataType) (n : ℕ) → type_union_resolution rules (t ∷ replicate n t) ≡ Some t
 unfolding type_union_resolution
 list_of_same rules t n = rw (all n)
@@ -68,25 +63,6 @@ list_of_same rules t n = rw (all n)
     all : (n : ℕ) → all_equal t (replicate n t) ≡ true
     all zero = refl
     all (suc n) = rw (equal_self t) (all n)
-
--- two lists place by place, as far as both go
-abbrev pub by_place {ℓ κ μ} : {A : Type ℓ} {B : Type κ} {C : Type μ} → (A → B → C) → List A → List B → List C
-by_place f [] ys = []
-by_place f (x ∷ xs) [] = []
-by_place f (x ∷ xs) (y ∷ ys) = f x y ∷ by_place f xs ys
-
-abbrev pub nulls_of : Fields → List Bool
-nulls_of t = map (λ (r : Row). r.nullable) (rows_of t)
-
--- The fields made of a left chain with the types of one chain and the nullability of another.
-pub record Merged (coerce : DataType → DataType → Option DataType) (l m n t : Fields) : Type 0 where
-  -- "under the left's names", "in the left's order"
-  pub names : names_of t ≡ names_of l
-  -- "Nullability is joined"
-  pub nulls : nulls_of t ≡ by_place ◌||◌ (nulls_of l) (nulls_of n)
-  -- the column types are those of the columns
-  pub types : map Some (types_of t) ≡ by_place coerce (types_of l) (types_of m)
-  pub many : (arity l ≡ arity m) × (arity l ≡ arity n) × (arity t ≡ arity l)
 
 clash : {A : Type 0} {t : Fields} → None ≡ Some t → A
 clash e = let z : ◌≡◌ {A = ℕ} 0 1 = cc in absurd (omega arith)
@@ -139,14 +115,6 @@ module _ (coerce : DataType → DataType → Option DataType) where
             many = (ap (λ (x : ℕ). 1 + x) k.many.0, ap (λ (x : ℕ). 1 + x) k.many.1, ap (λ (x : ℕ). 1 + x) k.many.2);
           })
 
-  -- "one column with none makes the whole none"
-  pub merged_none : (l m n : Fields) → Memᴰ None (by_place coerce (types_of l) (types_of m)) → join_fields coerce l m n ≡ None
-  merged_none l m n h = go (join_fields coerce l m n) refl
-    where
-      go : (o : Option Fields) → join_fields coerce l m n ≡ o → join_fields coerce l m n ≡ None
-      go None e = e
-      go (Some t) e = absurd (all_some (types_of t) (rw (sym (merged l m n t e).types) at h))
-
   -- and where each column has a type, so has the whole
   pub merged_some : (l m n : Fields) (ts : List DataType) → arity l ≡ arity m → arity l ≡ arity n → map Some ts ≡ by_place coerce (types_of l) (types_of m)
       → (t : Fields) × (join_fields coerce l m n ≡ Some t)
@@ -170,8 +138,8 @@ module _ (coerce : DataType → DataType → Option DataType) where
           → join_fields coerce (field n b s p q) (field n' b' s' p' q') (field n'' b'' s'' p'' q'') ≡ Some (field n (b || b'') u.shape u.parts f)
       step u f x y = rw (x, y)
 
-  -- The answer for two Structs whose right fields were ordered before they were joined with the left's: the fields that give types, those that give
-  -- nullability, and what was made of them.
+  -- The answer for two Structs whose right fields were ordered before they were joined with the left's: the fields
+  -- that give types, those that give nullability, and what was made of them.
   made_of : (l : Fields) (o : Option Fields) (nulls : Fields → Fields) (t : DataType) → struct_of (and_then o (λ fields. join_fields coerce l fields (nulls fields))) ≡ Some t
       → (fields : Fields) × (o ≡ Some fields) × (t.shape ≡ shape_of_kind Kind.struct) × Merged coerce l fields (nulls fields) t.parts
   made_of l None nulls t h = let z : ◌≡◌ {A = ℕ} 0 1 = cc in absurd (omega arith)
@@ -185,8 +153,7 @@ module _ (coerce : DataType → DataType → Option DataType) where
           let j : record { shape = shape_of_kind Kind.struct; parts = f } ≡ t = cc in
           (fields, refl, ap (λ (t : DataType). t.shape) (sym j), merged l fields (nulls fields) t.parts (e ∙ ap (λ (t : DataType). Some t.parts) j))
 
-  -- union and compare: types and nullability go by the pairing, "Equal name sets match by name, in the left's order; otherwise by place, under the left's names.
-  -- Nullability is joined"
+  -- union and compare: types and nullability go by the pairing
   pub struct_answer : (l r t : DataType) → struct_coercion coerce l r ≡ Some t
       → (fields : Fields) × (partners l.parts r.parts ≡ Some fields) × (t.shape ≡ shape_of_kind Kind.struct) × Merged coerce l.parts fields fields t.parts
   unfolding struct_coercion
@@ -194,13 +161,13 @@ module _ (coerce : DataType → DataType → Option DataType) where
       made_of l.parts (partners l.parts r.parts) (λ fields. fields) t
       (held (is_of Kind.struct l && (is_of Kind.struct r && eqb (arity l.parts) (arity r.parts))) _ t h)
 
-  -- a list: "Its Struct rule finds types by name but joins nullability by place"
+  -- a list: types by name, "In a list the nullability of Structs is joined by place"
   pub list_struct_answer : (l r t : DataType) → list_struct coerce l r ≡ Some t
       → (fields : Fields) × (by_name l.parts r.parts ≡ Some fields) × (t.shape ≡ shape_of_kind Kind.struct) × Merged coerce l.parts fields r.parts t.parts
   list_struct_answer l r t h =
       made_of l.parts (by_name l.parts r.parts) (λ fields. r.parts) t (held (eqb (arity l.parts) (arity r.parts)) _ t h)
 
-  -- "Structs with unequal numbers of fields give none"
+  -- "Structs with unequal numbers of fields have no common type"
   pub struct_unequal : (l r : DataType) → (arity l.parts ≡ arity r.parts → ⊥) → struct_coercion coerce l r ≡ None
   unfolding struct_coercion
   struct_unequal l r n = rw (ne_eqb (arity l.parts) (arity r.parts) n) (rw (and_false (is_of Kind.struct r)) (rw (and_false (is_of Kind.struct l))))
@@ -208,7 +175,7 @@ module _ (coerce : DataType → DataType → Option DataType) where
   pub list_struct_unequal : (l r : DataType) → (arity l.parts ≡ arity r.parts → ⊥) → list_struct coerce l r ≡ None
   list_struct_unequal l r n = rw (ne_eqb (arity l.parts) (arity r.parts) n)
 
-  -- lists: the item under the left's name, its nullability joined
+  -- "The item has the left's name, the common type of both items, and is nullable where either is"
   pub list_answer : (l r t : DataType) → list_coercion coerce l r ≡ Some t
       → (t.shape ≡ list_shape l.shape r.shape) × Merged coerce l.parts r.parts r.parts t.parts
   unfolding list_coercion
@@ -223,35 +190,24 @@ module _ (coerce : DataType → DataType → Option DataType) where
           let j : record { shape = list_shape l.shape r.shape; parts = f } ≡ t = cc in
           (ap (λ (t : DataType). t.shape) (sym j), merged l.parts r.parts r.parts t.parts (e ∙ ap (λ (t : DataType). Some t.parts) j))
 
-  -- the entry of a map
-  pub record Entry (l r t : DataType) : Type 0 where
-    pub shape : t.shape ≡ map_shape (l.shape.sorted && r.shape.sorted)
-    pub left : DataType
-    pub right : DataType
-    pub both : DataType
-    pub of_left : entry_type l.parts ≡ Some left
-    pub of_right : entry_type r.parts ≡ Some right
-    pub joined : struct_coercion coerce left right ≡ Some both
-    pub parts : t.parts ≡ entry_of l.parts both
-
-  -- "A map's entry field keeps the left's name and nullability; it is sorted where both are"
-  pub map_answer : (l r t : DataType) → map_coercion coerce l r ≡ Some t → Entry l r t
+  -- "The entry of a Map keeps the left's name and nullability"; "A Map is sorted where both are"
+  pub map_answer : (l r t : DataType) → map_coercion coerce l r ≡ Some t → Entry coerce l r t
   unfolding map_coercion
   map_answer l r t h =
       entries (entry_type l.parts) refl (entry_type r.parts) refl (held (is_of Kind.map l && is_of Kind.map r) _ t h)
     where
-      shut : None ≡ Some t → Entry l r t
+      shut : None ≡ Some t → Entry coerce l r t
       shut e = let z : ◌≡◌ {A = ℕ} 0 1 = cc in absurd (omega arith)
 
       entries : (a : Option DataType) → entry_type l.parts ≡ a → (b : Option DataType) → entry_type r.parts ≡ b
           → and_then a (λ a. and_then b (λ b. and_then (struct_coercion coerce a b)
           (λ t. Some (record { shape = map_shape (l.shape.sorted && r.shape.sorted); parts = entry_of l.parts t })))) ≡ Some t
-          → Entry l r t
+          → Entry coerce l r t
       entries None x b y g = shut g
       entries (Some a) x None y g = shut g
       entries (Some a) x (Some b) y g = go (struct_coercion coerce a b) refl
         where
-          go : (o : Option DataType) → struct_coercion coerce a b ≡ o → Entry l r t
+          go : (o : Option DataType) → struct_coercion coerce a b ≡ o → Entry coerce l r t
           go None e = shut (rw e at g)
           go (Some u) e =
               let i : Some (record { shape = map_shape (l.shape.sorted && r.shape.sorted); parts = entry_of l.parts u }) ≡ Some t = rw e at g in
@@ -288,10 +244,6 @@ or_none (Some t) = refl
 fails : (b : Bool) → (b ≡ true → ⊥) → b ≡ false
 fails true n = absurd (n refl)
 fails false n = refl
-
--- the rules of a question
-abbrev pub rules_for : Question → ℕ → Rules
-rules_for q mask = record { question = q; mask = mask }
 
 -- a Struct by its other figures
 abbrev struct_with : Shape → Fields → DataType
@@ -337,7 +289,7 @@ module _ (coerce : DataType → DataType → Option DataType) (mask : ℕ) where
   list_structs_asked l r x y h =
       of_structs (λ l r. equal l r ≡ false → ask list (rules_for list mask) coerce l r ≡ list_struct coerce l r) (λ s s' p p' h. rw h) l r x y h
 
-  -- "Structs with unequal numbers of fields give none", whichever the question
+  -- "Structs with unequal numbers of fields have no common type", whichever the question
   unequal_asked : (q : Question) (l r : DataType) → is_of Kind.struct l ≡ true → is_of Kind.struct r ≡ true → (arity l.parts ≡ arity r.parts → ⊥)
       → ask q (rules_for q mask) coerce l r ≡ None
   unequal_asked list l r x y n =

@@ -23,7 +23,8 @@ string_number list l r = string_numeric_coercion l r
 string_number union l r = string_numeric_union_coercion l r
 string_number compare l r = string_numeric_coercion l r
 
--- The rules of `type_union_coercion` and `comparison_coercion`, in the source's order; the alike test is number 1.
+-- The rules of `type_union_coercion` and `comparison_coercion`, in the source's order: "The number of a rule is its
+-- place in this list", the alike test being number 1.
 abbrev pub pair_rules : Rules → (DataType → DataType → Option DataType) → DataType → DataType → List (Option DataType)
 pair_rules rules coerce l r =
     cond (alike l r) (Some l) None
@@ -47,11 +48,11 @@ dictionary_of d end value = None
 dictionary_of d (field name nullable shape parts rest) value =
     Some (record { shape = d.shape; parts = field name nullable shape parts (before [] false value end) })
 
--- "Dict with View type is redundant, use value type instead"
+-- "A Dictionary of Utf8View is redundant, so a Dictionary with a type that is none gives Utf8View alone"
 abbrev pub keep_dictionary : DataType → DataType → Option DataType
 keep_dictionary d value = cond (is_of Kind.utf8_view value) (Some value) (dictionary_of d d.parts value)
 
--- the parts of two Dictionaries or run ends are coerced one by one, under the left's names and nullability
+-- "Two wrappers of one kind are joined part by part, under the names and nullability of the left, the new type"
 abbrev pub both_parts : (DataType → DataType → Option DataType) → DataType → Fields → Fields → Option DataType
 both_parts coerce l end r = None
 both_parts coerce l (field n b s p end) r = None
@@ -68,11 +69,13 @@ run_ends_of d end value = None
 run_ends_of d (field n b s p end) value = None
 run_ends_of d (field n b s p (field n₂ b₂ s₂ p₂ q)) value = Some (record { shape = d.shape; parts = field n b s p (before n₂ b₂ value end) })
 
--- the wrapped value with the other type, "the wrapped value goes left", and what is made of it
+-- the wrapped value with the other type, and what is made of it: "The wrapped value goes left, whichever side the
+-- wrapper stood on"
 abbrev pub wrapped : (DataType → DataType → Option DataType) → DataType → DataType → (DataType → DataType → Option DataType) → Option DataType
 wrapped coerce d other make = and_then (value_in d.parts) (λ v. and_then (coerce v other) (λ t. make d t))
 
--- two Structs in a list: types by name, names and order of the left, "but joins nullability by place"
+-- "In a list the fields of Structs match by name alone, under the names and in the order of the left"; "In a list the
+-- nullability of Structs is joined by place"
 abbrev pub list_struct : (DataType → DataType → Option DataType) → DataType → DataType → Option DataType
 list_struct coerce l r =
     cond (eqb (arity l.parts) (arity r.parts))
@@ -116,7 +119,8 @@ unfoldable pub coerce_in : ℕ → Rules → DataType → DataType → Option Da
 coerce_in zero rules l r = None
 coerce_in (suc f) rules l r = ask rules.question rules (coerce_in f rules) l r
 
--- The common type of two types: `type_union_resolution_coercion`, `type_union_coercion` or `comparison_coercion`. "the records left in both falling"
+-- The common type of two types: `type_union_resolution_coercion`, `type_union_coercion` or `comparison_coercion`.
+-- "Coercion of two types asks only about their parts, with ever fewer records left in both, so it ends"
 unfoldable pub coercion : Rules → DataType → DataType → Option DataType
 coercion rules l r = coerce_in (size l + size r) rules l r
 
@@ -134,7 +138,7 @@ own_category k =
     (cond (is_date k || (is_time k || (eqb k Kind.timestamp || is_span k))) dateTime
     (cond (eqb k Kind.struct || eqb k Kind.map) composite notSupported)))))
 
--- "Dictionary and RunEndEncoded take their value's category"
+-- "A Dictionary and a RunEndEncoded have the category of their value"
 unfoldable pub category_of : Shape → Fields → Category
 category_of shape end = cond (eqb shape.kind Kind.dictionary || eqb shape.kind Kind.run_end_encoded) notSupported (own_category shape.kind)
 category_of shape (field n b s p end) = cond (eqb shape.kind Kind.dictionary || eqb shape.kind Kind.run_end_encoded) notSupported (own_category shape.kind)
@@ -178,7 +182,8 @@ abbrev pub all_equal : DataType → List DataType → Bool
 all_equal t [] = true
 all_equal t (u ∷ us) = equal u t && all_equal t us
 
--- "folded by `type_union_resolution_coercion`, the new type on the left, the candidate on the right"; "Nulls are skipped"
+-- "Nulls are skipped, and the other types are folded from the first to the last by `type_union_resolution_coercion`";
+-- "In the fold the new type stands on the left and the candidate on the right"
 unfoldable pub fold_from : Rules → DataType → List DataType → Option DataType
 fold_from rules candidate [] = Some candidate
 fold_from rules candidate (t ∷ ts) = cond (is_null t) (fold_from rules candidate ts) (and_then (coercion rules t candidate) (λ c. fold_from rules c ts))
@@ -187,8 +192,9 @@ unfoldable pub fold_types : Rules → List DataType → Option DataType
 fold_types rules [] = None
 fold_types rules (t ∷ ts) = cond (is_null t) (fold_types rules ts) (fold_from rules t ts)
 
--- `type_union_resolution`: "An empty list: none. All the same, with names and nullability: that type"; "A type of no category gives none, and so do two
--- categories besides Unknown"
+-- `type_union_resolution`: "An empty list has no common type"; "Types that are all equal, in names and nullability
+-- too, give that type, so Nulls alone give Null"; "A list with a type of no category has no common type"; "A list
+-- with types of two categories has no common type; Unknown does not count"
 unfoldable pub type_union_resolution : Rules → List DataType → Option DataType
 type_union_resolution rules [] = None
 type_union_resolution rules (t ∷ ts) =
@@ -196,7 +202,7 @@ type_union_resolution rules (t ∷ ts) =
     (cond (has_category notSupported (t ∷ ts)) None
     (cond (Rattle.sheet.specs.Tests.between 0 1 (categories_in (t ∷ ts))) (fold_types rules (t ∷ ts)) None))
 
--- "Two types, left then right"
+-- "Union and compare take two types, the left and then the right"
 abbrev pub pair_answer : Rules → List DataType → Option DataType
 pair_answer rules [] = None
 pair_answer rules (l ∷ []) = None

@@ -26,12 +26,12 @@ types_of (field name nullable shape parts rest) = record { shape = shape; parts 
 pub data Question : Type 0 where
   list union compare : Question
 
--- "the question as a value": what is handed down to every rule
+-- "The question is kept as a value and handed down to every part", and the mask with it
 pub record Rules : Type 0 where
   pub question : Question
   pub mask : ℕ
 
--- "bit k is set where Null may become kind k"
+-- "Bit k of the mask is set where Null may become kind k"
 abbrev pub may_become : ℕ → ℕ → Bool
 may_become mask k = eqb (mask / 2 ^ k % 2) 1
 

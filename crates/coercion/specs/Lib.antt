@@ -11,3 +11,6 @@ pub mod Nested
 pub mod Answers
 pub mod Families
 pub mod Meaning
+pub mod Columns
+pub mod Wider
+pub mod Laws

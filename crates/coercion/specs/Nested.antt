@@ -12,7 +12,8 @@ use Rattle.coercion.specs.Wrappers.{is_of}
 abbrev pub before : List ℕ → Bool → DataType → Fields → Fields
 before name nullable t rest = field name nullable t.shape t.parts rest
 
--- A chain of fields under the left's names, in the left's order. Types are coerced with those of one chain, nullability is joined with that of another.
+-- A chain of fields under the left's names, in the left's order. Types are coerced with those of one chain,
+-- nullability is joined with that of another.
 unfoldable pub join_fields : (DataType → DataType → Option DataType) → Fields → Fields → Fields → Option Fields
 join_fields coerce end end end = Some end
 join_fields coerce end end (field name nullable shape parts rest) = None
@@ -40,7 +41,8 @@ unfoldable pub by_name : Fields → Fields → Option Fields
 by_name end r = Some end
 by_name (field name nullable shape parts rest) r = and_then (by_name rest r) (λ more. with_name name r more)
 
--- Which of the right's fields feeds which of the left's: "Equal name sets match by name, in the left's order; otherwise by place"
+-- Which of the right's fields feeds which of the left's: "Where the two sets of names are equal, fields match by
+-- name, in the order of the left"; "Where the sets of names differ, fields match by place"
 unfoldable pub partners : Fields → Fields → Option Fields
 partners l r = cond (fields_have_same_names l r) (by_name l r) (Some r)
 
@@ -90,7 +92,7 @@ entry_of (field name nullable shape parts rest) t = field name nullable t.shape 
 abbrev pub map_shape : Bool → Shape
 map_shape sorted = record { kind = Kind.map; figure = 0; scale = 0; size = 0; sorted = sorted; zone = absent }
 
--- `map_coercion`: "A map's entry field keeps the left's name and nullability; it is sorted where both are"
+-- `map_coercion`: "The entry of a Map keeps the left's name and nullability"; "A Map is sorted where both are"
 unfoldable pub map_coercion : (DataType → DataType → Option DataType) → DataType → DataType → Option DataType
 map_coercion coerce l r =
     cond (is_of Kind.map l && is_of Kind.map r)

@@ -17,7 +17,8 @@ decimal k p s = record { kind = k; figure = p; scale = (s + 128) % 256 }
 abbrev pub ahead : ℕ → ℕ → ℕ
 ahead p s = p + 256 - s
 
--- "scale is the greater s; precision is that plus the greater p − s"
+-- "The scale is the greater of the two scales"; "The precision is that scale plus the greater of the two whole parts,
+-- p − s"
 abbrev pub wider_scale : Figures → Figures → ℕ
 wider_scale l r = max (biased l.scale) (biased r.scale)
 
@@ -25,7 +26,7 @@ abbrev pub wider_precision : Figures → Figures → ℕ
 wider_precision l r =
     max (ahead l.figure (biased l.scale)) (ahead r.figure (biased r.scale)) + wider_scale l r - 256
 
--- `create_decimal32_type` to `create_decimal256_type`: precision and scale "held to the cap"
+-- `create_decimal32_type` to `create_decimal256_type`: "Precision and scale are held to the cap of the width"
 abbrev pub create_decimal_type : ℕ → ℕ → ℕ → Figures
 create_decimal_type k p s = decimal k (min (cap k) p) (min (cap k + 128) s)
 
@@ -33,13 +34,15 @@ create_decimal_type k p s = decimal k (min (cap k) p) (min (cap k + 128) s)
 unfoldable pub get_wider_decimal_type : Figures → Figures → Figures
 get_wider_decimal_type l r = create_decimal_type l.kind (wider_precision l r) (wider_scale l r)
 
--- `get_wider_decimal_type_cross_variant`: "Two widths: the wider, and none above its cap"
+-- `get_wider_decimal_type_cross_variant`: "Two widths give the wider of the two, with the scale and precision of the
+-- same formula"; "Two widths have no answer by this rule where that precision is above the cap of the wider"
 unfoldable pub get_wider_decimal_type_cross_variant : Figures → Figures → Option Figures
 get_wider_decimal_type_cross_variant l r =
     let k = max l.kind r.kind in
     cond (leb (wider_precision l r) (cap k)) (Some (decimal k (wider_precision l r) (wider_scale l r))) None
 
--- Spark's DecimalType.scala: "digits 3, 5, 10, 20 for 8, 16, 32, 64-bit integers (Spark), (14,7) Float32, (30,15) Float64, and the source's own (6,3) Float16"
+-- "An integer of 8, 16, 32 or 64 bits takes 3, 5, 10 or 20 digits, as in Spark's DecimalType.scala"; "Float32 becomes
+-- (14,7) and Float64 (30,15), as in Spark, and Float16 becomes (6,3), which is the source's own"
 abbrev pub digits_of : ℕ → ℕ
 digits_of k =
     cond (one_is k Kind.int8 Kind.uint8) 3
@@ -51,7 +54,9 @@ digits_of k =
 abbrev pub fraction_of : ℕ → ℕ
 fraction_of k = cond (eqb k Kind.float16) 3 (cond (eqb k Kind.float32) 7 (cond (eqb k Kind.float64) 15 0))
 
--- "Decimal32 takes up to 16 bits, Decimal64 up to 32": whether a decimal of kind w takes a number of kind k
+-- whether a decimal of kind w takes a number of kind k: "Decimal32 takes integers of up to 16 bits and Float16";
+-- "Decimal64 takes integers of up to 32 bits, Float16 and Float32"; "Decimal128 and Decimal256 take every integer and
+-- float"
 abbrev pub takes : ℕ → ℕ → Bool
 takes w k =
     cond (eqb w Kind.decimal32) (one_is k Kind.int8 Kind.uint8 || (one_is k Kind.int16 Kind.uint16 || eqb k Kind.float16))

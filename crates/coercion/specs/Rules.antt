@@ -1,4 +1,5 @@
--- Null and string rules: `null_coercion`, `string_numeric_coercion`, `string_numeric_union_coercion`, `string_temporal_coercion`.
+-- Null and string rules: `null_coercion`, `string_numeric_coercion`, `string_numeric_union_coercion`,
+-- `string_temporal_coercion`.
 use Rattle.std.specs.Prelude.{ℕ, Bool, cond, ◌&&◌, eqb}
 use Rattle.std.specs.Prelude.{Option, None, Some}
 use Rattle.sheet.specs.Kind as Kind
@@ -15,13 +16,13 @@ null_coercion mask l r =
     cond (is_null l) (cond (may_become mask r.shape.kind) (Some r) None)
     (cond (is_null r) (cond (may_become mask l.shape.kind) (Some l) None) None)
 
--- `string_numeric_coercion`: "compare and list keep the number"
+-- `string_numeric_coercion`: "Compare and list keep the number against a string"
 unfoldable pub string_numeric_coercion : DataType → DataType → Option DataType
 string_numeric_coercion l r =
     cond (is_numeric l.shape.kind && is_string r.shape.kind) (Some l)
     (cond (is_string l.shape.kind && is_numeric r.shape.kind) (Some r) None)
 
--- `string_numeric_union_coercion`: "Union with a string keeps the string against a number"
+-- `string_numeric_union_coercion`: "A union with a string keeps the string against a number"
 unfoldable pub string_numeric_union_coercion : DataType → DataType → Option DataType
 string_numeric_union_coercion l r =
     cond (is_string l.shape.kind && is_numeric r.shape.kind) (Some l)

@@ -1,4 +1,5 @@
--- Units and times: `timeunit_coercion`, `temporal_coercion`, `temporal_coercion_nonstrict_timezone`, `is_time_with_valid_unit`.
+-- Units and times: `timeunit_coercion`, `temporal_coercion`, `temporal_coercion_nonstrict_timezone`,
+-- `is_time_with_valid_unit`.
 use Rattle.std.specs.Prelude.{ℕ, max, Bool, cond, ◌&&◌, ◌||◌, eqb, leb}
 use Rattle.std.specs.Prelude.{Option, None, Some}
 use Rattle.sheet.specs.Tests.{between}
@@ -14,7 +15,7 @@ nanosecond = 3
 abbrev pub month_day_nano : ℕ
 month_day_nano = 2
 
--- `timeunit_coercion`: "Timestamps take the finer unit"; a finer unit has a greater number
+-- `timeunit_coercion`: "Two Timestamps take the finer of their units"; a finer unit has a greater number
 abbrev pub timeunit_coercion : ℕ → ℕ → ℕ
 timeunit_coercion u v = max u v
 
@@ -28,7 +29,7 @@ temporal_coercion k j =
     (cond (with_kind Kind.date32 is_time k j || with_kind Kind.date64 is_time k j) (Some (of_unit Kind.timestamp nanosecond))
     (cond (with_kind Kind.timestamp is_date k j) (Some (of_unit Kind.timestamp nanosecond)) None)))))
 
--- "the zone is the left's if it has one, else the right's"
+-- "The zone is that of the left, if it has one, and else that of the right"
 abbrev pub zone_coercion : Zone → Zone → Zone
 zone_coercion (present z) w = present z
 zone_coercion absent w = w

@@ -6,7 +6,7 @@ use Rattle.sheet.specs.Types.{Fields, end, field}
 use Rattle.coercion.specs.Data.{DataType, and_then}
 use Rattle.coercion.specs.Same.{equal}
 
--- "37 two (index, value), 38 two (run ends, values)": the type of the second part
+-- "The second part of a wrapper is its value": the type of that part
 abbrev pub value_in : Fields → Option DataType
 value_in end = None
 value_in (field name nullable shape parts end) = None

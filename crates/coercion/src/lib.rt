@@ -1,26 +1,32 @@
-// The types that the plain rules of the source take and give. The rules themselves stand in crates of their own, their definitions in specs/.
-// A kind is the byte of a record: public functions take any byte, of which an enum of 38 kinds would ask more.
+// The types that the plain rules of the source take and give. The rules themselves stand in crates of their own, their
+// definitions in specs/. A kind is the byte of a record, and every function here takes any byte.
 #![tactic(auto)]
+
+pub mod laws;
 
 ghost use Rattle.std.specs.Prelude.{◌≡◌};
 ghost use Rattle.coercion.specs.Data.{of_kind, of_unit};
 
-// What the rules for plain types look at: a kind, a decimal's precision or a unit, and a scale as it is stored.
+/// What the rules for types without parts look at, as a record stores it.
 #[derive(Clone, Copy, PartialEq)]
 pub struct Figures {
+    /// The kind, 1 to 38 in an accepted sheet.
     pub kind: u8,
+    /// A decimal's precision, or a unit from 0, the coarsest, on; 0 for kinds with neither.
     pub figure: u8,
+    /// A decimal's scale, the byte of a signed number of 8 bits.
     pub scale: u8,
 }
 
 impl Figures {
-    // Of a kind that has none.
+    /// The figures of a kind that has no precision, unit or scale.
     pub fn of_kind(kind: u8) -> Figures
         ensures { result ≡ of_kind kind }
     {
         Figures::of_unit(kind, 0)
     }
 
+    /// The figures of a kind that has a unit.
     pub fn of_unit(kind: u8, unit: u8) -> Figures
         ensures { result ≡ of_unit kind unit }
     {
@@ -32,14 +38,14 @@ impl Figures {
     }
 }
 
-// Which of two types is their common type.
+/// Which of two types is their common type.
 #[derive(Clone, Copy)]
 pub enum Side {
     Left,
     Right,
 }
 
-// A time that a string becomes: one of the two as it is, or a Timestamp in nanoseconds with the zone of one.
+/// What a string and a time become: one of the two as it is, or a Timestamp in nanoseconds with the zone of one.
 #[derive(Clone, Copy)]
 pub enum Moment {
     Left,

@@ -1,5 +1,5 @@
 // Numbers and decimals. Where the source has a function for each of four widths, one over the width's kind serves.
-// A kind is the byte of a record: public functions take any byte, of which an enum of 38 kinds would ask more.
+// A kind is the byte of a record, and every function here takes any byte.
 ghost use Rattle.std.specs.Prelude.{◌≡◌, true, ◌&&◌, ◌+◌, ◌<◌, ◌≤◌, Some};
 ghost use Rattle.sheet.specs.Kind.{is_decimal, cap};
 ghost use Rattle.sheet.specs.Refusals.{biased};
@@ -151,7 +151,8 @@ fn float_coercion(k: u8, j: u8) -> Option<Figures>
     }
 }
 
-// Two integers: the wider of two signed or two unsigned ones, and else the signed one that holds both, where there is one.
+// Two integers: the wider of two signed or two unsigned ones, and else the signed one that holds both, or
+// Decimal128(20,0) where there is none.
 #[tactic(auto, using(crate::proofs::Integers::wider_integers))]
 fn wider_integer(k: u8, j: u8) -> Figures
     requires { (is_integer k && is_integer j) ≡ true }
@@ -199,6 +200,7 @@ fn other_figures(l: Figures, r: Figures) -> Option<Figures>
     decimal_coercion(l, r).or_else(|| numerical_coercion(l.kind, r.kind))
 }
 
+/// The common type of two numbers, by `binary_numeric_coercion` of the source; none where one is no number.
 #[tactic(auto, unfolding(coercion::specs::Numbers::binary_numeric_coercion))]
 pub fn binary_numeric_coercion(l: Figures, r: Figures) -> Option<Figures>
     ensures { result ≡ binary_numeric_coercion l r }

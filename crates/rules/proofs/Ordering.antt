@@ -1,4 +1,5 @@
--- The rules for binaries and for times in both orders of two kinds, by one computed test over the kinds that they name. Assumes nothing.
+-- The rules for binaries and for times in both orders of two kinds, by one computed test over the kinds that they
+-- name. Assumes nothing.
 use mathlib.Core.Path.{◌≡◌, refl, ap, sym, ◌∙◌}
 use mathlib.Core.Bool.{Bool, true, false, ◌&&◌}
 use Rattle.std.specs.Prelude.{Option, None, Some}

@@ -11,6 +11,6 @@ side false sheet candidate = sheet
 abbrev pub part_of : List ℕ → Place → List ℕ
 part_of s p = take (p.upto - p.from) (drop p.from s)
 
--- "the zone is the left's if it has one, else the right's"
+-- "The zone is that of the left, if it has one, and else that of the right"
 abbrev pub choice : List ℕ → List ℕ → Bool → Place → Place → List ℕ
 choice sheet candidate swap l r = cond l.present (part_of (side swap sheet candidate) l) (part_of (side (not swap) sheet candidate) r)

@@ -1,5 +1,5 @@
-// The category of a type, and the categories seen in a list as bits.
-// A kind is the byte of a record: public functions take any byte, of which an enum of 38 kinds would ask more.
+// The category of a type, and the categories seen in a list as bits: two in one list are told by counting ones.
+// A kind is the byte of a record, and every function here takes any byte.
 ghost use Rattle.std.specs.Prelude.{◌≡◌, ℕ, ◌<◌, ltb, IfSome, MatchOption};
 ghost use Rattle.std.specs.Int.Bits.{bit_or};
 ghost use Rattle.std.specs.Int.Count.{ones};
@@ -12,7 +12,7 @@ ghost use Rattle.rules.specs.Wrapped.{Found};
 use kinds::tests::{is_string, is_wrapper};
 use sheet::record::head_at;
 
-// The bit of the category of a kind that is no wrapper, 0 where it has none: categories as bits are a form of document 01, so it is no Option.
+/// The bit of the category of a kind that is no wrapper, 0 where the category is Unknown or there is none.
 #[tactic(auto, using(crate::proofs::Categories::kind_bits))]
 pub fn category_bit(k: u8) -> u8
     ensures { result ≡ category_bit (own_category k) }
@@ -27,7 +27,7 @@ pub fn category_bit(k: u8) -> u8
     }
 }
 
-// Whether a kind that is no wrapper has a category: one that has a bit, or Unknown.
+/// Whether a kind that is no wrapper has a category: one that has a bit, or Unknown.
 #[tactic(auto, using(crate::proofs::Categories::supported))]
 pub fn is_supported(k: u8) -> bool
     ensures { result ≡ is_supported (own_category k) }
@@ -35,21 +35,22 @@ pub fn is_supported(k: u8) -> bool
     category_bit(k) != 0 || is_string(k) || k == 1
 }
 
-// The bits with one more category.
+/// The bits with the category of one more kind.
 pub fn with_category(bits: u8, k: u8) -> u8
     ensures { result ≡ bit_or bits (category_bit (own_category k)) }
 {
     bits | category_bit(k)
 }
 
-// Whether more than one category was seen.
+/// Whether more than one category was seen.
 pub fn is_mixed(bits: u8) -> bool
     ensures { result ≡ ltb 1 (ones bits) }
 {
     1 < u8::count_ones(bits)
 }
 
-// The record of the value of a wrapper at record r, its second part, whose first part is at a link. None where there is no such record behind r.
+// The record of the value of a wrapper at record r, its second part, whose first part is at a link. None where there
+// is no such record behind r.
 fn value_at(s: &[u8], n: usize, r: usize, first: usize) -> Option<usize>
     ensures behind { IfSome result (λ v. (r < v) × (v < n)) }
     ensures category { (i o : ℕ) (parts : Fields) → Leads s.now n r first i o parts → MatchOption result (own_category 0 ≡ value_category parts) (λ v. (k : ℕ) → Found s.now n v k → own_category k ≡ value_category parts) }
@@ -64,8 +65,8 @@ fn value_at(s: &[u8], n: usize, r: usize, first: usize) -> Option<usize>
     Some(value)
 }
 
-// The kind of the value below all wrappers of record r, whose category is that of the type. Where a wrapper has no value it is 0, as a kind that has no
-// category: the callers' tests are of kinds, and need no case for none.
+/// The kind of the value below all wrappers of record r, whose category is that of the type. Where a wrapper has no
+/// value it is 0, which is no kind and has no category.
 pub fn core_kind(s: &[u8], n: usize, r: usize) -> u8
     ensures { Found s.now n r result }
 {

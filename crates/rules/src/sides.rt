@@ -1,5 +1,5 @@
 // Null and string rules, whose answer is one of the two types.
-// A kind is the byte of a record: public functions take any byte, of which an enum of 38 kinds would ask more.
+// A kind is the byte of a record, and every function here takes any byte.
 ghost use Rattle.std.specs.Prelude.{◌≡◌, ◌<◌, Some};
 ghost use Rattle.coercion.specs.Data.{DataType, may_become};
 ghost use Rattle.coercion.specs.Rules.{null_coercion, string_numeric_coercion, string_numeric_union_coercion, string_temporal_coercion};
@@ -10,7 +10,7 @@ use crate::times::is_time_with_valid_unit;
 use coercion::{Moment, Side};
 use kinds::tests::{is_date, is_numeric, is_string, is_time};
 
-// Whether Null may become a kind.
+/// Whether Null may become a kind: a bit of the mask.
 pub fn may_become(mask: u64, k: u8) -> bool
     requires { k < 64 }
     ensures { result ≡ may_become mask k }
@@ -18,6 +18,7 @@ pub fn may_become(mask: u64, k: u8) -> bool
     (mask >> k) % 2 == 1
 }
 
+/// `null_coercion` of the source, on the kinds of the left and the right type.
 #[tactic(auto, unfolding(coercion::specs::Rules::null_coercion))]
 pub fn null_coercion(mask: u64, k: u8, j: u8) -> Option<Side>
     requires { (k < 64) × (j < 64) }
@@ -45,6 +46,7 @@ fn number_side(k: u8, j: u8) -> Option<Side>
     }
 }
 
+/// `string_numeric_coercion` of the source, of comparison and list: the number of a number and a string.
 #[tactic(auto, using(crate::proofs::NumberSides::number_kept))]
 pub fn string_numeric_coercion(k: u8, j: u8) -> Option<Side>
     ensures { (l r : DataType) → l.shape.kind ≡ k → r.shape.kind ≡ j → side_of result l r ≡ string_numeric_coercion l r }
@@ -52,11 +54,12 @@ pub fn string_numeric_coercion(k: u8, j: u8) -> Option<Side>
     number_side(k, j)
 }
 
-// The string stands where the number does in the swapped pair.
+/// `string_numeric_union_coercion` of the source, of a union: the string of a number and a string.
 #[tactic(auto, using(crate::proofs::NumberSides::string_kept))]
 pub fn string_numeric_union_coercion(k: u8, j: u8) -> Option<Side>
     ensures { (l r : DataType) → l.shape.kind ≡ k → r.shape.kind ≡ j → side_of result l r ≡ string_numeric_union_coercion l r }
 {
+    // The string stands where the number does in the swapped pair.
     number_side(j, k)
 }
 
@@ -75,7 +78,7 @@ fn time_of_string(k: u8, unit: u8) -> Option<Moment>
     }
 }
 
-// Arm by arm: with a Moment of a Side and a flag each place that makes or reads one would be longer.
+// The same with the sides exchanged.
 fn swapped(m: Moment) -> Moment
     ensures { (l r : DataType) → moment_of (Some result) l r ≡ moment_of (Some m) r l }
 {
@@ -87,7 +90,7 @@ fn swapped(m: Moment) -> Moment
     }
 }
 
-// `string_temporal_coercion`, of two kinds and their units: Figures would have a scale that no rule here reads.
+/// `string_temporal_coercion` of the source: of kind k with unit u on the left, and kind j with unit v on the right.
 #[tactic(auto, using(crate::proofs::Moments::right_string, crate::proofs::Moments::no_string))]
 pub fn string_temporal_coercion(k: u8, u: u8, j: u8, v: u8) -> Option<Moment>
     ensures { (l r : DataType) → l.shape.kind ≡ k → l.shape.figure ≡ u → r.shape.kind ≡ j → r.shape.figure ≡ v → moment_of result l r ≡ string_temporal_coercion l r }

@@ -1,12 +1,11 @@
-// Strings and binary.
-// A kind is the byte of a record: public functions take any byte, of which an enum of 38 kinds would ask more.
+// Strings and binary. A kind is the byte of a record, and every function here takes any byte.
 ghost use Rattle.std.specs.Prelude.{◌≡◌};
 ghost use Rattle.coercion.specs.Strings.{string_coercion, binary_coercion};
 ghost use Rattle.rules.specs.Ordered.{ordered_binary};
 
 use kinds::tests::is_string;
 
-// Utf8View before LargeUtf8 before Utf8, as their kinds go down.
+/// `string_coercion` of the source, on kinds: the greater kind, as Utf8View comes last and Utf8 first.
 #[tactic(auto, using(crate::proofs::TwoStrings::string_max, crate::proofs::TwoStrings::no_strings))]
 pub fn string_coercion(k: u8, j: u8) -> Option<u8>
     ensures { result ≡ string_coercion k j }
@@ -14,7 +13,8 @@ pub fn string_coercion(k: u8, j: u8) -> Option<u8>
     (is_string(k) && is_string(j)).then_some(k.max(j))
 }
 
-// The rules of `binary_coercion` for two kinds in one order: Binary, LargeBinary or BinaryView with a string, a binary or a FixedSizeBinary.
+// The rules of `binary_coercion` for two kinds in one order: Binary, LargeBinary or BinaryView with a string, a
+// binary or a FixedSizeBinary.
 fn ordered_binary(k: u8, j: u8) -> Option<u8>
     ensures { result ≡ ordered_binary k j }
 {
@@ -26,6 +26,7 @@ fn ordered_binary(k: u8, j: u8) -> Option<u8>
     }
 }
 
+/// `binary_coercion` of the source, on kinds.
 #[tactic(auto, using(crate::proofs::Ordering::binaries))]
 pub fn binary_coercion(k: u8, j: u8) -> Option<u8>
     ensures { result ≡ binary_coercion k j }

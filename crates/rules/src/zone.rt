@@ -2,17 +2,19 @@
 ghost use Rattle.std.specs.Prelude.{◌≡◌, Bool, not, ◌-◌, ◌≤◌, length, take, drop};
 ghost use Rattle.rules.specs.Zones.{side, part_of, choice};
 
-// Where a zone stands: whether it is present, where it begins and where it ends. A present one may be empty. `present` is read of the left alone; as an Option
-// the left's place would be told apart from the right's, which is the answer where neither has a zone.
+/// Where a zone stands in a slice. A present zone may be empty, and an absent one has an empty place.
 #[derive(Clone, Copy)]
 pub struct Place {
+    /// Whether the Timestamp has a zone; read of the left alone.
     pub present: bool,
+    /// Where the zone begins.
     pub from: usize,
+    /// The first byte behind it.
     pub upto: usize,
 }
 
-// The left's zone if it has one, else the right's, as a part of the slice that it stands in. The left stands in the candidate where swap is set, and
-// else in the sheet; the right stands in the other. It is a part of one of two slices, a form of document 01.
+/// The left's zone if it has one, else the right's, as a part of the slice that it stands in. The left stands in the
+/// candidate where swap is set, and else in the sheet; the right stands in the other.
 pub fn zone_coercion<'a>(
     sheet: &'a [u8],
     candidate: &'a [u8],

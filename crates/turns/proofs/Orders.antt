@@ -1,4 +1,5 @@
--- The merge's order of the rules gives the source's answers: a rule that asks for other kinds is none, wherever it is tried. Assumes nothing.
+-- The merge's order of the rules gives the source's answers: a rule that asks for other kinds is none, wherever it is
+-- tried. Assumes nothing.
 use mathlib.Core.Path.{◌≡◌, refl, ap, sym, ◌∙◌}
 use mathlib.Core.Bool.{Bool, true, false, cond, ◌&&◌, ◌||◌}
 use mathlib.Core.List.{List, [], ◌∷◌}
@@ -24,7 +25,8 @@ use Rattle.coercion.specs.Nested.{list_coercion, struct_coercion, map_coercion}
 use Rattle.coercion.specs.Answers.{of_kind_type, string_number, list_struct, list_rules, resolution_coercion, pair_rules, ask}
 use Rattle.coercion.proofs.Ranked.{kind_from}
 use Rattle.rules.proofs.Moments.{above}
-use Rattle.coercion.proofs.Words.{or_none, rules_for}
+use Rattle.coercion.specs.Columns.{rules_for}
+use Rattle.coercion.proofs.Words.{or_none}
 use Rattle.buffers.specs.Plain.{is_list_question, string_time, plain_rules}
 use Rattle.wrappers.proofs.Unwrapping.{wrapper_none}
 use Rattle.turns.specs.Turns.{struct_rule, map_rule, nested_of, either_wrapped, resolved, unwrapped, turns_for, turns_of}

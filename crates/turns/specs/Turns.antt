@@ -1,4 +1,5 @@
--- The order in which the merge tries the rules of the source; proofs/Orders.antt says that it gives the source's answers. `coerce` is the source's `coerce_fn`.
+-- The order in which the merge tries the rules of the source; proofs/Orders.antt says that it gives the source's
+-- answers. `coerce` is the source's `coerce_fn`.
 use Rattle.std.specs.Prelude.{ℕ, cond, ◌&&◌, ◌||◌, eqb}
 use Rattle.std.specs.Prelude.{Option, None, Some}
 use Rattle.sheet.specs.Kind as Kind

@@ -1,4 +1,5 @@
--- What the cores of two types leave to be asked of their wrappers, and that it stays so as wrappers come off. Assumes nothing.
+-- What the cores of two types leave to be asked of their wrappers, and that it stays so as wrappers come off. Assumes
+-- nothing.
 use mathlib.Core.Path.{◌≡◌, refl, ap, ap₂, sym, subst, ◌∙◌}
 use mathlib.Core.Bool.{Bool, true, false, cond, ◌||◌}
 use Rattle.std.specs.Prelude.{Option, None, Some}
@@ -96,7 +97,8 @@ module _ (mask : ℕ) (l r v w : DataType) (wl : is_wrapper l.shape.kind ≡ tru
         (meets_off mask r.shape.kind l.shape.kind (wrappers_of w.shape w.parts) (wrappers_of v.shape v.parts)
         (ne_eqb r.shape.kind l.shape.kind (λ e. eqb-false l.shape.kind r.shape.kind apart (sym e))))
 
-    -- where the two can have a common type, so can they without the left's wrapper, unless it stands about a value and the right's about the only Null
+    -- where the two can have a common type, so can they without the left's wrapper, unless it stands about a value
+    -- and the right's about the only Null
     pub left_may : may_merge mask l r ≡ true → may_merge mask v r ≡ cond (eqb (hint_of mask (core l) (core r)) 2) (met mask v r) true
     left_may h = less ∙ go (eqb (hint_of mask (core l) (core r)) 2) (eqb (hint_of mask (core l) (core r)) 3) (sym (may_hint mask l r) ∙ h)
       where
@@ -150,7 +152,8 @@ off_may mask l r v w el er ev ew false e h =
     rw (dictionary_only l el, er, ew)
     (ap (λ (b : Bool). b || may_merge mask l w) e ∙ sym (may_cross mask l r v w (dictionary_wraps l el) (runs_wrap r er) ev ew (crossed_apart l r el er)) ∙ h)
 
--- a Dictionary and run ends that can have a common type: which of the two comes off, and that there can be one without it
+-- a Dictionary and run ends that can have a common type: which of the two comes off, and that there can be one
+-- without it
 pub record Crossing (mask : ℕ) (l r : DataType) (b : Bool) : Type 0 where
   pub both : crosses l r ≡ true
   pub is : may_merge mask l r ≡ true → b ≡ dictionary_may mask l r

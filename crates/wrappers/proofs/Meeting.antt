@@ -1,4 +1,5 @@
--- Wrappers about a value and about Null: whichever of two that differ comes off first, the walk tells the same. Assumes nothing.
+-- Wrappers about a value and about Null: whichever of two that differ comes off first, the walk tells the same.
+-- Assumes nothing.
 use mathlib.Core.Path.{◌≡◌, refl, ap, sym, ◌∙◌}
 use mathlib.Core.Bool.{Bool, true, false, cond, ◌&&◌, ◌||◌, or-true}
 use mathlib.Core.List.{List, [], ◌∷◌}

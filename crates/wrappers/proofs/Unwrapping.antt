@@ -1,4 +1,5 @@
--- Whether two types have a common type, where one of them is a wrapper or Null, told by what lies below. Assumes nothing.
+-- Whether two types have a common type, where one of them is a wrapper or Null, told by what lies below. Assumes
+-- nothing.
 use mathlib.Core.Path.{◌≡◌, refl, ap, sym, subst, ◌∙◌}
 use mathlib.Core.Bool.{Bool, true, false, cond, ◌&&◌, ◌||◌, or_comm, or-false}
 use mathlib.Core.Logic.{◌⊎◌, inl, inr}
@@ -14,7 +15,8 @@ use Rattle.coercion.specs.Rules.{is_null, null_coercion}
 use Rattle.coercion.specs.Wrappers.{value_in, is_of, wrapper_coercion}
 use Rattle.coercion.specs.Answers.{coercion}
 use Rattle.coercion.proofs.Sameness.{equal_same, equal_self, alike_nameless}
-use Rattle.coercion.proofs.Words.{Pairs, of_union, of_compare, alike_left, equal_left}
+use Rattle.coercion.specs.Columns.{Pairs, of_union, of_compare}
+use Rattle.coercion.proofs.Words.{alike_left, equal_left}
 use Rattle.buffers.specs.Plain.{is_list_question}
 use Rattle.wrappers.specs.Ways.{is_wrapper}
 use Rattle.wrappers.proofs.Cores.{alike_values}

@@ -1,4 +1,5 @@
--- A Dictionary and run ends: of the two rules the one that `dictionary_may` names has the answer of both. Assumes nothing.
+-- A Dictionary and run ends: of the two rules the one that `dictionary_may` names has the answer of both. Assumes
+-- nothing.
 use mathlib.Core.Path.{◌≡◌, refl, ap, ap₂, sym, subst, ◌∙◌}
 use mathlib.Core.Bool.{Bool, true, false, cond, ◌&&◌, ◌||◌, or-false, and-true}
 use mathlib.Core.List.{List, []}
@@ -213,8 +214,8 @@ module _ (rules : Rules) (pairs : is_list_question rules.question ≡ false) (l 
       (chosen (λ k. wrapper_coercion k (coercion rules) l r) (may_merge rules.mask l j.value) (λ m. first ∙ refused rules pairs l j.value x j.whole m)
       (λ m n. second ∙ spent rules pairs l j.value x j.whole i.value r i.whole y i.core (sym j.core) m (sym first ∙ n)))
 
--- Where a Dictionary meets run ends, one rule is enough: "a merge that gave none along the first way gives none along the second too", unless a core is Null,
--- and then the walk over the wrappers tells
+-- "Where a Dictionary meets run ends and neither core is Null, or both are, the rule for Dictionaries answers
+-- wherever the rule for run ends does"; else the walk over the wrappers tells, so one of the two rules is enough
 pub one_way : (rules : Rules) → is_list_question rules.question ≡ false → (l r : DataType) → Whole l.shape l.parts → Whole r.shape r.parts → Crossed l r
     → or_else (wrapper_coercion Kind.dictionary (coercion rules) l r) (wrapper_coercion Kind.run_end_encoded (coercion rules) l r)
     ≡ wrapper_coercion (cond (dictionary_may rules.mask l r) Kind.dictionary Kind.run_end_encoded) (coercion rules) l r

@@ -1,4 +1,5 @@
--- What a walk down the wrappers says, whatever types stand at its links, where no more than `left` records are left in them.
+-- What a walk down the wrappers says, whatever types stand at its links, where no more than `left` records are left
+-- in them.
 use Rattle.std.specs.Prelude.{◌≡◌, ℕ, ◌+◌, ◌<◌, ◌≤◌, Bool, true, not, cond, ◌&&◌, ◌||◌, List}
 use Rattle.std.specs.Prelude.{Option, None, Some, IfSome}
 use Rattle.sheet.specs.Kind as Kind
@@ -23,7 +24,8 @@ pub record Tells (test : DataType → Bool) (left : ℕ) (s : List ℕ) (l : ℕ
 pub record TellsBoth (test : DataType → DataType → Bool) (left : ℕ) (swap : Bool) (s w : List ℕ) (l r : ℕ) (b : Bool) : Type 0 where
   pub is : (space : Space) (x y : DataType) → Typed space (side swap s w) l x → Typed space (side (not swap) s w) r y → size x + size y ≤ left → b ≡ test x y
 
--- what the cores of two types leave to be asked, where something may be known of it; 0 where the types can have no common type
+-- what the cores of two types leave to be asked, where something may be known of it; 0 where the types can have no
+-- common type
 pub record Learns (hint mask left : ℕ) (swap : Bool) (s w : List ℕ) (l r h : ℕ) : Type 0 where
   pub is : (space : Space) (x y : DataType) → Typed space (side swap s w) l x → Typed space (side (not swap) s w) r y → size x + size y ≤ left → Hint hint mask x y
       → h ≡ cond (may_merge mask x y) (hint_of mask (core_kind x.shape x.parts) (core_kind y.shape y.parts)) 0
@@ -32,8 +34,8 @@ pub record Learns (hint mask left : ℕ) (swap : Bool) (s w : List ℕ) (l r h :
 abbrev pub crosses : DataType → DataType → Bool
 crosses l r = (is_of Kind.dictionary l && is_of Kind.run_end_encoded r) || (is_of Kind.run_end_encoded l && is_of Kind.dictionary r)
 
--- the wrapper whose rule is asked: it has the answer of the two rules in turn (proofs/Choosing.antt); 0 where neither rule can give one, and run ends where
--- neither type is a wrapper
+-- the wrapper whose rule is asked: it has the answer of the two rules in turn (proofs/Choosing.antt); 0 where neither
+-- rule can give one, and run ends where neither type is a wrapper
 unfoldable pub way_of : ℕ → DataType → DataType → ℕ
 way_of mask l r =
     cond (crosses l r) (cond (may_merge mask l r) (cond (dictionary_may mask l r) Kind.dictionary Kind.run_end_encoded) 0)

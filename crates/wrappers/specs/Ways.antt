@@ -6,7 +6,7 @@ use Rattle.sheet.specs.Types.{Shape, Fields, end, field}
 use Rattle.coercion.specs.Data.{DataType, may_become}
 use Rattle.coercion.specs.Wrappers.{value_in, is_of}
 
--- "37 two (index, value), 38 two (run ends, values)"
+-- "A wrapper is a Dictionary or a RunEndEncoded"
 abbrev pub is_wrapper : ℕ → Bool
 is_wrapper k = eqb k Kind.dictionary || eqb k Kind.run_end_encoded
 
@@ -30,8 +30,8 @@ abbrev pub allows : ℕ → List ℕ → Bool
 allows mask [] = false
 allows mask (k ∷ ks) = may_become mask k || allows mask ks
 
--- The wrappers ks stand about a value that Null may not become, ns about Null. Two of a kind come off together; of two that differ, Null's comes off, which
--- leaves the most of the others. In the end Null stands alone.
+-- The wrappers ks stand about a value that Null may not become, ns about Null. Two of a kind come off together; of
+-- two that differ, Null's comes off, which leaves the most of the others. In the end Null stands alone.
 unfoldable pub meets : ℕ → List ℕ → List ℕ → Bool
 meets mask ks [] = allows mask ks
 meets mask [] (n ∷ ns) = false
@@ -55,8 +55,9 @@ unfoldable pub dictionary_may : ℕ → DataType → DataType → Bool
 dictionary_may mask l r =
     cond (is_of Kind.dictionary l) (value_may (value_in l.parts) (λ v. may_merge mask v r)) (value_may (value_in r.parts) (λ w. may_merge mask l w))
 
--- What the kinds of two cores leave to be asked of the wrappers about them. 1: nothing, as neither is Null, or both are, or Null may become the other. 2: Null is
--- on the right, and whether the left's wrappers meet those about it. 3: the same with the sides exchanged.
+-- What the kinds of two cores leave to be asked of the wrappers about them. 1: nothing, as neither is Null, or both
+-- are, or Null may become the other. 2: Null is on the right, and whether the left's wrappers meet those about it. 3:
+-- the same with the sides exchanged.
 abbrev pub hint_of : ℕ → ℕ → ℕ → ℕ
 hint_of mask a b = cond (eqb a Kind.null) (cond (eqb b Kind.null || may_become mask b) 1 3) (cond (eqb b Kind.null) (cond (may_become mask a) 1 2) 1)
 
@@ -66,7 +67,8 @@ wrappers_may hint mask l r =
     cond (eqb hint 2) (meets mask (wrappers_of l.shape l.parts) (wrappers_of r.shape r.parts))
     (cond (eqb hint 3) (meets mask (wrappers_of r.shape r.parts) (wrappers_of l.shape l.parts)) true)
 
--- what may be known of two types: nothing where the number is 0, else what their cores leave to be asked, and that they can have a common type
+-- what may be known of two types: nothing where the number is 0, else what their cores leave to be asked, and that
+-- they can have a common type
 abbrev pub Hint : ℕ → ℕ → DataType → DataType → Type 0
 Hint hint mask l r = ¬ (hint ≡ 0) → (hint ≡ hint_of mask (core_kind l.shape l.parts) (core_kind r.shape r.parts)) × (may_merge mask l r ≡ true)
 

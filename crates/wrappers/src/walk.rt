@@ -1,5 +1,5 @@
-// Walks down the wrappers of two types in lent buffers. Each is handed the number of records that may be left, which falls with each wrapper that comes off.
-// A kind is the byte of a record: public functions take any byte, of which an enum of 38 kinds would ask more.
+// Walks down the wrappers of two types in lent buffers. Each is handed the number of records that may be left, which
+// falls with each wrapper that comes off. A kind is the byte of a record, and every function here takes any byte.
 ghost use Rattle.std.specs.Prelude.{◌≡◌, true, not, cond, ◌+◌, ◌<◌, unwrap_or, IfSome};
 ghost use Rattle.buffers.specs.Writes.{side};
 ghost use Rattle.wrappers.specs.Ways.{wrappers_of, allows, meets, hint_of, wrappers_may};
@@ -9,8 +9,7 @@ use buffers::write::{kind_at, value_at};
 use kinds::tests::{is_wrapper, one_is};
 use rules::sides::may_become;
 
-// The sources of two types, the left in the work space where swap is set, and the kinds that Null may become. `partners::Rows` has the sizes and a table in
-// place of the mask: a struct of the three fields that they share would be one more step in every use.
+// The sources of two types, the left in the work space where swap is set, and the kinds that Null may become.
 #[derive(Clone, Copy)]
 struct Walk<'a> {
     sheet: &'a [u8],
@@ -19,22 +18,21 @@ struct Walk<'a> {
     mask: u64,
 }
 
-// The wrapper whose rule is asked of two types, and what is known of the types that the rule goes on with.
-// The hint is a number, 0 for nothing and else by `hint_of` of specs/Ways.antt: `way` is public and takes any, and an enum would ask more of callers.
+/// The wrapper whose rule is asked of two types, and what is known of the types that the rule goes on with.
 #[derive(Clone, Copy)]
 pub struct Turn {
+    /// 37 for the rule for Dictionaries, 38 for that for run ends.
     pub kind: u8,
+    /// 0 for nothing, and else 1 to 3 by `hint_of` of specs/Ways.antt.
     pub hint: u8,
 }
 
-// A function, so that its contract names the choice once for three uses.
 fn kind_for(dictionary: bool) -> u8
     ensures { result ≡ cond dictionary 37 38 }
 {
     if dictionary { 37 } else { 38 }
 }
 
-// A function, as the kind of the answer is.
 fn hint_if(same: bool, hint: u8) -> u8
     ensures { result ≡ cond same hint 0 }
 {
@@ -66,8 +64,8 @@ impl<'a> Walk<'a> {
         }
     }
 
-    // The kind of the value below all wrappers of a type of the left; 0, as no type has it, where no record is left or the byte is no kind. What is asked of it
-    // are tests of kinds, which need no case for none.
+    // The kind of the value below all wrappers of a type of the left; 0, as no type has it, where no record is left
+    // or the byte is no kind.
     fn core_kind(&self, left: usize, l: usize) -> u8
         ensures { Core left (side self.now.swap self.now.sheet.now self.now.work.now) l result }
     {
@@ -121,7 +119,7 @@ impl<'a> Walk<'a> {
         false
     }
 
-    // The walk of a value's wrappers and those of Null, if it is needed. By a name, as its contract is what both uses in `way` cite.
+    // The walk of a value's wrappers and those of Null, if it is needed.
     fn meets_if(&self, left: usize, needed: bool, l: usize, r: usize) -> bool
         ensures { TellsBoth (λ x y. cond needed (meets self.now.mask (wrappers_of x.shape x.parts) (wrappers_of y.shape y.parts)) true) (left + 1) self.now.swap self.now.sheet.now self.now.work.now l r result }
     {
@@ -131,7 +129,7 @@ impl<'a> Walk<'a> {
         true
     }
 
-    // What the wrappers answer. A hint goes down with the merge as a number, so it is told here which walk it asks for.
+    // What the wrappers answer, by the walk that a hint asks for.
     fn wrappers_may(&self, left: usize, hint: u8, l: usize, r: usize) -> bool
         ensures { TellsBoth (wrappers_may hint self.now.mask) (left + 1) self.now.swap self.now.sheet.now self.now.work.now l r result }
     {
@@ -159,8 +157,11 @@ impl<'a> Walk<'a> {
     }
 }
 
-// The rule that is asked of two types of which something may be known, none where no answer is possible. Where a Dictionary meets run ends, the rule for
-// Dictionaries takes the Dictionary off. If that stands about the only Null, nothing is lost.
+/// The rule for wrappers that is asked of two types, and none where the types can have no common type.
+///
+/// The left type is at record l, in the work space where swap is set and else in the sheet; the right is at record r
+/// of the other. At most left + 1 records are left in both. The hint is what is known of the two (`Turn::hint`), 0
+/// for nothing. Where neither type is a wrapper the rule for run ends is named, which has no answer then.
 pub fn way(
     sheet: &[u8],
     work: &[u8],

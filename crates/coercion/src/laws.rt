@@ -1,0 +1,90 @@
+// The laws of the rules: what holds of the definitions, as promises of functions that do nothing.
+ghost use Rattle.coercion.specs.Laws.{SameQuestion, AlikeLeft, EqualLeft, AllEqual, EqualSame, SameEqual, AlikeNameless, NamelessAlike};
+ghost use Rattle.coercion.specs.Laws.{PairedByName, EachMatchedOnce, PairedByPlace, SameSets, EachFeedsOne, StructAnswer, StructUnequal};
+ghost use Rattle.coercion.specs.Laws.{LayoutsAlike, LayoutsUnequal, LayoutsJoined, LayoutsNone, LayoutsSome, LayoutsFed};
+ghost use Rattle.coercion.specs.Laws.{ListStructAnswer, ListedJoined, ListedMissing, StructsUnequal, ListAnswer, MapAnswer, MapKept, LaterZone};
+ghost use Rattle.coercion.specs.Laws.{DecimalRule, DecimalAnswer, AnswerCarried, AnswerSmaller, AnswerShorter, AnswerLength};
+
+/// The common type of two types by the rules, without a bound on the depth: parts are asked the same question.
+#[tactic(auto, using(crate::proofs::Fuel::coercion_asks))]
+pub fn parts_asked()
+    ensures { SameQuestion }
+{}
+
+/// Alike types give the left in union and compare, equal types give themselves in all three questions.
+#[tactic(auto, using(crate::proofs::Words::alike_left, crate::proofs::Words::equal_left, crate::proofs::Words::list_of_same))]
+pub fn alike_left()
+    ensures alike { AlikeLeft }
+    ensures equal { EqualLeft }
+    ensures all { AllEqual }
+{}
+
+/// Equal types are the same, and alike types are the same but for the names of their fields.
+#[tactic(auto, using(crate::proofs::Sameness::equal_same, crate::proofs::Sameness::equal_self, crate::proofs::Sameness::alike_nameless, crate::proofs::Sameness::nameless_alike))]
+pub fn same_types()
+    ensures equal { EqualSame }
+    ensures same { SameEqual }
+    ensures alike { AlikeNameless }
+    ensures nameless { NamelessAlike }
+{}
+
+/// Which field of the right feeds which of the left.
+#[tactic(auto, using(crate::proofs::Feeding::partners_by_name, crate::proofs::Feeding::matched, crate::proofs::Feeding::partners_by_place, crate::proofs::Feeding::same_sets, crate::proofs::Feeding::fed))]
+pub fn fields_paired()
+    ensures by_name { PairedByName }
+    ensures matched { EachMatchedOnce }
+    ensures by_place { PairedByPlace }
+    ensures sets { SameSets }
+    ensures fed { EachFeedsOne }
+{}
+
+/// Two Structs in a union or a comparison: our layout on the left and the till's on the right.
+#[tactic(auto, using(crate::proofs::Words::struct_answer, crate::proofs::Words::struct_unequal, crate::proofs::Layouts::layouts_alike, crate::proofs::Layouts::layouts_unequal, crate::proofs::Layouts::layouts_joined, crate::proofs::Layouts::layouts_none, crate::proofs::Layouts::layouts_some, crate::proofs::Layouts::layouts_fed))]
+pub fn two_layouts()
+    ensures rule { StructAnswer }
+    ensures rule_unequal { StructUnequal }
+    ensures alike { LayoutsAlike }
+    ensures unequal { LayoutsUnequal }
+    ensures joined { LayoutsJoined }
+    ensures none { LayoutsNone }
+    ensures some { LayoutsSome }
+    ensures fed { LayoutsFed }
+{}
+
+/// Two Structs in a list: types by name, nullability by place.
+#[tactic(auto, using(crate::proofs::Words::list_struct_answer, crate::proofs::Layouts::listed_joined, crate::proofs::Layouts::listed_missing, crate::proofs::Words::structs_unequal))]
+pub fn listed_structs()
+    ensures rule { ListStructAnswer }
+    ensures joined { ListedJoined }
+    ensures missing { ListedMissing }
+    ensures unequal { StructsUnequal }
+{}
+
+/// The items of two lists and the entries of two Maps.
+pub fn items_and_entries()
+    ensures list { ListAnswer }
+    ensures map { MapAnswer }
+    ensures kept { MapKept }
+{}
+
+/// In a list the later zone wins.
+#[tactic(auto, using(crate::proofs::Turns::later_zone_lem))]
+pub fn later_zone()
+    ensures { LaterZone }
+{}
+
+/// Two decimals of one width, over the cap too: the rule, and that it answers all three questions.
+#[tactic(auto, using(crate::proofs::DecimalRule::wider, crate::proofs::DecimalRule::decimals_answer))]
+pub fn decimal_rule()
+    ensures wider { DecimalRule }
+    ensures answer { DecimalAnswer }
+{}
+
+/// An answer may be carried by a sheet, and its one-type sheet is no longer than the sheet that was asked about.
+#[tactic(auto, using(crate::proofs::Shorter::answer_smaller, crate::proofs::Shorter::answer_shorter, crate::proofs::Shorter::answer_length))]
+pub fn answer_fits()
+    ensures carried { AnswerCarried }
+    ensures records { AnswerSmaller }
+    ensures labels { AnswerShorter }
+    ensures bytes { AnswerLength }
+{}
