@@ -7,3 +7,4 @@ pub mod Hints
 pub mod Values
 pub mod Walking
 pub mod Choosing
+pub mod Ruling
