@@ -11,21 +11,16 @@ pub fn parts_asked()
     ensures { SameQuestion }
 {}
 
-/// Alike types give the left in union and compare, equal types give themselves in all three questions.
-#[tactic(auto, using(crate::proofs::Words::alike_left, crate::proofs::Words::equal_left, crate::proofs::Words::list_of_same))]
-pub fn alike_left()
+/// Equal types are the same type, alike types are the same but for the names of their fields, and what two such types answer.
+#[tactic(auto, using(crate::proofs::Words::alike_left, crate::proofs::Words::equal_left, crate::proofs::Words::list_of_same, crate::proofs::Sameness::equal_same, crate::proofs::Sameness::equal_self, crate::proofs::Sameness::alike_nameless, crate::proofs::Sameness::nameless_alike,))]
+pub fn alike_and_equal()
     ensures alike { AlikeLeft }
     ensures equal { EqualLeft }
     ensures all { AllEqual }
-{}
-
-/// Equal types are the same, and alike types are the same but for the names of their fields.
-#[tactic(auto, using(crate::proofs::Sameness::equal_same, crate::proofs::Sameness::equal_self, crate::proofs::Sameness::alike_nameless, crate::proofs::Sameness::nameless_alike))]
-pub fn same_types()
-    ensures equal { EqualSame }
-    ensures same { SameEqual }
-    ensures alike { AlikeNameless }
-    ensures nameless { NamelessAlike }
+    ensures same { EqualSame }
+    ensures itself { SameEqual }
+    ensures nameless { AlikeNameless }
+    ensures named { NamelessAlike }
 {}
 
 /// Which field of the right feeds which of the left.
