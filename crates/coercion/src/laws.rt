@@ -11,8 +11,8 @@ pub fn parts_asked()
     ensures { SameQuestion }
 {}
 
-/// Equal types are the same type, alike types are the same but for the names of their fields, and what two such types answer.
-#[tactic(auto, using(crate::proofs::Words::alike_left, crate::proofs::Words::equal_left, crate::proofs::Words::list_of_same, crate::proofs::Sameness::equal_same, crate::proofs::Sameness::equal_self, crate::proofs::Sameness::alike_nameless, crate::proofs::Sameness::nameless_alike,))]
+/// Equal types are the same type, alike types are the same but for the names of their fields, and what two such types
+/// answer.
 pub fn alike_and_equal()
     ensures alike { AlikeLeft }
     ensures equal { EqualLeft }
@@ -24,7 +24,6 @@ pub fn alike_and_equal()
 {}
 
 /// Which field of the right feeds which of the left.
-#[tactic(auto, using(crate::proofs::Feeding::partners_by_name, crate::proofs::Feeding::matched, crate::proofs::Feeding::partners_by_place, crate::proofs::Feeding::same_sets, crate::proofs::Feeding::fed))]
 pub fn fields_paired()
     ensures by_name { PairedByName }
     ensures matched { EachMatchedOnce }
@@ -34,7 +33,6 @@ pub fn fields_paired()
 {}
 
 /// Two Structs in a union or a comparison: our layout on the left and the till's on the right.
-#[tactic(auto, using(crate::proofs::Words::struct_answer, crate::proofs::Words::struct_unequal, crate::proofs::Layouts::layouts_alike, crate::proofs::Layouts::layouts_unequal, crate::proofs::Layouts::layouts_joined, crate::proofs::Layouts::layouts_none, crate::proofs::Layouts::layouts_some, crate::proofs::Layouts::layouts_fed))]
 pub fn two_layouts()
     ensures rule { StructAnswer }
     ensures rule_unequal { StructUnequal }
@@ -47,7 +45,6 @@ pub fn two_layouts()
 {}
 
 /// Two Structs in a list: types by name, nullability by place.
-#[tactic(auto, using(crate::proofs::Words::list_struct_answer, crate::proofs::Layouts::listed_joined, crate::proofs::Layouts::listed_missing, crate::proofs::Words::structs_unequal))]
 pub fn listed_structs()
     ensures rule { ListStructAnswer }
     ensures joined { ListedJoined }
@@ -76,7 +73,6 @@ pub fn decimal_rule()
 {}
 
 /// An answer may be carried by a sheet, and its one-type sheet is no longer than the sheet that was asked about.
-#[tactic(auto, using(crate::proofs::Shorter::answer_smaller, crate::proofs::Shorter::answer_shorter, crate::proofs::Shorter::answer_length))]
 pub fn answer_fits()
     ensures carried { AnswerCarried }
     ensures records { AnswerSmaller }
