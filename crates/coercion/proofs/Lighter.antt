@@ -31,10 +31,6 @@ module _ (a : List ℕ → ℕ) (b : Zone → ℕ) (scales : Scales a b) where
     pub light : weight a b t + b absent ≤ weight a b l + weight a b r
     pub apart : TypeApart t
 
-  -- a shape without a zone
-  abbrev Bare : Shape → Type 0
-  Bare shape = b shape.zone ≡ b absent
-
   left_light : (l r : DataType) → TypeApart l → Lighter l r l
   left_light l r h = record { light = omega (arith, scales.least r.shape.zone); apart = h }
 

@@ -45,6 +45,7 @@ pub record Merged (coerce : DataType → DataType → Option DataType) (l m n t 
   pub nulls : nulls_of t ≡ by_place ◌||◌ (nulls_of l) (nulls_of n)
   -- the column types are those of the columns
   pub types : map Some (types_of t) ≡ by_place coerce (types_of l) (types_of m)
+  -- as many of each
   pub many : (arity l ≡ arity m) × (arity l ≡ arity n) × (arity t ≡ arity l)
 
 -- The right's fields in the left's order: each of them once, under the left's names.
@@ -52,6 +53,7 @@ pub record Matched (l r : Fields) : Type 0 where
   pub fields : Fields
   pub found : by_name l r ≡ Some fields
   pub named : names_of fields ≡ names_of l
+  -- all of the right's fields, in another order
   pub once : Permᴰ (rows_of r) (rows_of fields)
 
 -- Whichever way the fields are paired, each of the right's feeds exactly one of the left's.

@@ -2,7 +2,6 @@
 // A kind is the byte of a record, and every function here takes any byte.
 ghost use Rattle.std.specs.Prelude.{◌≡◌, true, ◌&&◌, ◌+◌, ◌<◌, ◌≤◌, Some};
 ghost use Rattle.sheet.specs.Kind.{is_decimal, cap};
-ghost use Rattle.sheet.specs.Refusals.{biased};
 ghost use Rattle.coercion.specs.Numbers.{decimal, ahead, wider_scale, wider_precision, create_decimal_type, get_wider_decimal_type, get_wider_decimal_type_cross_variant, digits_of, fraction_of, takes, coerce_numeric_type_to_decimal, get_common_decimal_type, decimal_coercion, float_coercion, integer_coercion, numerical_coercion, binary_numeric_coercion};
 ghost use Rattle.coercion.specs.Data.{or_else};
 ghost use Rattle.coercion.specs.Kinds.{is_integer};

@@ -1,6 +1,6 @@
 // The zone of two Timestamps: the left's if it has one, else the right's.
-ghost use Rattle.std.specs.Prelude.{◌≡◌, Bool, not, ◌-◌, ◌≤◌, length, take, drop};
-ghost use Rattle.rules.specs.Zones.{side, part_of, choice};
+ghost use Rattle.std.specs.Prelude.{◌≡◌, not, ◌≤◌, length};
+ghost use Rattle.rules.specs.Zones.{side, choice};
 
 /// Where a zone stands in a slice. A present zone may be empty, and an absent one has an empty place.
 #[derive(Clone, Copy)]

@@ -1,5 +1,4 @@
-// The order in which the merge tries the rules of the source, and that it gives the source's answers: definitions and
-// laws.
+// The order in which the merge tries the rules of the source: definitions, and the law that it gives the source's answers.
 #![tactic(auto)]
 
 pub mod laws;
