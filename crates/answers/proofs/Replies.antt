@@ -1,7 +1,7 @@
 -- What the reply of a call says of it. Assumes nothing.
-use mathlib.Core.Path.{◌≡◌, refl, ap, sym, ◌∙◌}
+use mathlib.Core.Path.{◌≡◌, refl, ap, sym, subst, ◌∙◌}
 use mathlib.Core.Bool.{Bool, true, false, cond}
-use mathlib.Core.List.{List, [], ◌∷◌, Memᴰ}
+use mathlib.Core.List.{List, [], ◌∷◌}
 use Rattle.std.specs.Prelude.{Option, None, Some}
 use Prim.Native.Nat.{ℕ, ◌+◌, ◌*◌, ◌<◌, ◌≤◌}
 use native.Mathlib.Decide.{ℕ_discrete}
@@ -12,10 +12,12 @@ use borrow.Author.Tests.{eqb-true, eqb-false, ne_eqb}
 use Rattle.sheet.specs.Types.{count, labels}
 use Rattle.sheet.specs.Encode.{encode}
 use Rattle.sheet.specs.Read.{read}
-use Rattle.sheet.specs.Refusals.{Condition, first_met}
+use Rattle.sheet.specs.Refusals.{first_met}
+use Rattle.sheet.specs.Laws.{Applies}
 use Rattle.sheet.specs.Refusals as Sheet
 use Rattle.sheet.proofs.Accepted.{accepted_encode, accepted_carried}
 use Rattle.sheet.proofs.Chains.{encode_length}
+use Rattle.sheet.proofs.Lowest.{From, some, found, least}
 use Rattle.coercion.specs.Data.{DataType, single}
 use Rattle.coercion.proofs.Shorter.{answer_smaller, answer_shorter}
 use Rattle.answers.specs.Call.{Call, conditions, refusal, refused, written, Outcome, settled, rules_of, answer, outcome}
@@ -79,59 +81,19 @@ refused_outcome c k e = go (eqb (refusal c) 0) refl (answer c) e
 pub refused_unchanged : RefusedUnchanged
 refused_unchanged c k e = (refused_outcome c k e).1.1
 
--- conditions whose numbers rise
-abbrev Rising : ℕ → List Condition → Type 0
-Rising n [] = Unit
-Rising n (c ∷ cs) = (n < c.number) × Rising c.number cs
-
-rising : (c : Call) → Rising 0 (conditions c)
+rising : (c : Call) → From 0 (conditions c)
 rising c = (omega arith, (omega arith, (omega arith, (omega arith, (omega arith, (omega arith, (omega arith, (omega arith, tt))))))))
-
-above : (n : ℕ) (cs : List Condition) → Rising n cs → (x : Condition) → Memᴰ x cs → n < x.number
-above n [] r x m = elim m [ ]
-above n (c ∷ cs) r x (Memᴰ.head p) = let q : x.number ≡ c.number = ap (λ (y : Condition). y.number) p in omega (arith, r.0)
-above n (c ∷ cs) r x (Memᴰ.tail m) = omega (arith, r.0, above c.number cs r.1 x m)
-
--- where a condition is met, the first that is met has its number or a lower one, and one above those that stand
--- before all
-first_least : (n : ℕ) (cs : List Condition) → Rising n cs → (x : Condition) → Memᴰ x cs → x.met ≡ true → (n < first_met cs) × (first_met cs ≤ x.number)
-first_least n [] r x m e = elim m [ ]
-first_least n (c ∷ cs) r x (Memᴰ.head p) e =
-    let q : x.number ≡ c.number = ap (λ (y : Condition). y.number) p in
-    let met : c.met ≡ true = ap (λ (y : Condition). y.met) (sym p) ∙ e in
-    let f : first_met (c ∷ cs) ≡ c.number = rw met in
-    (omega (arith, r.0), omega arith)
-first_least n (c ∷ cs) r x (Memᴰ.tail m) e = go c.met (first_least c.number cs r.1 x m e) (above c.number cs r.1 x m)
-  where
-    go : (b : Bool) → (c.number < first_met cs) × (first_met cs ≤ x.number) → c.number < x.number
-        → (n < cond b c.number (first_met cs)) × (cond b c.number (first_met cs) ≤ x.number)
-    go true h l = (r.0, omega arith)
-    go false h l = (omega (arith, r.0, h.0), h.1)
-
-abbrev Found : List Condition → ℕ → Type 0
-Found cs k = (x : Condition) × (Memᴰ x cs × ((x.number ≡ k) × (x.met ≡ true)))
-
-first_found : (cs : List Condition) → ¬ (first_met cs ≡ 0) → Found cs (first_met cs)
-first_found [] h = absurd (h refl)
-first_found (c ∷ cs) h = go c.met refl h (first_found cs)
-  where
-    go : (b : Bool) → c.met ≡ b → ¬ (cond b c.number (first_met cs) ≡ 0) → (¬ (first_met cs ≡ 0) → Found cs (first_met cs))
-        → Found (c ∷ cs) (cond b c.number (first_met cs))
-    go true e h f = (c, (Memᴰ.head refl, (refl, e)))
-    go false e h f = let g = f h in (g.0, (Memᴰ.tail g.1.0, g.1.1))
 
 pub lowest_given : LowestGiven
 unfolding refusal
 lowest_given c k e =
     let r = refused_outcome c k e in
-    let f = first_found (conditions c) r.0 in
-    record {
-      meets = record { condition = f.0; listed = f.1.0; number = f.1.1.0 ∙ r.1.0; met = f.1.1.1 };
-      lowest = λ j m. omega (arith, r.1.0, m.number, (first_least 0 (conditions c) (rising c) m.condition m.listed m.met).1);
-    }
+    let cs = conditions c in
+    let met : 0 < first_met cs = omega (arith, r.0) in
+    (subst (Applies cs) r.1.0 (found 0 cs (rising c) met), λ j a. omega (arith, r.1.0, least 0 cs (rising c) a))
 
 pub met_refused : MetRefused
 unfolding refusal outcome
-met_refused c j m =
-    let some : 0 < refusal c = (first_least 0 (conditions c) (rising c) m.condition m.listed m.met).0 in
+met_refused c j a =
+    let met : 0 < refusal c = some 0 (conditions c) (rising c) a in
     (refusal c, rw (ne_eqb (refusal c) 0 (λ z. omega arith)))

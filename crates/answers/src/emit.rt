@@ -1,4 +1,4 @@
-// Writing the one-type sheet of an answer.
+//! Writing the one-type sheet of an answer.
 ghost use Rattle.std.specs.Prelude.{◌≡◌, ◌+◌, ◌*◌, ◌<◌, ◌≤◌, ◌++◌, length, drop};
 ghost use Rattle.sheet.specs.Encode.{header};
 ghost use Rattle.buffers.specs.Region.{Room, Inside};

@@ -1,5 +1,6 @@
-// The laws of the calls. Each function does nothing and returns nothing: its contract names theorems, so that the
-// check of this crate fails where a proof of one is missing.
+//! The laws of the calls. Each function does nothing: its contract is what has been proved of the definitions in
+//! specs/.
+
 ghost use Rattle.answers.specs.LeastType.{LeastTypeTheorem, TwoFamilies};
 ghost use Rattle.answers.specs.Premises.{EveryListAsked, EveryCutAsked, IntegersRun, DecimalsRun};
 ghost use Rattle.answers.specs.Marked.{MarkedCases, MarkedSpelled};

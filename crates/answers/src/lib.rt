@@ -1,5 +1,5 @@
-// The three answers over sheets and lent buffers. No public function has a condition of its own: the three calls take
-// any bytes and any mask.
+//! The three answers over sheets and lent buffers. No public function has a condition of its own: the three calls take
+//! any bytes and any mask.
 #![tactic(auto)]
 
 mod emit;

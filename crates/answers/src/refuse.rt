@@ -1,4 +1,4 @@
-// The refusals: the numbers of the sheet's own, and 6 to 8.
+//! The refusals: the numbers of the sheet's own, and 6 to 8.
 ghost use Rattle.std.specs.Prelude.{◌≡◌, ◌*◌, ◌<◌, ◌≤◌, eqb};
 ghost use Rattle.sheet.specs.Types.{Fields, arity};
 ghost use Rattle.sheet.specs.Read.{start};

@@ -1,4 +1,4 @@
-// The laws of the rules: what holds of the definitions, as promises of functions that do nothing.
+//! The laws of the rules: what holds of the definitions, as promises of functions that do nothing.
 ghost use Rattle.coercion.specs.Laws.{SameQuestion, AlikeLeft, EqualLeft, AllEqual, EqualSame, SameEqual, AlikeNameless, NamelessAlike};
 ghost use Rattle.coercion.specs.Laws.{PairedByName, EachMatchedOnce, PairedByPlace, SameSets, EachFeedsOne, StructAnswer, StructUnequal};
 ghost use Rattle.coercion.specs.Laws.{LayoutsAlike, LayoutsUnequal, LayoutsJoined, LayoutsNone, LayoutsSome, LayoutsFed};

@@ -1,5 +1,5 @@
-// The types that the plain rules of the source take and give. The rules themselves stand in crates of their own, their
-// definitions in specs/. A kind is the byte of a record, and every function here takes any byte.
+//! The types that the plain rules of the source take and give. The rules themselves stand in crates of their own, their
+//! definitions in specs/. A kind is the byte of a record, and every function here takes any byte.
 #![tactic(auto)]
 
 pub mod laws;

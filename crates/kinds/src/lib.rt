@@ -1,4 +1,4 @@
-// Tests on kinds.
+//! Tests on kinds.
 #![tactic(auto)]
 
 pub mod tests;

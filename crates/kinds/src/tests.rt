@@ -1,4 +1,4 @@
-// Tests on kinds. A kind is the byte of a record, and every function here takes any byte.
+//! Tests on kinds. A kind is the byte of a record, and every function here takes any byte.
 ghost use Rattle.std.specs.Prelude.{◌≡◌, ◌||◌, eqb};
 ghost use Rattle.coercion.specs.Kinds.{is_numeric, is_integer, is_string, is_date, is_time, is_list, one_is};
 

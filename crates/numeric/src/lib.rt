@@ -1,4 +1,4 @@
-// The rules for numbers: integers, floats and decimals.
+//! The rules for numbers: integers, floats and decimals.
 #![tactic(auto)]
 
 pub mod numbers;

@@ -1,5 +1,5 @@
-// Numbers and decimals. Where the source has a function for each of four widths, one over the width's kind serves.
-// A kind is the byte of a record, and every function here takes any byte.
+//! Numbers and decimals. Where the source has a function for each of four widths, one over the width's kind serves.
+//! A kind is the byte of a record, and every function here takes any byte.
 ghost use Rattle.std.specs.Prelude.{◌≡◌, true, ◌&&◌, ◌+◌, ◌<◌, ◌≤◌, Some};
 ghost use Rattle.sheet.specs.Kind.{is_decimal, cap};
 ghost use Rattle.coercion.specs.Numbers.{decimal, ahead, wider_scale, wider_precision, create_decimal_type, get_wider_decimal_type, get_wider_decimal_type_cross_variant, digits_of, fraction_of, takes, coerce_numeric_type_to_decimal, get_common_decimal_type, decimal_coercion, float_coercion, integer_coercion, numerical_coercion, binary_numeric_coercion};

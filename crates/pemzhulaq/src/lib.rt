@@ -1,4 +1,4 @@
-// The three calls with one number as the answer, as programs in other languages have them.
+//! The three calls with one number as the answer, as programs in other languages have them.
 #![tactic(auto)]
 
 pub mod laws;

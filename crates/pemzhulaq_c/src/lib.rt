@@ -1,5 +1,5 @@
-// The static library: the three calls for programs in other languages, which link it. A slice is a pointer and a
-// length, an answer is one number.
+//! The static library: the three calls for programs in other languages, which link it. A slice is a pointer and a
+//! length, an answer is one number.
 #![tactic(auto)]
 
 ghost use Rattle.std.specs.Prelude.{◌≡◌};

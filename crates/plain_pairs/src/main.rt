@@ -1,10 +1,10 @@
-// Runs every ordered pair of the plain types of data/plain through the plain rules and compares the answers with the
-// stored ones.
-//
-// The file: the number of types, in two bytes; the types; and for each left and each right the answers to list, union
-// and compare. A type or an answer is four bytes, and four zeros are none. oracle/README.md says how they were made
-// (`plain`). A file that cannot be opened, or a write that fails, ends the program with its error. One that cannot be
-// read, or is not in that form, is told of in a line behind the counts.
+//! Runs every ordered pair of the plain types of data/plain through the plain rules and compares the answers with the
+//! stored ones.
+//!
+//! The file: the number of types, in two bytes; the types; and for each left and each right the answers to list, union
+//! and compare. A type or an answer is four bytes, and four zeros are none. oracle/README.md says how they were made
+//! (`plain`). A file that cannot be opened, or a write that fails, ends the program with its error. One that cannot be
+//! read, or is not in that form, is told of in a line behind the counts.
 #![tactic(auto)]
 
 pub mod pairs;

@@ -1,4 +1,4 @@
-// The plain rules on plain types, as `buffers::plain` has them for a Step.
+//! The plain rules on plain types, as `buffers::plain` has them for a Step.
 ghost use Rattle.std.specs.Prelude.{◌≡◌, true, cond, eqb};
 ghost use Rattle.coercion.specs.Data.{first_of};
 ghost use Rattle.coercion.specs.Rules.{null_coercion, string_temporal_coercion};

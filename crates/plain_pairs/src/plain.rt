@@ -1,4 +1,4 @@
-// A type without parts as the file has it, and what the rules answer as such a type.
+//! A type without parts as the file has it, and what the rules answer as such a type.
 ghost use Rattle.std.specs.Prelude.{◌≡◌};
 ghost use Rattle.plain_pairs.specs.Plain.{figures_of, timestamp_in, plain_figures, of_figures, of_kind, of_side, of_moment};
 

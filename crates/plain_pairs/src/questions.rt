@@ -1,4 +1,4 @@
-// The three questions on two plain types.
+//! The three questions on two plain types.
 ghost use Rattle.std.specs.Prelude.{◌≡◌, true, [], ◌∷◌};
 ghost use Rattle.coercion.specs.Data.{list, union, compare};
 ghost use Rattle.coercion.specs.Rules.{string_numeric_coercion, string_numeric_union_coercion};

@@ -1,4 +1,4 @@
-// Filling a buffer from a reader, for the programs.
+//! Filling a buffer from a reader, for the programs.
 #![tactic(auto)]
 
 ghost use Rattle.std.specs.Prelude.{◌<◌, ◌≤◌, length, take, IfOk};

@@ -1,4 +1,4 @@
-// The records of a sheet, as many as its header says.
+//! The records of a sheet, as many as its header says.
 ghost use Rattle.std.specs.Prelude.{◌*◌, ◌≤◌, length};
 ghost use Rattle.sheet.specs.Holds.{Plain};
 

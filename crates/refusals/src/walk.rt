@@ -1,5 +1,5 @@
-//! The walk over the records of a sheet, which finds what refusals 3, 4 and 5 are about. What it has found so far is one
-//! number, made by `pass`: a struct in its place is slower.
+//! The walk over the records of a sheet, which finds what refusals 3, 4 and 5 are about. What it has found so far is
+//! one number, made by `pass`, which stays in a register.
 ghost use Rattle.std.specs.Prelude.{◌≡◌, ◌+◌, ◌*◌, ◌-◌, ◌<◌, ◌≤◌, true};
 ghost use Rattle.refusals.specs.Walk.{Ready, Walks};
 ghost use Rattle.refusals.specs.Found.{outset};

@@ -1,9 +1,9 @@
-// Runs the stored calls of data/calls.bin and compares what they answer, and what they leave in the output and the
-// work space, with what is stored.
-//
-// oracle/vectors/README.md has the form of the file and says how it was made. A file that cannot be opened, or a
-// write that fails, ends the program with its error. One that cannot be read to its end, or is not in that form, is
-// told of in a line behind the counts.
+//! Runs the stored calls of data/calls.bin and compares what they answer, and what they leave in the output and the
+//! work space, with what is stored.
+//!
+//! oracle/vectors/README.md has the form of the file and says how it was made. A file that cannot be opened, or a
+//! write that fails, ends the program with its error. One that cannot be read to its end, or is not in that form, is
+//! told of in a line behind the counts.
 #![tactic(auto)]
 
 pub mod spaces;

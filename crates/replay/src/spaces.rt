@@ -1,4 +1,4 @@
-// Filling lent spaces before a call, and what a call leaves in them.
+//! Filling lent spaces before a call, and what a call leaves in them.
 ghost use Rattle.std.specs.Prelude.{◌≡◌, ◌+◌, ◌^◌, ◌<◌, ◌≤◌, length};
 ghost use Rattle.sheet.specs.Refusals.{all_zero};
 ghost use Rattle.replay.specs.Spaces.{mark_at, marks, is_marked, is_answered, is_cleared, cleared_bytes};

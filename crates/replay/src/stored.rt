@@ -1,4 +1,4 @@
-// The stored calls, as oracle/vectors/README.md has their form.
+//! The stored calls, as oracle/vectors/README.md has their form.
 ghost use Rattle.std.specs.Prelude.{◌≡◌, ◌+◌, ◌≤◌, take, drop};
 ghost use Rattle.replay.specs.Stored.{question_in, length_in, expected_in, number_at, entry_in};
 

@@ -1,5 +1,5 @@
-// The category of a type, and the categories seen in a list as bits: two in one list are told by counting ones.
-// A kind is the byte of a record, and every function here takes any byte.
+//! The category of a type, and the categories seen in a list as bits: two in one list are told by counting ones.
+//! A kind is the byte of a record, and every function here takes any byte.
 ghost use Rattle.std.specs.Prelude.{◌≡◌, ℕ, ◌<◌, ltb, IfSome, MatchOption};
 ghost use Rattle.std.specs.Int.Bits.{bit_or};
 ghost use Rattle.std.specs.Int.Count.{ones};

@@ -1,4 +1,4 @@
-// The other rules that look at kinds, figures and zones alone, and the categories of a list.
+//! The other rules that look at kinds, figures and zones alone, and the categories of a list.
 #![tactic(auto)]
 
 pub mod category;

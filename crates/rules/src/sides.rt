@@ -1,4 +1,4 @@
-// Null and string rules, whose answer is one of the two types. A kind is the byte of a record.
+//! Null and string rules, whose answer is one of the two types. A kind is the byte of a record.
 ghost use Rattle.std.specs.Prelude.{◌≡◌, ◌<◌, Some};
 ghost use Rattle.coercion.specs.Data.{DataType, may_become};
 ghost use Rattle.coercion.specs.Rules.{null_coercion, string_numeric_coercion, string_numeric_union_coercion, string_temporal_coercion};

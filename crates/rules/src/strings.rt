@@ -1,4 +1,4 @@
-// Strings and binary. A kind is the byte of a record, and every function here takes any byte.
+//! Strings and binary. A kind is the byte of a record, and every function here takes any byte.
 ghost use Rattle.std.specs.Prelude.{◌≡◌};
 ghost use Rattle.coercion.specs.Strings.{string_coercion, binary_coercion};
 ghost use Rattle.rules.specs.Ordered.{ordered_binary};

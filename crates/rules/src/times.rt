@@ -1,4 +1,4 @@
-// Units and times. A kind is the byte of a record, and every function here takes any byte.
+//! Units and times. A kind is the byte of a record, and every function here takes any byte.
 ghost use Rattle.std.specs.Prelude.{◌≡◌};
 ghost use Rattle.coercion.specs.Times.{timeunit_coercion, temporal_coercion, is_time_with_valid_unit};
 ghost use Rattle.rules.specs.Ordered.{ordered_temporal};

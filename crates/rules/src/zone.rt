@@ -1,4 +1,4 @@
-// The zone of two Timestamps: the left's if it has one, else the right's.
+//! The zone of two Timestamps: the left's if it has one, else the right's.
 ghost use Rattle.std.specs.Prelude.{◌≡◌, not, ◌≤◌, length};
 ghost use Rattle.rules.specs.Zones.{side, choice};
 

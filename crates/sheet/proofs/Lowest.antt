@@ -7,16 +7,17 @@ use native.Mathlib.Omega.{arith}
 use Rattle.sheet.specs.Refusals.{Condition, conditions, first_met, refusal}
 use Rattle.sheet.specs.Laws.{Applies, here, later, Lowest}
 
-abbrev From : ℕ → List Condition → Type 0
+-- numbers that rise, from above one
+abbrev pub From : ℕ → List Condition → Type 0
 From n [] = Unit
 From n (c ∷ cs) = (n < c.number) × From c.number cs
 
-above : {k : ℕ} (n : ℕ) (cs : List Condition) → From n cs → Applies cs k → n < k
+pub above : {k : ℕ} (n : ℕ) (cs : List Condition) → From n cs → Applies cs k → n < k
 above n [] f a = elim a [ ]
 above n (c ∷ cs) f (here e) = f.0
 above n (c ∷ cs) f (later a) = omega (arith, f.0, above c.number cs f.1 a)
 
-least : {k : ℕ} (n : ℕ) (cs : List Condition) → From n cs → Applies cs k → first_met cs ≤ k
+pub least : {k : ℕ} (n : ℕ) (cs : List Condition) → From n cs → Applies cs k → first_met cs ≤ k
 least n [] f a = elim a [ ]
 least {k} n (c ∷ cs) f (here e) = let g : first_met (c ∷ cs) ≡ c.number = rw e in omega arith
 least {k} n (c ∷ cs) f (later a) = go c.met (least c.number cs f.1 a)
@@ -25,7 +26,17 @@ least {k} n (c ∷ cs) f (later a) = go c.met (least c.number cs f.1 a)
     go true h = omega (arith, above c.number cs f.1 a)
     go false h = h
 
-found : (n : ℕ) (cs : List Condition) → From n cs → 0 < first_met cs → Applies cs (first_met cs)
+-- a condition that applies makes the number of the first that is met one of them
+pub some : {k : ℕ} (n : ℕ) (cs : List Condition) → From n cs → Applies cs k → n < first_met cs
+some n [] f a = elim a [ ]
+some n (c ∷ cs) f (here e) = let g : first_met (c ∷ cs) ≡ c.number = rw e in omega (arith, f.0)
+some n (c ∷ cs) f (later a) = go c.met (some c.number cs f.1 a)
+  where
+    go : (b : Bool) → c.number < first_met cs → n < cond b c.number (first_met cs)
+    go true h = f.0
+    go false h = omega (arith, f.0, h)
+
+pub found : (n : ℕ) (cs : List Condition) → From n cs → 0 < first_met cs → Applies cs (first_met cs)
 found n [] f h = absurd (omega arith)
 found n (c ∷ cs) f h = go c.met refl h (found c.number cs f.1)
   where

@@ -1,9 +1,9 @@
-// Runs the stored sheets of data/sheets through `refusals::check` and compares what it answers.
-//
-// An entry is 12 bytes, integers little-endian, and then the sheet: byte 0 the refusal number, 0 for an accepted one,
-// bytes 2-3 n and 4-5 m of an accepted one, bytes 8-11 the sheet's length. vectors/README.md says how they were made.
-// A file that cannot be opened, or a write that fails, ends the program with its error. One that cannot be read to
-// its end is told of in a line behind the counts.
+//! Runs the stored sheets of data/sheets through `refusals::check` and compares what it answers.
+//!
+//! An entry is 12 bytes, integers little-endian, and then the sheet: byte 0 the refusal number, 0 for an accepted one,
+//! bytes 2-3 n and 4-5 m of an accepted one, bytes 8-11 the sheet's length. vectors/README.md says how they were made.
+//! A file that cannot be opened, or a write that fails, ends the program with its error. One that cannot be read to
+//! its end is told of in a line behind the counts.
 #![tactic(auto)]
 
 ghost use Rattle.std.specs.Prelude.{◌≡◌};

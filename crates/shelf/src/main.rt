@@ -1,9 +1,9 @@
-// Reads a sheet from standard input and prints what each of the three calls answers to it, with every mask bit from 1
-// to 38 set.
-//
-// A line is the question and then the kind, byte 2, signed scale and number of records of the answer, its header left
-// out; or `none`; or `refused` and the number. A read or a write that fails ends the program with one line on
-// standard error and status 1.
+//! Reads a sheet from standard input and prints what each of the three calls answers to it, with every mask bit from 1
+//! to 38 set.
+//!
+//! A line is the question and then the kind, byte 2, signed scale and number of records of the answer, its header left
+//! out; or `none`; or `refused` and the number. A read or a write that fails ends the program with one line on
+//! standard error and status 1.
 #![tactic(auto)]
 
 use answers::Answer;

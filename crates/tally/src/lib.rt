@@ -1,4 +1,4 @@
-// Counting what a program runs and comparing it with what is expected, for the programs.
+//! Counting what a program runs and comparing it with what is expected, for the programs.
 #![tactic(auto)]
 
 ghost use Rattle.std.specs.Prelude.{◌≡◌, ◌+◌, ◌^◌, ◌<◌, ◌≤◌, None, Some};

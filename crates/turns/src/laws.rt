@@ -1,4 +1,4 @@
-// The law of the order of the rules, as a promise of a function that does nothing.
+//! The law of the order of the rules, as a promise of a function that does nothing.
 ghost use Rattle.turns.specs.Laws.{SameAnswers, SameMaps};
 
 /// The order in which the merge tries the rules gives the source's answers.

@@ -1,4 +1,5 @@
-// The order in which the merge tries the rules of the source: definitions, and the law that it gives the source's answers.
+//! The order in which the merge tries the rules of the source: definitions, and the law that it gives the source's
+//! answers.
 #![tactic(auto)]
 
 pub mod laws;

@@ -1,4 +1,4 @@
-// The laws of the two rules for wrappers, as a promise of a function that does nothing.
+//! The laws of the two rules for wrappers, as a promise of a function that does nothing.
 ghost use Rattle.wrappers.specs.Laws.{OneWay, DictionaryFirst};
 
 /// Where a Dictionary meets run ends, one of the two rules has the answer of both.

@@ -1,5 +1,5 @@
-// Walks down the wrappers of two types in lent buffers. Each is handed the number of records that may be left, which
-// falls with each wrapper that comes off. A kind is the byte of a record.
+//! Walks down the wrappers of two types in lent buffers. Each is handed the number of records that may be left, which
+//! falls with each wrapper that comes off. A kind is the byte of a record.
 ghost use Rattle.std.specs.Prelude.{◌≡◌, true, not, cond, ◌+◌, ◌<◌, unwrap_or, IfSome};
 ghost use Rattle.buffers.specs.Writes.{side};
 ghost use Rattle.wrappers.specs.Ways.{wrappers_of, allows, meets, hint_of, wrappers_may};
