@@ -53,8 +53,8 @@ pub record Settles (types : List DataType) (t : DataType) : Type 0 where
 abbrev pub LeastTypeTheorem : Type 0
 LeastTypeTheorem = (f : Family) (types : List DataType) → AllIn f types → SomeIn f types → (t : DataType) × (Common f types t × Settles types t)
 
--- a list may be of two families, which then have one answer: "A list of Decimal128(20,0) and Nulls alone fits two
--- families, and both say the same answer."
+-- where a list is of two families, one type is the answer in both; as "A list of Decimal128(20,0) and Nulls alone fits
+-- two families, and both say the same answer."
 abbrev pub TwoFamilies : Type 0
 TwoFamilies =
     (f g : Family) (types : List DataType) → AllIn f types → SomeIn f types → AllIn g types → SomeIn g types

@@ -12,7 +12,7 @@ pub fn least_type()
     ensures { LeastTypeTheorem }
 {}
 
-/// A list of two families has one answer.
+/// A list that is of two families, as Decimal128(20, 0) with Nulls is, has one answer, the common type in both.
 #[tactic(auto, using(crate::proofs::LeastType::two_families))]
 pub fn two_families()
     ensures { TwoFamilies }

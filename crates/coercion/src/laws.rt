@@ -59,7 +59,7 @@ pub fn items_and_entries()
     ensures kept { MapKept }
 {}
 
-/// In a list the later zone wins.
+/// In a list of Timestamps in seconds with the zones A and B the later zone wins.
 #[tactic(auto, using(crate::proofs::Turns::later_zone_lem))]
 pub fn later_zone()
     ensures { LaterZone }

@@ -50,4 +50,7 @@ rising s = (omega arith, (omega arith, (omega arith, (omega arith, (omega arith,
 -- the refusal number is that of a condition that is met, and no condition with a lower number is
 pub lowest : Lowest
 unfolding refusal
-lowest s = (found 0 (conditions s) (rising s), λ k a. least 0 (conditions s) (rising s) a)
+lowest s =
+    let cs = conditions s in
+    let r = rising s in
+    (found 0 cs r, λ k a. (some 0 cs r a, least 0 cs r a))

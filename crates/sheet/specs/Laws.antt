@@ -33,6 +33,6 @@ pub data Applies : List Condition → ℕ → Type 0 where
   later : {c : Condition} {cs : List Condition} {k : ℕ} → Applies cs k → Applies (c ∷ cs) k
 
 -- "Where several conditions are met, the lowest number that applies is given.": the refusal number of bytes is that of
--- a condition that is met, and no condition of a lower number is met
+-- a condition that is met, and where conditions are met it is not 0 and not above the number of any
 abbrev pub Lowest : Type 0
-Lowest = (s : List ℕ) → (0 < refusal s → Applies (conditions s) (refusal s)) × ((k : ℕ) → Applies (conditions s) k → refusal s ≤ k)
+Lowest = (s : List ℕ) → (0 < refusal s → Applies (conditions s) (refusal s)) × ((k : ℕ) → Applies (conditions s) k → (0 < refusal s) × (refusal s ≤ k))
