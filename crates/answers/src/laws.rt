@@ -6,7 +6,8 @@ ghost use Rattle.answers.specs.Premises.{EveryListAsked, EveryCutAsked, Integers
 ghost use Rattle.answers.specs.Marked.{MarkedCases, MarkedSpelled};
 ghost use Rattle.answers.specs.Laws.{AnswerNoLonger, LowestGiven, MetRefused, RefusedUnchanged};
 
-/// The least-type theorem: a list's answer is the least type of its family, in every order and however the list is cut.
+/// The least-type theorem: the answer to a list of one family and Nulls is its least type, or for decimals that outgrow
+/// their width that of the cap, in every order and however the list is cut.
 #[tactic(auto, using(crate::proofs::LeastType::least_type))]
 pub fn least_type()
     ensures { LeastTypeTheorem }
