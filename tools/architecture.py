@@ -38,7 +38,6 @@ GROUPS = [
     }),
     ("#7c3aed", "the rules of the source", {
         "coercion": "all rules, as definitions",
-        "kinds": "tests on kinds",
         "numeric": "integers, floats, decimals",
         "rules": "strings, times, Null, zones",
     }),

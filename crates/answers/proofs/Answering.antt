@@ -13,11 +13,11 @@ use lib.Seq.{take-append_seam}
 use Rattle.sheet.specs.Types.{Zone, absent, present, Fields, end, field, count, labels}
 use Rattle.sheet.specs.Encode.{records, encode, flags_of, quad_of}
 use Rattle.sheet.specs.Read.{read}
-use Rattle.coercion.specs.Data.{DataType, single, types_of, Question, plain}
+use Rattle.coercion.specs.Data.{DataType, single, types_of, plain, for_list}
 use Rattle.coercion.specs.Answers.{answer_of, type_union_resolution}
 use Rattle.coercion.specs.declared.Figures.{Figures}
-use Rattle.coercion.proofs.Joins.{asking}
-use Rattle.answers.specs.Call.{Call, Reply, refused, nothing, written, Outcome, settled, answer, outcome}
+use Rattle.coercion.specs.declared.Question.{Question}
+use Rattle.answers.specs.Call.{Call, Reply, refused, nothing, written, Outcome, settled, rules_of, answer, outcome}
 use Rattle.answers.specs.LeastType.{Asks, Answers}
 
 abbrev pub reply_number : Reply → ℕ
@@ -54,16 +54,16 @@ answers_prop c t a b =
     λ i. record { reply = hedberg reply_discrete _ _ a.reply b.reply i; bytes = is_set ℕ_set _ _ a.bytes b.bytes i }
 
 -- the outcome of a list call whose types have an answer
-pub outcome_of : (c : Call) (ts : List DataType) (t : DataType) → Asks c ts → type_union_resolution (asking c.mask) ts ≡ Some t → outcome c ≡ settled c (Some t)
+pub outcome_of : (c : Call) (ts : List DataType) (t : DataType) → Asks c ts → type_union_resolution (for_list (rules_of c)) ts ≡ Some t → outcome c ≡ settled c (Some t)
 unfolding outcome
 outcome_of c ts t a h =
     let e : answer c ≡ Some t =
     ap (λ (q : Question). answer_of q (record { question = q; mask = c.mask }) (types_of (read c.sheet))) a.question
-    ∙ ap (type_union_resolution (asking c.mask)) a.reads ∙ h in
+    ∙ ap (type_union_resolution (for_list (rules_of c))) a.reads ∙ h in
     rw a.unrefused (ap (settled c) e)
 
 -- a call answers what its types have for an answer
-pub answers_of : (c : Call) (ts : List DataType) (t : DataType) → Asks c ts → type_union_resolution (asking c.mask) ts ≡ Some t → Answers c t
+pub answers_of : (c : Call) (ts : List DataType) (t : DataType) → Asks c ts → type_union_resolution (for_list (rules_of c)) ts ≡ Some t → Answers c t
 answers_of c ts t a h =
     let e = outcome_of c ts t a h in
     record {

@@ -20,13 +20,14 @@ use Rattle.sheet.specs.Refusals as Sheet
 use Rattle.sheet.proofs.Tests.{and_snd, all_cons, all_nil}
 use Rattle.sheet.proofs.Chains.{encode_length}
 use Rattle.sheet.proofs.Carrying.{carried_read, carried_accepted}
-use Rattle.coercion.specs.Data.{DataType, plain, types_of, list}
+use Rattle.coercion.specs.Data.{DataType, plain, types_of}
 use Rattle.coercion.specs.declared.Figures.{Figures}
 use Rattle.coercion.specs.Families.{Family, AllIn}
 use Rattle.coercion.proofs.Joins.{all, in_front, in_back, in_cut}
 use Rattle.coercion.proofs.Commons.{Settled, settled}
 use Rattle.coercion.proofs.Fitting.{Fits, in_fits}
 use Rattle.coercion.proofs.PlainRight.{empty_label}
+use Rattle.coercion.specs.declared.Question.{Question}
 use Rattle.answers.specs.Call.{Call, bad_mask, bad_pair, refusal}
 use Rattle.answers.specs.Listed.{listed}
 use Rattle.answers.specs.LeastType.{Asks, Calls, call, NonEmpty}
@@ -156,7 +157,7 @@ chain_bytes gs a h =
     (bytes_append (records 1 0 (chain gs)) (labels (chain gs)) (records_bytes 1 0 gs a (omega arith)) (subst Bytes (sym (chain_labels gs)) tt))
 
 -- a sheet that is accepted, a good mask, a list question and space
-unrefused : (c : Call) → c.question ≡ list → Sheet.refusal c.sheet ≡ 0 → bad_mask c.mask ≡ false
+unrefused : (c : Call) → c.question ≡ Question.List → Sheet.refusal c.sheet ≡ 0 → bad_mask c.mask ≡ false
     → length c.sheet ≤ length c.output → 2 * length c.sheet ≤ length c.work → refusal c ≡ 0
 unfolding bad_pair
 unrefused c q h m o w =
@@ -170,7 +171,7 @@ asked f ts a h mask m output work o w =
     let c = chain_carried gs d.fit (omega arith) in
     let s = encode (chain gs) in
     let n : length s ≡ 16 * (1 + length ts) + 0 = encode_length (chain gs) ∙ ap₂ (λ (x y : ℕ). 16 * (1 + x) + y) (chain_count gs ∙ e) (ap length (chain_labels gs)) in
-    let call : Call = record { question = list; sheet = s; mask = mask; output = output; work = work } in
+    let call : Call = record { question = Question.List; sheet = s; mask = mask; output = output; work = work } in
     record {
       call = call;
       asks =

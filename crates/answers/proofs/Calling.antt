@@ -23,9 +23,9 @@ use Rattle.sheet.proofs.Chains.{encode_length}
 use Rattle.coercion.specs.Data.{DataType, single, types_of}
 use Rattle.coercion.specs.Answers.{answer_of}
 use Rattle.coercion.proofs.Shorter.{answer_smaller, answer_shorter}
+use Rattle.coercion.specs.declared.Question.{Question}
+use Rattle.coercion.specs.declared.Rules.{Rules}
 use Rattle.buffers.specs.Region.{Room, Inside, Wrote}
-use Rattle.buffers.specs.Plain.{asked, rules_of}
-use Rattle.buffers.specs.declared.Question.{Question}
 use Rattle.buffers.specs.declared.Space.{Space}
 use Rattle.buffers.specs.declared.Spot.{Spot}
 use Rattle.buffers.specs.Out.{Out}
@@ -67,8 +67,8 @@ pub refused_later : (c : Call) (r : Own.Refusal) → Sheet.refusal c.sheet ≡ 0
 refused_later c r accepted e = refused_outcome c (Code.number_of r) (some_number r) (accepted_refusal c accepted ∙ sym e)
 
 -- the room of a call that is not refused
-none_later : (q : Question) (s : List ℕ) (mask o w : ℕ) → later_refusal (asked q) s mask o w ≡ 0 → is_short (length s) o w ≡ false
-none_later q s mask o w h = go (bad_mask mask) (bad_pair (asked q) s) (is_short (length s) o w) h
+none_later : (q : Question) (s : List ℕ) (mask o w : ℕ) → later_refusal q s mask o w ≡ 0 → is_short (length s) o w ≡ false
+none_later q s mask o w h = go (bad_mask mask) (bad_pair q s) (is_short (length s) o w) h
   where
     go : (a b k : Bool) → ◌≡◌ {A = ℕ} (cond a 6 (cond b 7 (cond k 8 0))) 0 → k ≡ false
     go true b k h = absurd (omega arith)
@@ -76,11 +76,11 @@ none_later q s mask o w h = go (bad_mask mask) (bad_pair (asked q) s) (is_short 
     go false false true h = absurd (omega arith)
     go false false false h = refl
 
-module _ (q : Question) (s : List ℕ) (mask : ℕ) (out w : List ℕ) (space : Space) (plain : Plain s) (measured : Measured s space)
-    (unrefused : 0 ≡ later_refusal (asked q) s mask (length out) (length w)) where
+module _ (rules : Rules) (s : List ℕ) (out w : List ℕ) (space : Space) (plain : Plain s) (measured : Measured s space)
+    (unrefused : 0 ≡ later_refusal rules.question s rules.mask (length out) (length w)) where
   spared : Spared space out w
   spared =
-      let h = none_later q s mask (length out) (length w) (sym unrefused) in
+      let h = none_later rules.question s rules.mask (length out) (length w) (sym unrefused) in
       record {
         output = omega (arith, measured.half, ltb-false (length out) (length s) (or_fst (ltb (length out) (length s)) _ h));
         work = omega (arith, measured.half, ltb-false (length w) (2 * length s) (or_snd (ltb (length out) (length s)) _ h));
@@ -113,11 +113,11 @@ module _ (q : Question) (s : List ℕ) (mask : ℕ) (out w : List ℕ) (space : 
   fits = record { few = omega (arith, measured_n s space plain measured); short = omega (arith, measured_m s space plain measured) }
 
   abbrev found : Option DataType
-  found = answer_of (asked q) (rules_of q mask) (types_of (read s))
+  found = answer_of rules.question rules (types_of (read s))
 
   module _ (v : List ℕ) where
     abbrev Reach : Out → Type 0
-    Reach o = Reached (answer_of (asked q) (rules_of q mask)) space s w v 0 (start space.n) o
+    Reach o = Reached (answer_of rules.question rules) space s w v 0 (start space.n) o
 
     done_type : (d : Spot) → Reach (Ok d) → (t : DataType) × ((found ≡ Some t) × Wrote space v front d (single t))
     done_type d r = go found refl (r.means (read s) listed fits)
@@ -136,8 +136,8 @@ module _ (q : Question) (s : List ℕ) (mask : ℕ) (out w : List ℕ) (space : 
           (
             record {
               some = omega (arith, x.records);
-              records = omega (arith, x.records, answer_smaller (asked q) (rules_of q mask) (read s) t differ f.1.0, measured_n s space plain measured);
-              letters = omega (arith, x.letters, answer_shorter (asked q) (rules_of q mask) (read s) t differ f.1.0, measured_m s space plain measured);
+              records = omega (arith, x.records, answer_smaller rules.question rules (read s) t differ f.1.0, measured_n s space plain measured);
+              letters = omega (arith, x.letters, answer_shorter rules.question rules (read s) t differ f.1.0, measured_m s space plain measured);
             },
             spared.output,
           ),
@@ -160,23 +160,23 @@ module _ (q : Question) (s : List ℕ) (mask : ℕ) (out w : List ℕ) (space : 
         ∙ ap (λ (k : ℕ). replicate (2 * k) 0 ++ drop (2 * k) w) measured.half
 
     -- what is seen after a call that is not refused
-    answered : {o : Outcome} → o ≡ settled (call_of q s mask out w) found → o ≡ outcome (call_of q s mask out w)
+    answered : {o : Outcome} → o ≡ settled (call_of rules s out w) found → o ≡ outcome (call_of rules s out w)
     unfolding outcome
-    answered h = rw (accepted_refusal (call_of q s mask out w) measured.unrefused ∙ sym unrefused) h
+    answered h = rw (accepted_refusal (call_of rules s out w) measured.unrefused ∙ sym unrefused) h
 
     module _ {zeros : List ℕ} (cleared : zeros ≡ replicate (length (take (2 * space.half) v)) 0) where
       pub type_outcome : (d : Spot) {k : ℕ} {out' : List ℕ} → Reach (Ok d) → (k ≡ 16 * d.at + d.label) × Emits space d v out out'
-          → record { reply = written k; output = out'; work = zeros ++ drop (2 * space.half) v } ≡ outcome (call_of q s mask out w)
+          → record { reply = written k; output = out'; work = zeros ++ drop (2 * space.half) v } ≡ outcome (call_of rules s out w)
       type_outcome d {k} r e =
           let f = done_type d r in
           let t = f.0 in
           let n : k ≡ length (encode (single t)) = omega (arith, e.0, f.1.1.records, f.1.1.letters, encode_length (single t)) in
           let o = e.1 t f.1.1 in
           let z = zeroed_is r cleared in
-          answered ((λ i. record { reply = written (n i); output = o i; work = z i }) ∙ ap (settled (call_of q s mask out w)) (sym f.1.0))
+          answered ((λ i. record { reply = written (n i); output = o i; work = z i }) ∙ ap (settled (call_of rules s out w)) (sym f.1.0))
 
-      pub none_outcome : (f : Failure) → Reach (Err f) → record { reply = nothing; output = out; work = zeros ++ drop (2 * space.half) v } ≡ outcome (call_of q s mask out w)
+      pub none_outcome : (f : Failure) → Reach (Err f) → record { reply = nothing; output = out; work = zeros ++ drop (2 * space.half) v } ≡ outcome (call_of rules s out w)
       none_outcome NoType r =
           let z = zeroed_is r cleared in
-          answered ((λ i. record { reply = nothing; output = out; work = z i }) ∙ ap (settled (call_of q s mask out w)) (sym (no_type_lem r)))
+          answered ((λ i. record { reply = nothing; output = out; work = z i }) ∙ ap (settled (call_of rules s out w)) (sym (no_type_lem r)))
       none_outcome Full r = absurd (r.means (read s) listed fits)

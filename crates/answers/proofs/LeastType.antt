@@ -10,7 +10,7 @@ use Rattle.coercion.specs.Families.{Family, AllIn, SomeIn}
 use Rattle.coercion.proofs.Joins.{all, in_all, member_all, perm_in, perm_all, in_front, in_back, in_cut, all_cut}
 use Rattle.coercion.proofs.Resolving.{in_plain}
 use Rattle.coercion.proofs.Commons.{Settled, settled}
-use Rattle.answers.specs.Call.{Call}
+use Rattle.answers.specs.Call.{Call, rules_of}
 use Rattle.answers.specs.LeastType.{Asks, Answers, Calls, end, call, NonEmpty, EachAnswers, Settles, LeastTypeTheorem, TwoFamilies}
 use Rattle.answers.proofs.Answering.{answers_prop, answers_of, answers_one}
 
@@ -22,7 +22,7 @@ module _ (f : Family) (s : Settled f) where
   -- a call on a stretch answers its common type
   pub stretch_answers : (c : Call) (ts : List DataType) (css : List (List DataType)) → NonEmpty (ts ∷ css) → AllIn f ts → Asks c ts → Answers c (all ts)
   stretch_answers c [] css n a asks = absurd n
-  stretch_answers c (t ∷ ts) css n a asks = answers_of c (t ∷ ts) (all (t ∷ ts)) asks (s.resolves c.mask t ts a)
+  stretch_answers c (t ∷ ts) css n a asks = answers_of c (t ∷ ts) (all (t ∷ ts)) asks (s.resolves (rules_of c) t ts a)
 
   -- and no other
   stretch_one : (c : Call) (ts : List DataType) (css : List (List DataType)) (u : DataType) → NonEmpty (ts ∷ css) → AllIn f ts → Asks c ts → Answers c u → u ≡ all ts

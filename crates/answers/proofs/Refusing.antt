@@ -18,11 +18,11 @@ use Rattle.sheet.specs.declared.Head.{Head}
 use Rattle.refusals.proofs.Verdicts.{checked_number, verdict_is}
 use Rattle.sheet.proofs.Reading.{start_leads}
 use Rattle.sheet.proofs.Accepted.{accepted_holds, accepted_carried, accepted_n, accepted_m, accepted_length}
-use Rattle.coercion.specs.Data.{Question}
-use Rattle.buffers.specs.Plain.{is_list_question}
+use Rattle.coercion.specs.declared.Question.{Question}
 use Rattle.buffers.specs.declared.Space.{Space}
 use Rattle.answers.specs.Call.{Call, bad_mask, bad_pair, bad_space, refusal}
 use Rattle.answers.specs.Code.{later_refusal, Measured}
+use Rattle.coercion.specs.Data.{is_list_question}
 
 -- 7 pair: how many types are listed, by the links from record to record
 pub pair_none : (s : List ℕ) (n : ℕ) → n ≤ 1 → (t : Fields) → Leads s n 0 (start n) 1 0 t → false ≡ eqb (arity t) 2
@@ -57,9 +57,9 @@ pair_two s n h g some e nz f (field name nullable shape parts (field name₂ nul
 -- a list asks for no number of types
 pub list_asked : (s : List ℕ) (q : Question) {b : Bool} → b ≡ true → b ≡ is_list_question q → not b ≡ bad_pair q s
 unfolding bad_pair
-list_asked s Question.list t e = ap not t
-list_asked s Question.union t e = ap not t ∙ ap (λ (x : Bool). cond x false (not (eqb (arity (read s)) 2))) (sym t ∙ e)
-list_asked s Question.compare t e = ap not t ∙ ap (λ (x : Bool). cond x false (not (eqb (arity (read s)) 2))) (sym t ∙ e)
+list_asked s Question.List t e = ap not t
+list_asked s Question.Union t e = ap not t ∙ ap (λ (x : Bool). cond x false (not (eqb (arity (read s)) 2))) (sym t ∙ e)
+list_asked s Question.Compare t e = ap not t ∙ ap (λ (x : Bool). cond x false (not (eqb (arity (read s)) 2))) (sym t ∙ e)
 
 -- what is known of an accepted sheet
 module _ (s : List ℕ) (space : Space) (plain : Plain s) (measured : Measured s space) where
@@ -95,9 +95,9 @@ module _ (s : List ℕ) (space : Space) (plain : Plain s) (measured : Measured s
   pub pair_asked : (q : Question) {b p : Bool} → b ≡ false → b ≡ is_list_question q
       → ((t : Fields) → Leads s space.n 0 (start space.n) 1 0 t → p ≡ eqb (arity t) 2) → not p ≡ bad_pair q s
   unfolding bad_pair
-  pair_asked Question.list {p = p} t e h = ap (λ (x : Bool). cond x false (not p)) (sym t ∙ e)
-  pair_asked Question.union t e h = ap not (h (read s) measured_leads)
-  pair_asked Question.compare t e h = ap not (h (read s) measured_leads)
+  pair_asked Question.List {p = p} t e h = ap (λ (x : Bool). cond x false (not p)) (sym t ∙ e)
+  pair_asked Question.Union t e h = ap not (h (read s) measured_leads)
+  pair_asked Question.Compare t e h = ap not (h (read s) measured_leads)
 
 -- a condition that is not met leaves the others
 pass : (b : Bool) (n x y z : ℕ) → cond b (suc n) x ≡ 0 → (x ≡ 0 → y ≡ z) → cond b (suc n) y ≡ z

@@ -5,10 +5,9 @@ use Rattle.sheet.specs.Read.{records_of, labels_of}
 use Rattle.sheet.specs.Refusals.{first_met}
 use Rattle.sheet.specs.Refusals as Sheet
 use Rattle.coercion.specs.Data.{DataType, single}
-use Rattle.coercion.specs.Data as Data
+use Rattle.coercion.specs.declared.Question.{Question}
+use Rattle.coercion.specs.declared.Rules.{Rules}
 use Rattle.buffers.specs.Region.{Wrote}
-use Rattle.buffers.specs.Plain.{asked}
-use Rattle.buffers.specs.declared.Question.{Question}
 use Rattle.buffers.specs.declared.Space.{Space}
 use Rattle.buffers.specs.declared.Spot.{Spot}
 use Rattle.resolution.specs.Reached.{front}
@@ -39,8 +38,8 @@ number_met (Err r) = number_of r
 number_met (Ok u) = 0
 
 -- what is handed to a call, and what is seen after it
-abbrev pub call_of : Question → List ℕ → ℕ → List ℕ → List ℕ → Call
-call_of question sheet mask output work = record { question = asked question; sheet = sheet; mask = mask; output = output; work = work }
+abbrev pub call_of : Rules → List ℕ → List ℕ → List ℕ → Call
+call_of rules sheet output work = record { question = rules.question; sheet = sheet; mask = rules.mask; output = output; work = work }
 
 abbrev pub seen : Answer → List ℕ → List ℕ → Outcome
 seen o output work = record { reply = reply_of o; output = output; work = work }
@@ -62,7 +61,7 @@ abbrev pub is_short : ℕ → ℕ → ℕ → Bool
 is_short sheet output work = ltb output sheet || ltb work (2 * sheet)
 
 -- the lowest of 6, 7 and 8 that is met, 0 where none is
-abbrev pub later_refusal : Data.Question → List ℕ → ℕ → ℕ → ℕ → ℕ
+abbrev pub later_refusal : Question → List ℕ → ℕ → ℕ → ℕ → ℕ
 later_refusal question sheet mask output work =
     first_met
     (record { number = 6; met = bad_mask mask }

@@ -4,14 +4,15 @@ use mathlib.Core.List.{List, [], ◌∷◌, Perm, flatten}
 use Rattle.sheet.specs.Encode.{encode}
 use Rattle.sheet.specs.Read.{read}
 use Rattle.sheet.specs.Holds.{Plain}
-use Rattle.coercion.specs.Data.{DataType, single, types_of, list}
+use Rattle.coercion.specs.Data.{DataType, single, types_of}
 use Rattle.coercion.specs.Families.{Family, Common, AllIn, SomeIn}
+use Rattle.coercion.specs.declared.Question.{Question}
 use Rattle.answers.specs.Call.{Call, refusal, written, outcome}
 
 -- a list call on a sheet of these types; mask, output and work space are its own;
 -- "The premise is that no call meets the condition of a refusal number."
 pub record Asks (c : Call) (types : List DataType) : Type 0 where
-  pub question : c.question ≡ list
+  pub question : c.question ≡ Question.List
   pub bytes : Plain c.sheet
   pub unrefused : refusal c ≡ 0
   pub reads : types_of (read c.sheet) ≡ types

@@ -2,11 +2,12 @@
 -- The table stands here in bytes, and below it in types.
 use Rattle.std.specs.Prelude.{◌≡◌, ℕ, ◌+◌, ◌*◌, ◌-◌, ◌^◌, ◌≤◌, Bool, true, false, List, [], ◌∷◌, ◌++◌, length, map, Option, None, Some}
 use mathlib.Core.List.{Memᴰ}
-use Rattle.sheet.specs.Kind as Kind
+use Rattle.sheet.specs.declared.kind.TheConstants as Kind
 use Rattle.sheet.specs.Types.{present, Fields, end, field}
 use Rattle.sheet.specs.Encode.{encode}
-use Rattle.coercion.specs.Data.{DataType, single, Question, list, union, compare, plain, zoned, of_kind, of_unit}
+use Rattle.coercion.specs.Data.{DataType, single, plain, zoned, of_kind, of_unit}
 use Rattle.coercion.specs.Numbers.{decimal}
+use Rattle.coercion.specs.declared.Question.{Question}
 use Rattle.answers.specs.Call.{Call, nothing, written, Outcome, outcome, cleared, at_front}
 use Rattle.answers.specs.Listed.{listed}
 
@@ -44,7 +45,7 @@ entry question sheet answer = record { question = question; sheet = sheet; answe
 
 -- the case of "all three" questions
 abbrev pub all_three : List ℕ → Option (List ℕ) → List Entry → List Entry
-all_three sheet answer rest = entry list sheet answer ∷ entry union sheet answer ∷ entry compare sheet answer ∷ rest
+all_three sheet answer rest = entry Question.List sheet answer ∷ entry Question.Union sheet answer ∷ entry Question.Compare sheet answer ∷ rest
 
 -- Timestamp(second, "A") and Timestamp(second, "B"): "the later zone wins"
 abbrev pub zones : List ℕ
@@ -70,11 +71,11 @@ by_place = top_with 4 2 ++ (row_with 35 0 0 0 2 0 0 0 ++ (row_with 3 1 0 0 0 3 0
 abbrev pub table : List Entry
 table =
     -- 1: none listed; list: none
-    entry list (top 1) None
+    entry Question.List (top 1) None
     -- 2: Null, Null; list: Null
-    ∷ entry list (two 1 0 0 1 0 0) (one 1 0 0)
+    ∷ entry Question.List (two 1 0 0 1 0 0) (one 1 0 0)
     -- 3: Binary, Null; list: none
-    ∷ entry list (two 28 0 0 1 0 0) None
+    ∷ entry Question.List (two 28 0 0 1 0 0) None
     -- 4: UInt64, Int8; all three: Decimal128(20, 0)
     ∷ all_three (two 10 0 0 3 0 0) (one 16 20 0)
     -- 5: UInt32, Int8; all three: Int64
@@ -90,16 +91,16 @@ table =
     -- 10: Decimal128(5, −3), Decimal128(4, 0); all three: Decimal128(8, 0)
     (all_three (two 16 5 253 16 4 0) (one 16 8 0)
     -- 11: Utf8, Int32; union: Utf8; list, compare: Int32
-    (entry union (two 25 0 0 5 0 0) (one 25 0 0)
-    ∷ entry list (two 25 0 0 5 0 0) (one 5 0 0)
-    ∷ entry compare (two 25 0 0 5 0 0) (one 5 0 0)
+    (entry Question.Union (two 25 0 0 5 0 0) (one 25 0 0)
+    ∷ entry Question.List (two 25 0 0 5 0 0) (one 5 0 0)
+    ∷ entry Question.Compare (two 25 0 0 5 0 0) (one 5 0 0)
     -- 12: Date32, Int8; compare: Date32; list: none
-    ∷ entry compare (two 18 0 0 3 0 0) (one 18 0 0)
-    ∷ entry list (two 18 0 0 3 0 0) None
+    ∷ entry Question.Compare (two 18 0 0 3 0 0) (one 18 0 0)
+    ∷ entry Question.List (two 18 0 0 3 0 0) None
     -- worked example: Int64, Decimal128(7, 2); all three: Decimal128(22, 2)
     ∷ all_three (two 6 0 0 16 7 2) (one 16 22 2)
     -- zones and structs, in a list
-    (entry list zones (Some later_zone) ∷ entry list structs (Some by_place) ∷ []))))))))
+    (entry Question.List zones (Some later_zone) ∷ entry Question.List structs (Some by_place) ∷ []))))))))
 
 -- every mask bit from 1 to 38
 abbrev pub full_mask : ℕ
@@ -144,40 +145,40 @@ dec k p s = plain (decimal k p s)
 
 -- a Timestamp in seconds with a zone of one byte; an Int8 under a name of one byte; a Struct
 abbrev pub zoned_second : ℕ → DataType
-zoned_second z = zoned (of_unit Kind.timestamp 0) (present (z ∷ []))
+zoned_second z = zoned (of_unit Kind.TIMESTAMP 0) (present (z ∷ []))
 
 abbrev pub item : ℕ → Bool → Fields → Fields
-item name nullable rest = field (name ∷ []) nullable (kind Kind.int8).shape end rest
+item name nullable rest = field (name ∷ []) nullable (kind Kind.INT8).shape end rest
 
 abbrev pub struct_of : Fields → DataType
-struct_of fields = record { shape = (kind Kind.struct).shape; parts = fields }
+struct_of fields = record { shape = (kind Kind.STRUCT).shape; parts = fields }
 
 abbrev pub pair : Question → DataType → DataType → Option DataType → Words
 pair question l r answer = record { question = question; types = l ∷ r ∷ []; answer = answer }
 
 abbrev pub pairs : DataType → DataType → Option DataType → List Words → List Words
-pairs l r answer rest = pair list l r answer ∷ pair union l r answer ∷ pair compare l r answer ∷ rest
+pairs l r answer rest = pair Question.List l r answer ∷ pair Question.Union l r answer ∷ pair Question.Compare l r answer ∷ rest
 
 abbrev pub words : List Words
 words =
-    record { question = list; types = []; answer = None }
-    ∷ pair list (kind Kind.null) (kind Kind.null) (Some (kind Kind.null))
-    ∷ pair list (kind Kind.binary) (kind Kind.null) None
-    ∷ pairs (kind Kind.uint64) (kind Kind.int8) (Some (dec Kind.decimal128 20 (128 + 0)))
-    (pairs (kind Kind.uint32) (kind Kind.int8) (Some (kind Kind.int64))
-    (pairs (dec Kind.decimal32 9 (128 + 2)) (kind Kind.int64) (Some (kind Kind.int64))
-    (pairs (dec Kind.decimal128 38 (128 + 0)) (dec Kind.decimal128 38 (128 + 10)) (Some (dec Kind.decimal128 38 (128 + 10)))
-    (pairs (dec Kind.decimal32 9 (128 + 0)) (dec Kind.decimal64 18 (128 + 9)) (Some (dec Kind.decimal64 18 (128 + 9)))
-    (pairs (dec Kind.decimal32 9 (128 + 0)) (dec Kind.decimal64 18 (128 + 10)) None
-    (pairs (dec Kind.decimal128 5 (128 - 3)) (dec Kind.decimal128 4 (128 + 0)) (Some (dec Kind.decimal128 8 (128 + 0)))
-    (pair union (kind Kind.utf8) (kind Kind.int32) (Some (kind Kind.utf8))
-    ∷ pair list (kind Kind.utf8) (kind Kind.int32) (Some (kind Kind.int32))
-    ∷ pair compare (kind Kind.utf8) (kind Kind.int32) (Some (kind Kind.int32))
-    ∷ pair compare (kind Kind.date32) (kind Kind.int8) (Some (kind Kind.date32))
-    ∷ pair list (kind Kind.date32) (kind Kind.int8) None
-    ∷ pairs (kind Kind.int64) (dec Kind.decimal128 7 (128 + 2)) (Some (dec Kind.decimal128 22 (128 + 2)))
-    (pair list (zoned_second 65) (zoned_second 66) (Some (zoned_second 66))
-    ∷ pair list (struct_of (item 97 true (item 98 false end))) (struct_of (item 98 false (item 97 false end))) (Some (struct_of (item 98 true (item 97 false end))))
+    record { question = Question.List; types = []; answer = None }
+    ∷ pair Question.List (kind Kind.NULL) (kind Kind.NULL) (Some (kind Kind.NULL))
+    ∷ pair Question.List (kind Kind.BINARY) (kind Kind.NULL) None
+    ∷ pairs (kind Kind.UINT64) (kind Kind.INT8) (Some (dec Kind.DECIMAL128 20 (128 + 0)))
+    (pairs (kind Kind.UINT32) (kind Kind.INT8) (Some (kind Kind.INT64))
+    (pairs (dec Kind.DECIMAL32 9 (128 + 2)) (kind Kind.INT64) (Some (kind Kind.INT64))
+    (pairs (dec Kind.DECIMAL128 38 (128 + 0)) (dec Kind.DECIMAL128 38 (128 + 10)) (Some (dec Kind.DECIMAL128 38 (128 + 10)))
+    (pairs (dec Kind.DECIMAL32 9 (128 + 0)) (dec Kind.DECIMAL64 18 (128 + 9)) (Some (dec Kind.DECIMAL64 18 (128 + 9)))
+    (pairs (dec Kind.DECIMAL32 9 (128 + 0)) (dec Kind.DECIMAL64 18 (128 + 10)) None
+    (pairs (dec Kind.DECIMAL128 5 (128 - 3)) (dec Kind.DECIMAL128 4 (128 + 0)) (Some (dec Kind.DECIMAL128 8 (128 + 0)))
+    (pair Question.Union (kind Kind.UTF8) (kind Kind.INT32) (Some (kind Kind.UTF8))
+    ∷ pair Question.List (kind Kind.UTF8) (kind Kind.INT32) (Some (kind Kind.INT32))
+    ∷ pair Question.Compare (kind Kind.UTF8) (kind Kind.INT32) (Some (kind Kind.INT32))
+    ∷ pair Question.Compare (kind Kind.DATE32) (kind Kind.INT8) (Some (kind Kind.DATE32))
+    ∷ pair Question.List (kind Kind.DATE32) (kind Kind.INT8) None
+    ∷ pairs (kind Kind.INT64) (dec Kind.DECIMAL128 7 (128 + 2)) (Some (dec Kind.DECIMAL128 22 (128 + 2)))
+    (pair Question.List (zoned_second 65) (zoned_second 66) (Some (zoned_second 66))
+    ∷ pair Question.List (struct_of (item 97 true (item 98 false end))) (struct_of (item 98 false (item 97 false end))) (Some (struct_of (item 98 true (item 97 false end))))
     ∷ []))))))))
 
 -- a line of that table in bytes

@@ -2,9 +2,10 @@
 use Rattle.std.specs.Prelude.{◌≡◌, ℕ, ◌+◌, ◌*◌, ◌≤◌, false, length, replicate}
 use mathlib.Core.List.{List, [], ◌∷◌, Perm, flatten}
 use Rattle.sheet.specs.Encode.{encode}
-use Rattle.coercion.specs.Data.{DataType, list, plain, of_kind}
+use Rattle.coercion.specs.Data.{DataType, plain, of_kind}
 use Rattle.coercion.specs.Numbers.{decimal}
 use Rattle.coercion.specs.Families.{Family, integers, decimals, AllIn, SomeIn, null_type}
+use Rattle.coercion.specs.declared.Question.{Question}
 use Rattle.answers.specs.Call.{Call, bad_mask}
 use Rattle.answers.specs.Listed.{listed}
 use Rattle.answers.specs.LeastType.{Asks, Answers, Calls, NonEmpty, Settles}
@@ -63,7 +64,7 @@ tenth = plain (decimal 16 38 138)
 abbrev pub call_on : ℕ → List DataType → Call
 call_on mask ts =
     record {
-      question = list;
+      question = Question.List;
       sheet = encode (listed ts);
       mask = mask;
       output = replicate 100 7;

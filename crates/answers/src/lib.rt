@@ -7,12 +7,13 @@ pub mod laws;
 mod refuse;
 
 ghost use Rattle.std.specs.Prelude.{◌≡◌};
-ghost use Rattle.coercion.specs.Data as Data;
 ghost use Rattle.answers.specs.Call.{outcome};
 ghost use Rattle.answers.specs.declared.Refusal.TheVariants.{Sheet};
 ghost use Rattle.answers.specs.Code.{number_of, reply_of, call_of, seen};
+ghost use Rattle.coercion.specs.declared.Question.{Question};
 
-use buffers::{Question, Space};
+use buffers::Space;
+use coercion::{Question, Rules};
 use emit::write_type;
 use refusals::check_whole;
 use refusals::header::Whole;
@@ -62,53 +63,50 @@ pub type Answer = Result<Option<usize>, Refusal>;
 /// as many; what stands in them does not matter. Where the call is not refused, the first bytes of `work`, twice as
 /// many as the sheet has, are zero after it.
 pub fn type_union_resolution(sheet: &[u8], mask: u64, output: &mut [u8], work: &mut [u8]) -> Answer
-    ensures { record { reply = reply_of result; output = output.new; work = work.new } ≡ outcome (record { question = Data.list; sheet = sheet.now; mask = mask; output = output.old; work = work.old }) }
+    ensures { record { reply = reply_of result; output = output.new; work = work.new } ≡ outcome (record { question = Question.List; sheet = sheet.now; mask = mask; output = output.old; work = work.old }) }
 {
-    ask(Question::List, sheet, mask, output, work)
+    let question = Question::List;
+    ask(Rules { question, mask }, sheet, output, work)
 }
 
 /// The common type of two listed types in a union, the source's `type_union_coercion`. The buffers are those of
 /// `type_union_resolution`.
 pub fn type_union_coercion(sheet: &[u8], mask: u64, output: &mut [u8], work: &mut [u8]) -> Answer
-    ensures { record { reply = reply_of result; output = output.new; work = work.new } ≡ outcome (record { question = Data.union; sheet = sheet.now; mask = mask; output = output.old; work = work.old }) }
+    ensures { record { reply = reply_of result; output = output.new; work = work.new } ≡ outcome (record { question = Question.Union; sheet = sheet.now; mask = mask; output = output.old; work = work.old }) }
 {
-    ask(Question::Union, sheet, mask, output, work)
+    let question = Question::Union;
+    ask(Rules { question, mask }, sheet, output, work)
 }
 
 /// The type that two listed types are compared as, the source's `comparison_coercion`. The buffers are those of
 /// `type_union_resolution`.
 pub fn comparison_coercion(sheet: &[u8], mask: u64, output: &mut [u8], work: &mut [u8]) -> Answer
-    ensures { record { reply = reply_of result; output = output.new; work = work.new } ≡ outcome (record { question = Data.compare; sheet = sheet.now; mask = mask; output = output.old; work = work.old }) }
+    ensures { record { reply = reply_of result; output = output.new; work = work.new } ≡ outcome (record { question = Question.Compare; sheet = sheet.now; mask = mask; output = output.old; work = work.old }) }
 {
-    ask(Question::Compare, sheet, mask, output, work)
+    let question = Question::Compare;
+    ask(Rules { question, mask }, sheet, output, work)
 }
 
 // A call, whatever it asks.
-fn ask(question: Question, sheet: &[u8], mask: u64, output: &mut [u8], work: &mut [u8]) -> Answer
-    ensures { seen result output.new work.new ≡ outcome (call_of question sheet.now mask output.old work.old) }
+fn ask(rules: Rules, sheet: &[u8], output: &mut [u8], work: &mut [u8]) -> Answer
+    ensures { seen result output.new work.new ≡ outcome (call_of rules sheet.now output.old work.old) }
 {
     let Some(whole) = Whole::of(sheet) else {
         return Err(Refusal::Sheet(sheet::Refusal::Torn));
     };
-    ask_whole(question, whole, mask, output, work)
+    ask_whole(rules, whole, output, work)
 }
 
 /// A call, whatever it asks, on a sheet that is not torn.
-pub fn ask_whole(
-    question: Question,
-    whole: Whole<'_>,
-    mask: u64,
-    output: &mut [u8],
-    work: &mut [u8],
-) -> Answer
-    ensures { seen result output.new work.new ≡ outcome (call_of question whole.entry.sheet.now mask output.old work.old) }
+pub fn ask_whole(rules: Rules, whole: Whole<'_>, output: &mut [u8], work: &mut [u8]) -> Answer
+    ensures { seen result output.new work.new ≡ outcome (call_of rules whole.entry.sheet.now output.old work.old) }
 {
     let Sizes { n, m } = check_whole(whole)?;
     let sheet = whole.sheet;
     let half = sheet.len();
     let space = Space { n, m, half };
-    refused(question, sheet, space, mask, output.len(), work.len())?;
-    let answer = match resolution::answer(sheet, work, space, question, mask) {
+    refused(rules, sheet, space, output.len(), work.len())?;
+    let answer = match resolution::answer(sheet, work, space, rules) {
         Ok(end) => Some(write_type(&*work, space, end, output)),
         Err(_) => None,
     };

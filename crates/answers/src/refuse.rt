@@ -3,13 +3,12 @@ ghost use Rattle.std.specs.Prelude.{◌≡◌, ◌*◌, ◌<◌, ◌≤◌, eqb}
 ghost use Rattle.sheet.specs.Types.{Fields, arity};
 ghost use Rattle.sheet.specs.Read.{start};
 ghost use Rattle.sheet.specs.Holds.{Leads};
-ghost use Rattle.buffers.specs.Plain.{asked};
 ghost use Rattle.answers.specs.Call.{bad_mask, bad_pair};
 ghost use Rattle.answers.specs.Code.{number_met, is_short, Measured, later_refusal};
 
 use crate::Refusal;
-use buffers::plain::is_list_question;
-use buffers::{Question, Space};
+use buffers::Space;
+use coercion::Rules;
 use sheet::record::head_at;
 
 // Whether a mask has a bit outside 1 to 38.
@@ -32,11 +31,11 @@ fn is_pair(sheet: &[u8], n: usize) -> bool
 }
 
 // Whether a question wants two types and the sheet does not list two.
-fn is_bad_pair(question: Question, sheet: &[u8], space: Space) -> bool
+fn is_bad_pair(rules: Rules, sheet: &[u8], space: Space) -> bool
     requires { Measured sheet.now space }
-    ensures { result ≡ bad_pair (asked question) sheet.now }
+    ensures { result ≡ bad_pair rules.question sheet.now }
 {
-    !is_list_question(question) && !is_pair(sheet, space.n)
+    !rules.is_list_question() && !is_pair(sheet, space.n)
 }
 
 // Whether an output or a work space is too short for a sheet.
@@ -49,20 +48,19 @@ fn is_short(sheet: usize, output: usize, work: usize) -> bool
 
 // The refusal of the lowest number, of 6, 7 and 8, that an accepted sheet meets.
 pub(crate) fn refused(
-    question: Question,
+    rules: Rules,
     sheet: &[u8],
     space: Space,
-    mask: u64,
     output: usize,
     work: usize,
 ) -> Result<(), Refusal>
     requires { Measured sheet.now space }
-    ensures { number_met result ≡ later_refusal (asked question) sheet.now mask output work }
+    ensures { number_met result ≡ later_refusal rules.question sheet.now rules.mask output work }
 {
-    if is_bad_mask(mask) {
+    if is_bad_mask(rules.mask) {
         return Err(Refusal::Mask);
     }
-    if is_bad_pair(question, sheet, space) {
+    if is_bad_pair(rules, sheet, space) {
         return Err(Refusal::Pair);
     }
     if is_short(space.half, output, work) {

@@ -10,8 +10,9 @@ use lib.ListN.{length}
 use Rattle.sheet.specs.Types.{Zone, absent, present, Shape, zone_bytes}
 use Rattle.sheet.specs.Head.{head_at, zoned_in}
 use Rattle.sheet.specs.declared.Head.{Head}
-use Rattle.coercion.specs.Data.{DataType, Rules, size, of_unit, zoned}
+use Rattle.coercion.specs.Data.{DataType, size, of_unit, zoned}
 use Rattle.coercion.specs.Times.{zone_coercion}
+use Rattle.coercion.specs.declared.Rules.{Rules}
 use Rattle.buffers.specs.Writes.{side}
 use Rattle.buffers.specs.Goal.{letters, Means, LaidZoned, CopiedType}
 use Rattle.buffers.specs.Plain.{plain_rules}

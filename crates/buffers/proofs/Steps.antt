@@ -6,22 +6,22 @@ use Prim.Native.Nat.{ℕ, ◌<◌}
 use native.Mathlib.Omega.{arith}
 use lib.Dec.{eqb}
 use borrow.Author.Tests.{ne_eqb}
-use Rattle.sheet.specs.Kind as Kind
-use Rattle.sheet.specs.Kind.{is_kind}
+use Rattle.sheet.specs.declared.kind.TheConstants as Kind
+use Rattle.sheet.specs.Kind.{is_kind, is_string, is_date, is_time}
 use Rattle.sheet.specs.Types.{Zone, absent, present}
 use Rattle.sheet.specs.Tests.{between}
 use Rattle.sheet.specs.declared.Head.{Head}
 use Rattle.sheet.proofs.Tests.{never}
 use Rattle.coercion.specs.declared.Figures.{Figures}
-use Rattle.coercion.specs.Data.{DataType, Question, list, union, compare, as_type}
-use Rattle.coercion.specs.Kinds.{is_string, is_date, is_time}
+use Rattle.coercion.specs.Data.{DataType, as_type, is_list_question}
 use Rattle.coercion.specs.Times.{is_time_with_valid_unit, zone_coercion, temporal_coercion, temporal_coercion_nonstrict_timezone}
 use Rattle.coercion.specs.Rules.{time_of_string, string_temporal_coercion}
 use Rattle.coercion.specs.Answers.{of_kind_type}
 use Rattle.coercion.proofs.Maybe.{cond_is}
 use Rattle.coercion.proofs.Ranked.{kind_from}
+use Rattle.coercion.specs.declared.Question.{Question}
 use Rattle.rules.proofs.Moments.{left_string, right_string, no_string}
-use Rattle.buffers.specs.Plain.{is_list_question, string_time}
+use Rattle.buffers.specs.Plain.{string_time}
 use Rattle.buffers.specs.Steps.{Reads, Figured, KeepsZone}
 
 -- a kind is below 64
@@ -40,7 +40,7 @@ pub kinds_read : (rule : ℕ → ℕ → Option ℕ) {o : Option DataType} {f : 
 kinds_read rule e f p q = e ∙ ap of_kind_type (f ∙ sym (ap₂ rule p q))
 
 -- times that are not both Timestamps
-pub times_read : (l r : DataType) {k j : ℕ} → l.shape.kind ≡ k → r.shape.kind ≡ j → eqb k Kind.timestamp && eqb j Kind.timestamp ≡ false
+pub times_read : (l r : DataType) {k j : ℕ} → l.shape.kind ≡ k → r.shape.kind ≡ j → eqb k Kind.TIMESTAMP && eqb j Kind.TIMESTAMP ≡ false
     → temporal_coercion_nonstrict_timezone l r ≡ as_type (temporal_coercion k j)
 unfolding temporal_coercion_nonstrict_timezone
 times_read l r p q h = rw (p, q, h)
@@ -59,7 +59,7 @@ time_zone l r t h =
     let P = KeepsZone l r in
     cond_is P (is_date t.shape.kind) _ _ h
     (cond_is P (is_time t.shape.kind) _ _ (cond_is P (is_time_with_valid_unit t.shape.kind t.shape.figure) _ _ h tt)
-    (cond_is P (eqb t.shape.kind Kind.timestamp) _ _ h tt))
+    (cond_is P (eqb t.shape.kind Kind.TIMESTAMP) _ _ h tt))
 
 -- and the string has none
 pub string_zone : {x y : Figures} (l r : DataType) → Figured x l → Figured y r → KeepsZone l r (string_temporal_coercion l r)
@@ -71,6 +71,6 @@ string_zone l r p q = go (is_string l.shape.kind) refl (is_string r.shape.kind) 
     go false e false f = rw (no_string l r e f) tt
 
 pub time_paired : (q : Question) (l r : DataType) → is_list_question q ≡ false → string_time q l r ≡ string_temporal_coercion l r
-time_paired list l r h = never (sym h)
-time_paired union l r h = refl
-time_paired compare l r h = refl
+time_paired Question.List l r h = never (sym h)
+time_paired Question.Union l r h = refl
+time_paired Question.Compare l r h = refl

@@ -9,11 +9,10 @@ use lib.Dec.{eqb}
 use lib.ListN.{get_or}
 use borrow.Author.Tests.{not-true}
 use Rattle.sheet.specs.Tests.{between}
-use Rattle.sheet.specs.Kind.{is_kind}
+use Rattle.sheet.specs.Kind.{is_kind, is_numeric, is_string, is_date, is_time}
 use Rattle.sheet.proofs.Tests.{never, and_fst, and_snd, or_fst, or_snd}
 use Rattle.coercion.specs.declared.Figures.{Figures}
-use Rattle.coercion.specs.Data.{DataType, Rules, Question, list, union, compare, first_of, figures_of, as_type}
-use Rattle.coercion.specs.Kinds.{is_numeric, is_string, is_date, is_time}
+use Rattle.coercion.specs.Data.{DataType, first_of, figures_of, as_type}
 use Rattle.coercion.specs.Numbers.{binary_numeric_coercion}
 use Rattle.coercion.specs.Times.{temporal_coercion, temporal_coercion_nonstrict_timezone}
 use Rattle.coercion.specs.Strings.{string_coercion, binary_coercion}
@@ -22,6 +21,8 @@ use Rattle.coercion.specs.Answers.{of_kind_type, string_number}
 use Rattle.coercion.proofs.Ranked.{kind_from}
 use Rattle.coercion.proofs.Tables.{below2, at2}
 use Rattle.coercion.proofs.Words.{or_none}
+use Rattle.coercion.specs.declared.Question.{Question}
+use Rattle.coercion.specs.declared.Rules.{Rules}
 use Rattle.buffers.specs.Plain.{string_time, plain_answers, plain_rules}
 use Rattle.buffers.specs.Laws.{picked, PickedRule}
 use Rattle.buffers.specs.Steps.{Figured}
@@ -104,18 +105,18 @@ module _ (rules : Rules) (l r : DataType) where
   no_number q h = go q (or_fst (is_numeric k && is_string j) _ h) (or_snd (is_numeric k && is_string j) _ h)
     where
       go : (q : Question) → is_numeric k && is_string j ≡ false → is_string k && is_numeric j ≡ false → string_number q l r ≡ None
-      go list a b = rw (a, b)
-      go union a b = rw (a, b)
-      go compare a b = rw (a, b)
+      go Question.List a b = rw (a, b)
+      go Question.Union a b = rw (a, b)
+      go Question.Compare a b = rw (a, b)
 
   no_moment : (is_string k && is_moment j) || (is_string j && is_moment k) ≡ false → string_temporal_coercion l r ≡ None
   unfolding string_temporal_coercion
   no_moment h = rw (no_time l r (or_fst (is_string k && is_moment j) _ h), no_time r l (or_snd (is_string k && is_moment j) _ h))
 
   no_string_time : (q : Question) → (is_string k && is_moment j) || (is_string j && is_moment k) ≡ false → string_time q l r ≡ None
-  no_string_time list h = refl
-  no_string_time union h = no_moment h
-  no_string_time compare h = no_moment h
+  no_string_time Question.List h = refl
+  no_string_time Question.Union h = no_moment h
+  no_string_time Question.Compare h = no_moment h
 
   no_numbers : is_numeric k && is_numeric j ≡ false → as_type (binary_numeric_coercion (figures_of l) (figures_of r)) ≡ None
   unfolding binary_numeric_coercion

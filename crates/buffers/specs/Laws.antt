@@ -2,23 +2,23 @@
 use Rattle.std.specs.Prelude.{◌≡◌, ℕ, ◌<◌, Bool, true, cond, ◌&&◌, ◌||◌, get_or, eqb}
 use Rattle.std.specs.Prelude.{None}
 use Rattle.sheet.specs.Tests.{between}
-use Rattle.sheet.specs.Kind as Kind
-use Rattle.sheet.specs.Kind.{is_kind}
-use Rattle.coercion.specs.Data.{DataType, Rules}
-use Rattle.coercion.specs.Kinds.{is_numeric, is_string}
+use Rattle.sheet.specs.declared.kind.TheConstants as Kind
+use Rattle.sheet.specs.Kind.{is_kind, is_numeric, is_string}
+use Rattle.coercion.specs.Data.{DataType}
 use Rattle.coercion.specs.Same.{same_type}
+use Rattle.coercion.specs.declared.Rules.{Rules}
 use Rattle.buffers.specs.Plain.{plain_answers, plain_rules}
 use Rattle.buffers.specs.Differ.{type_differs}
 
 -- Date, Time, Timestamp, Interval or Duration
 abbrev pub is_timed : ℕ → Bool
-is_timed k = between Kind.date32 Kind.duration k
+is_timed k = between Kind.DATE32 Kind.DURATION k
 
 -- the place, from 0 on, of the one rule for types without parts that two kinds pick
 abbrev pub picked : ℕ → ℕ → ℕ
 picked k j =
     cond (is_numeric k && is_numeric j) 0
-    (cond (eqb k Kind.null || eqb j Kind.null) 3
+    (cond (eqb k Kind.NULL || eqb j Kind.NULL) 3
     (cond (is_string k && is_string j) 2
     (cond ((is_string k || is_string j) && (is_numeric k || is_numeric j)) 4
     (cond ((is_string k || is_string j) && (is_timed k || is_timed j)) 5

@@ -1,35 +1,20 @@
--- The question that is asked, and the rules for types without parts.
+-- The rules for types without parts.
 use Rattle.std.specs.Prelude.{ℕ, Bool, true, false, List, [], ◌∷◌}
 use Rattle.std.specs.Prelude.{Option, None}
-use Rattle.coercion.specs.Data.{DataType, Rules, first_of, figures_of, as_type}
-use Rattle.coercion.specs.Data as Data
+use Rattle.coercion.specs.Data.{DataType, first_of, figures_of, as_type}
 use Rattle.coercion.specs.Strings.{string_coercion, binary_coercion}
 use Rattle.coercion.specs.Times.{temporal_coercion_nonstrict_timezone}
 use Rattle.coercion.specs.Numbers.{binary_numeric_coercion}
 use Rattle.coercion.specs.Rules.{null_coercion, string_temporal_coercion}
 use Rattle.coercion.specs.Answers.{of_kind_type, string_number}
-use Rattle.buffers.specs.declared.Question.{Question}
-
--- the question that is asked
-abbrev pub asked : Question → Data.Question
-asked Question.List = Data.list
-asked Question.Union = Data.union
-asked Question.Compare = Data.compare
-
-abbrev pub rules_of : Question → ℕ → Rules
-rules_of q mask = record { question = asked q; mask = mask }
-
--- a list looks at names, the other questions do not
-abbrev pub is_list_question : Data.Question → Bool
-is_list_question Data.list = true
-is_list_question Data.union = false
-is_list_question Data.compare = false
+use Rattle.coercion.specs.declared.Question.{Question}
+use Rattle.coercion.specs.declared.Rules.{Rules}
 
 -- `string_temporal_coercion`, of which a list knows nothing
-abbrev pub string_time : Data.Question → DataType → DataType → Option DataType
-string_time Data.list l r = None
-string_time Data.union l r = string_temporal_coercion l r
-string_time Data.compare l r = string_temporal_coercion l r
+abbrev pub string_time : Question → DataType → DataType → Option DataType
+string_time Question.List l r = None
+string_time Question.Union l r = string_temporal_coercion l r
+string_time Question.Compare l r = string_temporal_coercion l r
 
 -- what each rule for types without parts says, in the order in which they are tried
 abbrev pub plain_answers : Rules → DataType → DataType → List (Option DataType)

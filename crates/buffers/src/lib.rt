@@ -25,29 +25,6 @@ pub mod stamp;
 pub mod write;
 
 use coercion::Figures;
-use std::fmt;
-
-/// What is asked of listed types.
-#[derive(Clone, Copy)]
-pub enum Question {
-    /// `type_union_resolution`, of any number of types.
-    List,
-    /// `type_union_coercion`, of two types.
-    Union,
-    /// `comparison_coercion`, of two types.
-    Compare,
-}
-
-/// Writes `list`, `union` or `compare`.
-impl fmt::Display for Question {
-    fn fmt<W: fmt::Write>(&self, f: &mut fmt::Formatter<W>) -> fmt::Result {
-        f.write_str(match self {
-            Question::List => "list",
-            Question::Union => "union",
-            Question::Compare => "compare",
-        })
-    }
-}
 
 /// The sizes that all functions share: `n` records of the sheet, its header among them; `m` label
 /// bytes; and `half`, the bytes of half of the work space, as many as the sheet has.

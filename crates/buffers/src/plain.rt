@@ -9,39 +9,35 @@ ghost use Rattle.coercion.specs.Times.{temporal_coercion_nonstrict_timezone};
 ghost use Rattle.coercion.specs.Rules.{null_coercion};
 ghost use Rattle.coercion.specs.Answers.{of_kind_type, string_number};
 ghost use Rattle.coercion.specs.Meaning.{side_of, moment_of};
-ghost use Rattle.buffers.specs.Plain.{asked, rules_of, is_list_question, string_time, plain_rules};
+ghost use Rattle.buffers.specs.Plain.{string_time, plain_rules};
 ghost use Rattle.buffers.specs.Steps.{Reads, Figured, step_of, KeepsZone, list_kind, list_size};
 
-use crate::{Question, Step};
-use coercion::{Figures, Moment, Side};
-use kinds::tests::{is_numeric, is_string};
+use crate::Step;
+use coercion::{Figures, Moment, Question, Rules, Side};
 use numeric::numbers::binary_numeric_coercion;
 use rules::sides::{
     null_coercion, string_numeric_coercion, string_numeric_union_coercion, string_temporal_coercion,
 };
 use rules::strings::{binary_coercion, string_coercion};
-use rules::times::{temporal_coercion, timeunit_coercion};
+use rules::times::{NANOSECOND, temporal_coercion, timeunit_coercion};
 use sheet::Head;
-use sheet::figure::within;
-
-/// Whether the question is a list's: then names are compared, and strings become no times.
-pub fn is_list_question(question: Question) -> bool
-    ensures { result ≡ is_list_question (asked question) }
-{
-    matches!(question, Question::List)
-}
+use sheet::kind::{self, is_numeric, is_string, within};
 
 /// The kind of two lists' common list, as `list_coercion` has it: FixedSizeList for two of one
 /// size, LargeList where one is, else List.
 pub fn list_kind(x: Head, y: Head) -> u8
     ensures { result ≡ list_kind x y }
 {
-    if x.kind == 34 && y.kind == 34 {
-        if x.quad == y.quad { 34 } else { 32 }
-    } else if x.kind == 33 || y.kind == 33 {
-        33
+    if x.kind == kind::FIXED_SIZE_LIST && y.kind == kind::FIXED_SIZE_LIST {
+        if x.quad == y.quad {
+            kind::FIXED_SIZE_LIST
+        } else {
+            kind::LIST
+        }
+    } else if x.kind == kind::LARGE_LIST || y.kind == kind::LARGE_LIST {
+        kind::LARGE_LIST
     } else {
-        32
+        kind::LIST
     }
 }
 
@@ -50,7 +46,7 @@ pub fn list_size(x: Head, y: Head) -> usize
     requires { Bounded y }
     ensures { (result ≡ list_size x y) × (result < 4294967296) }
 {
-    if x.kind == 34 && y.kind == 34 && x.quad == y.quad {
+    if x.kind == kind::FIXED_SIZE_LIST && y.kind == kind::FIXED_SIZE_LIST && x.quad == y.quad {
         y.quad
     } else {
         0
@@ -85,7 +81,7 @@ fn of_moment(m: Option<Moment>) -> Option<Step>
     m.map(|moment| match moment {
         Moment::Left => Step::Left,
         Moment::Right => Step::Right,
-        Moment::LeftNanoseconds | Moment::RightNanoseconds => Step::Stamp(3),
+        Moment::LeftNanoseconds | Moment::RightNanoseconds => Step::Stamp(NANOSECOND),
     })
 }
 
@@ -98,7 +94,7 @@ fn numeric(x: Figures, y: Figures) -> Option<Step>
 fn temporal(x: Figures, y: Figures) -> Option<Step>
     ensures { (l r : DataType) → Figured x l → Figured y r → step_of result l r ≡ temporal_coercion_nonstrict_timezone l r }
 {
-    if x.kind == 22 && y.kind == 22 {
+    if x.kind == kind::TIMESTAMP && y.kind == kind::TIMESTAMP {
         return Some(Step::Stamp(timeunit_coercion(x.figure, y.figure)));
     }
     of_common(temporal_coercion(x.kind, y.kind))
@@ -113,19 +109,19 @@ fn null(mask: u64, x: Figures, y: Figures) -> Option<Step>
     of_side(null_coercion(mask, x.kind, y.kind))
 }
 
-fn string_number(question: Question, x: Figures, y: Figures) -> Option<Step>
-    ensures { (l r : DataType) → Figured x l → Figured y r → step_of result l r ≡ string_number (asked question) l r }
+fn string_number(rules: Rules, x: Figures, y: Figures) -> Option<Step>
+    ensures { (l r : DataType) → Figured x l → Figured y r → step_of result l r ≡ string_number rules.question l r }
 {
-    match question {
+    match rules.question {
         Question::List | Question::Compare => of_side(string_numeric_coercion(x.kind, y.kind)),
         Question::Union => of_side(string_numeric_union_coercion(x.kind, y.kind)),
     }
 }
 
-fn string_time(question: Question, x: Figures, y: Figures) -> Option<Step>
-    ensures { (l r : DataType) → Figured x l → Figured y r → step_of result l r ≡ string_time (asked question) l r }
+fn string_time(rules: Rules, x: Figures, y: Figures) -> Option<Step>
+    ensures { (l r : DataType) → Figured x l → Figured y r → step_of result l r ≡ string_time rules.question l r }
 {
-    if is_list_question(question) {
+    if rules.is_list_question() {
         return None;
     }
     of_moment(string_temporal_coercion(x.kind, x.figure, y.kind, y.figure))
@@ -134,8 +130,8 @@ fn string_time(question: Question, x: Figures, y: Figures) -> Option<Step>
 /// What the rules for types without parts say of two types of these figures. Of two kinds one rule
 /// at most says a type (`laws::picked_rule`), so the tests find that rule and the others are not
 /// asked.
-pub fn plain_step(question: Question, mask: u64, x: Figures, y: Figures) -> Option<Step>
-    ensures { (l r : DataType) → Figured x l → Figured y r → step_of result l r ≡ plain_rules (rules_of question mask) l r }
+pub fn plain_step(rules: Rules, x: Figures, y: Figures) -> Option<Step>
+    ensures { (l r : DataType) → Figured x l → Figured y r → step_of result l r ≡ plain_rules rules l r }
 {
     let k = x.kind;
     let j = y.kind;
@@ -144,8 +140,8 @@ pub fn plain_step(question: Question, mask: u64, x: Figures, y: Figures) -> Opti
     if n && m {
         return numeric(x, y);
     }
-    if k == 1 || j == 1 {
-        return null(mask, x, y);
+    if k == kind::NULL || j == kind::NULL {
+        return null(rules.mask, x, y);
     }
     let s = is_string(k);
     let t = is_string(j);
@@ -154,11 +150,11 @@ pub fn plain_step(question: Question, mask: u64, x: Figures, y: Figures) -> Opti
     }
     let worded = s || t;
     if worded && (n || m) {
-        return string_number(question, x, y);
+        return string_number(rules, x, y);
     }
-    let timed = within(18, 24, k) || within(18, 24, j);
+    let timed = within(kind::DATE32, kind::DURATION, k) || within(kind::DATE32, kind::DURATION, j);
     if worded && timed {
-        return string_time(question, x, y);
+        return string_time(rules, x, y);
     }
     if timed {
         return temporal(x, y);
@@ -177,8 +173,8 @@ fn figures(h: Head) -> Figures
 }
 
 /// The same, from the heads of two records.
-pub fn plain(question: Question, mask: u64, x: Head, y: Head) -> Option<Step>
-    ensures { (l r : DataType) → Reads x l → Reads y r → step_of result l r ≡ plain_rules (rules_of question mask) l r }
+pub fn plain(rules: Rules, x: Head, y: Head) -> Option<Step>
+    ensures { (l r : DataType) → Reads x l → Reads y r → step_of result l r ≡ plain_rules rules l r }
 {
-    plain_step(question, mask, figures(x), figures(y))
+    plain_step(rules, figures(x), figures(y))
 }

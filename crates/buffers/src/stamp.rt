@@ -6,18 +6,18 @@ ghost use Rattle.sheet.specs.Bounds.{Filled};
 ghost use Rattle.buffers.specs.Writes.{side};
 ghost use Rattle.buffers.specs.Region.{Room, Ready};
 ghost use Rattle.buffers.specs.Goal.{LaidZoned};
-ghost use Rattle.buffers.specs.Plain.{rules_of, plain_rules};
+ghost use Rattle.buffers.specs.Plain.{plain_rules};
 ghost use Rattle.buffers.specs.Steps.{step_of, place_of, either_zone};
 ghost use Rattle.buffers.specs.Typed.{Merges};
 
 use crate::lay::{copy_type, lay_plain, lay_zoned};
 use crate::plain::plain;
 use crate::write::{look, sides};
-use crate::{Failure, Goal, Out, Question, Space, Step};
-use coercion::Figures;
+use crate::{Failure, Goal, Out, Space, Step};
+use coercion::{Figures, Rules};
 use rules::zone::{Place, zone_coercion};
-use sheet::Head;
 use sheet::label::fill;
+use sheet::{Head, kind};
 
 // Where the zone of a record stands in a slice of a length: what lies inside, where the slice ends
 // before it does.
@@ -72,7 +72,7 @@ fn stamp_zoned(
     // The zone is held here, as it may stand in what is then written.
     let mut buf = [0u8; 255];
     let k = zone_into(sheet, &*work, space.n, swap, x, y, &mut buf);
-    lay_zoned(work, space, g, 22, unit, &buf[..k])
+    lay_zoned(work, space, g, kind::TIMESTAMP, unit, &buf[..k])
 }
 
 // Writes a Timestamp of a unit with the zone of two types: the left's if it has one, else the
@@ -95,7 +95,7 @@ fn stamp(
     if x.zoned() || y.zoned() {
         return stamp_zoned(sheet, work, space, swap, unit, x, y, g);
     }
-    lay_plain(work, space, g, Figures::of_unit(22, unit))
+    lay_plain(work, space, g, Figures::of_unit(kind::TIMESTAMP, unit))
 }
 
 // Writes what a step says of the types at two links.
@@ -126,18 +126,17 @@ pub fn plain_rule(
     sheet: &[u8],
     work: &mut [u8],
     space: Space,
-    question: Question,
-    mask: u64,
+    rules: Rules,
     swap: bool,
     l: usize,
     r: usize,
     g: Goal,
 ) -> Out
     requires { Room work.old space × Ready space g }
-    ensures { (left : ℕ) → Merges (plain_rules (rules_of question mask)) space left swap sheet.now work.old work.new l r g result }
+    ensures { (left : ℕ) → Merges (plain_rules rules) space left swap sheet.now work.old work.new l r g result }
 {
     let x = look(sheet, &*work, swap, l);
     let y = look(sheet, &*work, !swap, r);
-    let step = plain(question, mask, x, y).ok_or(Failure::NoType)?;
+    let step = plain(rules, x, y).ok_or(Failure::NoType)?;
     lay_step(sheet, work, space, swap, step, l, r, g)
 }

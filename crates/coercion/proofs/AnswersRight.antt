@@ -7,7 +7,7 @@ use native.Mathlib.Omega.{arith}
 use Rattle.sheet.specs.Types.{Fields, end, field}
 use Rattle.sheet.specs.Names.{names_differ}
 use Rattle.sheet.specs.Carried.{FieldsRight, Carried}
-use Rattle.coercion.specs.Data.{DataType, single, types_of, Question, Rules}
+use Rattle.coercion.specs.Data.{DataType, single, types_of}
 use Rattle.coercion.specs.Answers.{coercion, answer_of}
 use Rattle.coercion.proofs.Maybe.{If, if_weak, if_some}
 use Rattle.coercion.proofs.Folding.{total, Each, Under, answer_kept}
@@ -16,6 +16,8 @@ use Rattle.coercion.proofs.Lighter.{coercion_light}
 use Rattle.coercion.proofs.Shorter.{answer_smaller, answer_shorter, answer_differ}
 use Rattle.coercion.proofs.PlainRight.{Sound, own_right, unnamed}
 use Rattle.coercion.proofs.NestedRight.{coercion_sound}
+use Rattle.coercion.specs.declared.Question.{Question}
+use Rattle.coercion.specs.declared.Rules.{Rules}
 
 -- a type that a sheet may carry, the limits of a sheet aside
 abbrev pub TypeRight : DataType → Type 0

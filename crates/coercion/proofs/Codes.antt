@@ -2,19 +2,19 @@
 use mathlib.Core.Path.{◌≡◌, ap, sym, subst, ◌∙◌}
 use mathlib.Core.Bool.{false}
 use Rattle.std.specs.Prelude.{Option, Some}
-use Prim.Native.Nat.{ℕ}
-use Rattle.coercion.specs.Data.{DataType}
+use Rattle.coercion.specs.declared.Rules.{Rules}
+use Rattle.coercion.specs.Data.{DataType, for_list}
 use Rattle.coercion.specs.Rules.{is_null}
 use Rattle.coercion.specs.Answers.{coercion}
 use Rattle.coercion.specs.Families.{Family, Member}
-use Rattle.coercion.proofs.Joins.{asking, join, Joins}
+use Rattle.coercion.proofs.Joins.{unmasked, join, Joins}
 
 -- members are the types of the good codes, and what is joined by the rules is joined by the codes
 pub record Coded (f : Family) {C : Type 0} (type_at : C → DataType) (Good : C → Type 0) (up : C → C → C) : Type 0 where
   pub code : (t : DataType) → Member f t → (c : C) × (Good c × (t ≡ type_at c))
   pub back : (c : C) → Good c → Member f (type_at c)
   pub solid : (c : C) → Good c → is_null (type_at c) ≡ false
-  pub answers : (m : ℕ) (c d : C) → Good c → Good d → coercion (asking m) (type_at c) (type_at d) ≡ Some (type_at (up c d))
+  pub answers : (m : Rules) (c d : C) → Good c → Good d → coercion (for_list m) (type_at c) (type_at d) ≡ Some (type_at (up c d))
   pub closed : (c d : C) → Good c → Good d → Good (up c d)
   pub comm : (c d : C) → Good c → Good d → up c d ≡ up d c
   pub assoc : (c d e : C) → Good c → Good d → Good e → up (up c d) e ≡ up c (up d e)
@@ -23,7 +23,7 @@ pub record Coded (f : Family) {C : Type 0} (type_at : C → DataType) (Good : C 
 module _ (f : Family) {C : Type 0} (type_at : C → DataType) (Good : C → Type 0) (up : C → C → C) (laws : Coded f type_at Good up) where
   pub joined : (c d : C) → Good c → Good d → join (type_at c) (type_at d) ≡ type_at (up c d)
   unfolding join
-  joined c d g h = rw (laws.solid c g) (rw (laws.solid d h) (rw (laws.answers 0 c d g h)))
+  joined c d g h = rw (laws.solid c g) (rw (laws.solid d h) (rw (laws.answers unmasked c d g h)))
 
   -- what holds of the types of good codes holds of the members
   pub of_one : (P : DataType → Type 0) → ((c : C) → Good c → P (type_at c)) → (x : DataType) → Member f x → P x
@@ -40,7 +40,7 @@ module _ (f : Family) {C : Type 0} (type_at : C → DataType) (Good : C → Type
   coded_joins =
       record {
         solid = of_one (λ (x : DataType). is_null x ≡ false) laws.solid;
-        answers = λ m. of_two (λ (x y : DataType). coercion (asking m) x y ≡ Some (join x y))
+        answers = λ m. of_two (λ (x y : DataType). coercion (for_list m) x y ≡ Some (join x y))
             (λ c d g h. laws.answers m c d g h ∙ ap {B = Option DataType} Some (sym (joined c d g h)));
         closed = of_two (λ (x y : DataType). Member f (join x y))
             (λ c d g h. subst (Member f) (sym (joined c d g h)) (laws.back (up c d) (laws.closed c d g h)));

@@ -5,10 +5,11 @@ use mathlib.Core.List.{List, [], ◌∷◌}
 use Rattle.std.specs.Prelude.{Some}
 use Prim.Native.Nat.{ℕ, max}
 use Rattle.sheet.specs.Kind.{is_decimal}
-use Rattle.coercion.specs.Data.{DataType}
+use Rattle.coercion.specs.declared.Rules.{Rules}
+use Rattle.coercion.specs.Data.{DataType, for_list}
 use Rattle.coercion.specs.Answers.{numeric, unknown, dateTime, type_union_resolution}
 use Rattle.coercion.specs.Families.{Family, integers, strings, timestamps, decimals, decimal_of, Common, least, AllIn, SomeIn, here, later}
-use Rattle.coercion.proofs.Joins.{asking, all, Joins}
+use Rattle.coercion.proofs.Joins.{all, Joins}
 use Rattle.coercion.proofs.Resolving.{resolved}
 use Rattle.coercion.proofs.Ranked.{integer_at, integer_up, string_at, timestamp_at, ranked_joins, ranked_category, integers_lawful, integers_numbered, strings_lawful, strings_numbered, timestamps_lawful, timestamps_numbered}
 use Rattle.coercion.proofs.Decimals.{decimals_joins, decimals_category}
@@ -18,7 +19,7 @@ use Rattle.coercion.proofs.Outgrowing.{decimals_common}
 -- the list answer of a list of the family is the common type, whatever the mask, the order and the cutting
 pub record Settled (f : Family) : Type 0 where
   pub laws : Joins f
-  pub resolves : (m : ℕ) (t : DataType) (ts : List DataType) → AllIn f (t ∷ ts) → type_union_resolution (asking m) (t ∷ ts) ≡ Some (all (t ∷ ts))
+  pub resolves : (m : Rules) (t : DataType) (ts : List DataType) → AllIn f (t ∷ ts) → type_union_resolution (for_list m) (t ∷ ts) ≡ Some (all (t ∷ ts))
   pub common : (ts : List DataType) → AllIn f ts → SomeIn f ts → Common f ts (all ts)
 
 integers_joins : Joins integers

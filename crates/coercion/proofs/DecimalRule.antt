@@ -10,12 +10,11 @@ use lib.Dec.{leb, eqb}
 use lib.IntN.{sub_ℕ}
 use borrow.Author.Tests.{le-leb, leb-true, eq-eqb, ne_eqb, eqb-true}
 use Rattle.sheet.specs.Tests.{between}
-use Rattle.sheet.specs.Kind.{is_decimal, cap}
+use Rattle.sheet.specs.Kind.{is_decimal, cap, is_numeric}
 use Rattle.sheet.specs.Refusals.{biased, decimal_right, figure_right}
 use Rattle.sheet.proofs.Tests.{all_at, all_cons, all_nil, and_fst, and_snd}
 use Rattle.coercion.specs.declared.Figures.{Figures}
-use Rattle.coercion.specs.Data.{DataType, Question, list, union, compare, Rules, or_else, first_of, plain, as_type}
-use Rattle.coercion.specs.Kinds.{is_numeric}
+use Rattle.coercion.specs.Data.{DataType, or_else, first_of, plain, as_type}
 use Rattle.coercion.specs.Same.{same_type, equal, alike}
 use Rattle.coercion.specs.Numbers.{ahead, get_wider_decimal_type, decimal_coercion, binary_numeric_coercion}
 use Rattle.coercion.specs.Answers.{ask, coercion}
@@ -23,6 +22,8 @@ use Rattle.coercion.specs.Wider.{decimal_of, Wider}
 use Rattle.coercion.proofs.Bridge.{signed_is, scale_is, held_is}
 use Rattle.coercion.proofs.Sameness.{type_equal}
 use Rattle.coercion.proofs.Words.{coercion_step}
+use Rattle.coercion.specs.declared.Question.{Question}
+use Rattle.coercion.specs.declared.Rules.{Rules}
 
 -- a precision and a scale byte that a width with a cap may have
 pub record Fits (most p s : ℕ) : Type 0 where
@@ -178,18 +179,18 @@ module _ (w p s q t : ℕ) (d : is_decimal w ≡ true) (x : decimal_right (cap w
       let e = type_equal named _ _ a in
       ap as_type (same_wider (ap (λ (u : DataType). u.shape.figure) e) (ap (λ (u : DataType). u.shape.scale) e))
 
-  decimals_asked : (question : Question) (mask : ℕ) (coerce : DataType → DataType → Option DataType)
-      → ask question (record { question = question; mask = mask }) coerce (plain (decimal_of w p s)) (plain (decimal_of w q t))
+  decimals_asked : (question : Question) (rules : Rules) (coerce : DataType → DataType → Option DataType)
+      → ask question rules coerce (plain (decimal_of w p s)) (plain (decimal_of w q t))
       ≡ Some (plain (get_wider_decimal_type (decimal_of w p s) (decimal_of w q t)))
   unfolding first_of
-  decimals_asked list mask coerce =
+  decimals_asked Question.List rules coerce =
       let e = decimal_kinds w d in
       rw (ne_eqb w 37 (omega arith), ne_eqb w 38 (omega arith), ne_eqb w 35 (omega arith), numeric_wider)
       (listed (equal (plain (decimal_of w p s)) (plain (decimal_of w q t))) (alike_one true))
-  decimals_asked union mask coerce = rw numeric_wider (paired (alike (plain (decimal_of w p s)) (plain (decimal_of w q t))) (alike_one false))
-  decimals_asked compare mask coerce = rw numeric_wider (paired (alike (plain (decimal_of w p s)) (plain (decimal_of w q t))) (alike_one false))
+  decimals_asked Question.Union rules coerce = rw numeric_wider (paired (alike (plain (decimal_of w p s)) (plain (decimal_of w q t))) (alike_one false))
+  decimals_asked Question.Compare rules coerce = rw numeric_wider (paired (alike (plain (decimal_of w p s)) (plain (decimal_of w q t))) (alike_one false))
 
   -- the answer of all three questions, whatever the mask
   pub decimals_answer : (rules : Rules)
       → coercion rules (plain (decimal_of w p s)) (plain (decimal_of w q t)) ≡ Some (plain (get_wider_decimal_type (decimal_of w p s) (decimal_of w q t)))
-  decimals_answer rules = coercion_step rules _ _ ∙ decimals_asked rules.question rules.mask _
+  decimals_answer rules = coercion_step rules _ _ ∙ decimals_asked rules.question rules _

@@ -12,14 +12,15 @@ use Rattle.sheet.specs.Types.{count}
 use Rattle.sheet.specs.Kind.{is_decimal, cap}
 use Rattle.sheet.specs.Refusals.{biased, decimal_right}
 use Rattle.sheet.proofs.Tests.{and_fst, and_snd, all_at, all_cons, all_nil}
-use Rattle.coercion.specs.Data.{DataType, plain, first_of}
+use Rattle.coercion.specs.declared.Rules.{Rules}
+use Rattle.coercion.specs.Data.{DataType, plain, first_of, for_list}
 use Rattle.coercion.specs.declared.Figures.{Figures}
 use Rattle.coercion.specs.Rules.{is_null}
 use Rattle.coercion.specs.Same.{equal}
 use Rattle.coercion.specs.Numbers.{decimal, wider_scale, wider_precision, get_wider_decimal_type, decimal_coercion, same_figures, binary_numeric_coercion}
 use Rattle.coercion.specs.Answers.{coerce_in, coercion, numeric, category_of, category_number}
 use Rattle.coercion.specs.Families.{decimals, Member, decimal_of}
-use Rattle.coercion.proofs.Joins.{asking, Joins}
+use Rattle.coercion.proofs.Joins.{Joins}
 use Rattle.coercion.proofs.Resolving.{by_test, equal_plain, Categorised}
 use Rattle.coercion.proofs.Codes.{Coded, coded_joins}
 
@@ -95,8 +96,8 @@ numeric_comes w64 p s q t = refl
 numeric_comes w128 p s q t = refl
 numeric_comes w256 p s q t = refl
 
-coercion_comes : {w : ℕ} → Width w → (m p s q t : ℕ) (j : Figures) → binary_numeric_coercion (decimal w p s) (decimal w q t) ≡ Some j
-    → coercion (asking m) (plain (decimal w p s)) (plain (decimal w q t))
+coercion_comes : {w : ℕ} → Width w → (m : Rules) (p s q t : ℕ) (j : Figures) → binary_numeric_coercion (decimal w p s) (decimal w q t) ≡ Some j
+    → coercion (for_list m) (plain (decimal w p s)) (plain (decimal w q t))
     ≡ cond (equal (plain (decimal w p s)) (plain (decimal w q t))) (Some (plain (decimal w p s))) (Some (plain j))
 unfolding coercion coerce_in count first_of
 coercion_comes w32 m p s q t j e = rw e
@@ -125,7 +126,7 @@ module _ (w p s q t : ℕ) (hp : p ≤ cap w) (hs : s < 256) (ht : t < 256) (ks 
       (λ e. ap {B = Option Figures} Some (joined w p s q t hp hs ht ks kt))
 
   -- the list rule for them, whatever the mask
-  decimal_answer : Width w → (m : ℕ) → coercion (asking m) (plain (decimal w p s)) (plain (decimal w q t))
+  decimal_answer : Width w → (m : Rules) → coercion (for_list m) (plain (decimal w p s)) (plain (decimal w q t))
       ≡ Some (plain (decimal w (min (cap w) (max (p + 256 - s) (q + 256 - t) + max s t - 256)) (max s t)))
   decimal_answer v m =
       coercion_comes v m p s q t _ (numeric_answer v)
@@ -229,7 +230,7 @@ module _ (w : ℕ) (known : is_decimal w ≡ true) where
       go w128 = refl
       go w256 = refl
 
-  answer : (m : ℕ) (d e : Extent) → Real w d → Real w e → coercion (asking m) (decimal_at w d) (decimal_at w e) ≡ Some (decimal_at w (widen d e))
+  answer : (m : Rules) (d e : Extent) → Real w d → Real w e → coercion (for_list m) (decimal_at w d) (decimal_at w e) ≡ Some (decimal_at w (widen d e))
   answer m d e g h =
       let c = cap_bounds (width w known) in
       let ga = g.digits in

@@ -4,10 +4,12 @@ use Rattle.std.specs.Prelude.{Option}
 use Prim.Native.Nat.{ℕ, ◌+◌, ◌≤◌}
 use native.Mathlib.Omega.{arith}
 use Rattle.sheet.specs.Tests.{between}
-use Rattle.coercion.specs.Data.{DataType, Question, list, union, compare, Rules}
+use Rattle.coercion.specs.Data.{DataType}
 use Rattle.coercion.specs.Rules.{is_null}
 use Rattle.coercion.specs.Answers.{coercion, notSupported, has_category, categories_in, all_equal, fold_from, fold_types, type_union_resolution, pair_answer, answer_of}
 use Rattle.coercion.proofs.Maybe.{If, if_then, if_weak, cond_is}
+use Rattle.coercion.specs.declared.Question.{Question}
+use Rattle.coercion.specs.declared.Rules.{Rules}
 
 -- what the types of a list weigh together
 abbrev pub total : (DataType → ℕ) → List DataType → ℕ
@@ -58,6 +60,6 @@ module _ (P : DataType → Type 0) (w : DataType → ℕ) (rules : Rules)
   pair_kept (l ∷ r ∷ x ∷ xs) h = tt
 
   pub answer_kept : (q : Question) (ts : List DataType) → Each P ts → If (Under P w (total w ts)) (answer_of q rules ts)
-  answer_kept list ts h = resolution_kept ts h
-  answer_kept union ts h = pair_kept ts h
-  answer_kept compare ts h = pair_kept ts h
+  answer_kept Question.List ts h = resolution_kept ts h
+  answer_kept Question.Union ts h = pair_kept ts h
+  answer_kept Question.Compare ts h = pair_kept ts h

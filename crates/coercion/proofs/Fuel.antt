@@ -6,11 +6,11 @@ use Rattle.std.specs.Prelude.{Option, None, Some}
 use Prim.Native.Nat.{ℕ, zero, suc, ◌+◌, ◌<◌, ◌≤◌}
 use native.Mathlib.Omega.{arith}
 use lib.Dec.{eqb}
-use Rattle.sheet.specs.Kind as Kind
+use Rattle.sheet.specs.declared.kind.TheConstants as Kind
 use Rattle.sheet.specs.Types.{Fields, end, field, arity, count}
 use Rattle.sheet.specs.Names.{same_bytes}
-use Rattle.coercion.specs.Data.{DataType, size, Question, list, union, compare, Rules, and_then, first_of, figures_of, as_type}
-use Rattle.coercion.specs.Kinds.{is_list}
+use Rattle.coercion.specs.Data.{DataType, size, and_then, first_of, figures_of, as_type}
+use Rattle.sheet.specs.Kind.{is_list}
 use Rattle.coercion.specs.Same.{equal, alike}
 use Rattle.coercion.specs.Strings.{string_coercion, binary_coercion}
 use Rattle.coercion.specs.Times.{temporal_coercion_nonstrict_timezone}
@@ -20,6 +20,8 @@ use Rattle.coercion.specs.Wrappers.{value_in, is_of, wrapper_coercion}
 use Rattle.coercion.specs.Nested.{before, join_fields, fields_have_same_names, with_name, by_name, partners, struct_of, struct_coercion, list_shape, list_of, list_coercion, entry_type, entry_of, map_shape, map_coercion}
 use Rattle.coercion.specs.Answers.{of_kind_type, string_number, pair_rules, keep_dictionary, both_parts, run_ends_of, wrapped, list_struct, resolution_coercion, ask, coerce_in, coercion}
 use Rattle.coercion.proofs.Maybe.{If, then_same, if_then, if_cond}
+use Rattle.coercion.specs.declared.Question.{Question}
+use Rattle.coercion.specs.declared.Rules.{Rules}
 
 -- each field of a chain has at most m records
 abbrev pub Within : ℕ → Fields → Type 0
@@ -98,7 +100,7 @@ module _ (n : ℕ) (c d : DataType → DataType → Option DataType) (agree : Ag
     struct_same : struct_coercion c l r ≡ struct_coercion d l r
     unfolding struct_coercion
     struct_same =
-        ap (λ t. cond (is_of Kind.struct l && (is_of Kind.struct r && eqb (arity l.parts) (arity r.parts))) (struct_of t) None)
+        ap (λ t. cond (is_of Kind.STRUCT l && (is_of Kind.STRUCT r && eqb (arity l.parts) (arity r.parts))) (struct_of t) None)
         (then_same (Within (count r.parts)) (partners l.parts r.parts) (λ f. join_fields c l.parts f f) (λ f. join_fields d l.parts f f)
         (within_partners _ l.parts r.parts (within_own r.parts)) (λ f w. join_same (count r.parts) l.parts f f (omega arith) w))
 
@@ -133,7 +135,7 @@ module _ (n : ℕ) (c d : DataType → DataType → Option DataType) (agree : Ag
   map_same : (l r : DataType) → size l + size r ≤ n → map_coercion c l r ≡ map_coercion d l r
   unfolding map_coercion
   map_same l r le =
-      ap (λ t. cond (is_of Kind.map l && is_of Kind.map r) t None)
+      ap (λ t. cond (is_of Kind.MAP l && is_of Kind.MAP r) t None)
       (then_same _ (entry_type l.parts) _ _ (entry_small l.parts)
       (λ a h. then_same _ (entry_type r.parts) _ _ (entry_small r.parts)
       (λ b g. ap (λ o. and_then o (λ t. Some (record { shape = map_shape (l.shape.sorted && r.shape.sorted); parts = entry_of l.parts t }))) (struct_same a b (omega arith)))))
@@ -143,8 +145,8 @@ module _ (rules : Rules) (l r : DataType) (c d : DataType → DataType → Optio
   pair_same : first_of (pair_rules rules c l r) ≡ first_of (pair_rules rules d l r)
   pair_same =
       let n = size l + size r in
-      let dict = wrapper_same n c d agree l r (omega arith) Kind.dictionary in
-      let ree = wrapper_same n c d agree l r (omega arith) Kind.run_end_encoded in
+      let dict = wrapper_same n c d agree l r (omega arith) Kind.DICTIONARY in
+      let ree = wrapper_same n c d agree l r (omega arith) Kind.RUN_END_ENCODED in
       let lists = list_same n c d agree l r (omega arith) in
       let structs = struct_same n c d agree l r (omega arith) in
       let maps = map_same n c d agree l r (omega arith) in
@@ -176,13 +178,13 @@ module _ (rules : Rules) (l r : DataType) (c d : DataType → DataType → Optio
       let lists = list_same n c d agree l r (omega arith) in
       let maps = map_same n c d agree l r (omega arith) in
       λ i. cond (equal l r) (Some l)
-      (cond (is_of Kind.dictionary l && is_of Kind.dictionary r) (both i)
-      (cond (is_of Kind.dictionary l) (keep i)
-      (cond (is_of Kind.dictionary r) (keep' i)
-      (cond (is_of Kind.run_end_encoded l && is_of Kind.run_end_encoded r) (both i)
-      (cond (is_of Kind.run_end_encoded l) (ends i)
-      (cond (is_of Kind.run_end_encoded r) (ends' i)
-      (cond (is_of Kind.struct l && is_of Kind.struct r) (structs i)
+      (cond (is_of Kind.DICTIONARY l && is_of Kind.DICTIONARY r) (both i)
+      (cond (is_of Kind.DICTIONARY l) (keep i)
+      (cond (is_of Kind.DICTIONARY r) (keep' i)
+      (cond (is_of Kind.RUN_END_ENCODED l && is_of Kind.RUN_END_ENCODED r) (both i)
+      (cond (is_of Kind.RUN_END_ENCODED l) (ends i)
+      (cond (is_of Kind.RUN_END_ENCODED r) (ends' i)
+      (cond (is_of Kind.STRUCT l && is_of Kind.STRUCT r) (structs i)
       (first_of
       (as_type (binary_numeric_coercion (figures_of l) (figures_of r))
       ∷ lists i
@@ -195,9 +197,9 @@ module _ (rules : Rules) (l r : DataType) (c d : DataType → DataType → Optio
       ∷ [])))))))))
 
   pub ask_same : (q : Question) → ask q rules c l r ≡ ask q rules d l r
-  ask_same list = resolution_same
-  ask_same union = pair_same
-  ask_same compare = pair_same
+  ask_same Question.List = resolution_same
+  ask_same Question.Union = pair_same
+  ask_same Question.Compare = pair_same
 
 -- the answer is one for every bound that both types' records fit
 pub more : (rules : Rules) (f g : ℕ) (l r : DataType) → size l + size r ≤ f → size l + size r ≤ g → coerce_in f rules l r ≡ coerce_in g rules l r

@@ -3,15 +3,16 @@ use mathlib.Core.Path.{◌≡◌, refl, ap, ap₂, sym, subst, ◌∙◌}
 use mathlib.Core.Bool.{false, cond}
 use mathlib.Core.List.{List, [], ◌∷◌, ◌++◌, map, flatten, Permᴰ}
 use Rattle.std.specs.Prelude.{Option, None, Some}
-use Prim.Native.Nat.{ℕ}
-use Rattle.coercion.specs.Data.{DataType, Rules, list}
+use Rattle.coercion.specs.Data.{DataType, for_list}
 use Rattle.coercion.specs.Rules.{is_null}
 use Rattle.coercion.specs.Answers.{coercion}
 use Rattle.coercion.specs.Families.{Family, Member, InFamily, null, member, AllIn, SomeIn, here, later, null_type}
+use Rattle.coercion.specs.declared.Question.{Question}
+use Rattle.coercion.specs.declared.Rules.{Rules}
 
--- a list question with its mask
-abbrev pub asking : ℕ → Rules
-asking m = record { question = list; mask = m }
+-- the question of a list, where Null may become nothing
+abbrev pub unmasked : Rules
+unmasked = record { question = Question.List; mask = 0 }
 
 abbrev pub or_null : Option DataType → DataType
 or_null None = null_type
@@ -19,7 +20,7 @@ or_null (Some t) = t
 
 -- the common type of two types of a family, with Null as the unit
 unfoldable pub join : DataType → DataType → DataType
-join x y = cond (is_null x) y (cond (is_null y) x (or_null (coercion (asking 0) x y)))
+join x y = cond (is_null x) y (cond (is_null y) x (or_null (coercion unmasked x y)))
 
 -- the common type of a list
 unfoldable pub all : List DataType → DataType
@@ -29,7 +30,7 @@ all (t ∷ ts) = join t (all ts)
 -- what is shown of each family
 pub record Joins (f : Family) : Type 0 where
   pub solid : (x : DataType) → Member f x → is_null x ≡ false
-  pub answers : (m : ℕ) (x y : DataType) → Member f x → Member f y → coercion (asking m) x y ≡ Some (join x y)
+  pub answers : (m : Rules) (x y : DataType) → Member f x → Member f y → coercion (for_list m) x y ≡ Some (join x y)
   pub closed : (x y : DataType) → Member f x → Member f y → Member f (join x y)
   pub comm : (x y : DataType) → Member f x → Member f y → join x y ≡ join y x
   pub assoc : (x y z : DataType) → Member f x → Member f y → Member f z → join (join x y) z ≡ join x (join y z)

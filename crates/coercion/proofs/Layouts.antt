@@ -8,21 +8,22 @@ use Prim.Native.Nat.{ℕ}
 use native.Mathlib.Omega.{arith}
 use native.Mathlib.Decide.{ℕ_discrete}
 use borrow.Author.Tests.{eq-eqb}
-use Rattle.sheet.specs.Kind as Kind
+use Rattle.sheet.specs.declared.kind.TheConstants as Kind
 use Rattle.sheet.specs.Types.{Fields, arity}
 use Rattle.sheet.specs.Names.{repeats}
 use Rattle.sheet.proofs.Tests.{never}
-use Rattle.coercion.specs.Data.{DataType, types_of, list, Rules}
+use Rattle.coercion.specs.Data.{DataType, types_of, for_list}
 use Rattle.coercion.specs.Same.{equal, alike}
 use Rattle.coercion.specs.Nested.{join_fields, fields_have_same_names, by_name, partners, shape_of_kind, struct_coercion}
 use Rattle.coercion.specs.Wrappers.{is_of}
 use Rattle.coercion.specs.Answers.{coercion}
 use Rattle.coercion.proofs.Fuel.{coercion_asks}
-use Rattle.coercion.specs.Columns.{Pairs, rules_for, by_place, Merged, Fed}
+use Rattle.coercion.specs.Columns.{Pairs, by_place, Merged, Fed}
 use Rattle.coercion.proofs.Feeding.{fed, by_name_found, partners_arity}
 use Rattle.coercion.proofs.Words.{all_some, merged_some, struct_answer, list_struct_answer, alike_left, structs_asked, list_structs_asked, structs_unequal}
+use Rattle.coercion.specs.declared.Rules.{Rules}
 
-module _ (rules : Rules) (q : Pairs rules.question) (l r : DataType) (ours : is_of Kind.struct l ≡ true) (theirs : is_of Kind.struct r ≡ true) where
+module _ (rules : Rules) (q : Pairs rules.question) (l r : DataType) (ours : is_of Kind.STRUCT l ≡ true) (theirs : is_of Kind.STRUCT r ≡ true) where
   -- "Where two layouts are alike, the union answer is the left layout"
   pub layouts_alike : alike l r ≡ true → coercion rules l r ≡ Some l
   layouts_alike h = alike_left rules q l r h
@@ -33,11 +34,11 @@ module _ (rules : Rules) (q : Pairs rules.question) (l r : DataType) (ours : is_
 
   -- "Where they are not alike, each column is asked the same question"
   by_rule : alike l r ≡ false → coercion rules l r ≡ struct_coercion (coercion rules) l r
-  by_rule h = coercion_asks rules l r ∙ structs_asked (coercion rules) rules.mask rules.question q l r ours theirs h
+  by_rule h = coercion_asks rules l r ∙ structs_asked (coercion rules) rules rules.question q l r ours theirs h
 
   -- "the column types together are those of the union answer"
   pub layouts_joined : alike l r ≡ false → (t : DataType) → coercion rules l r ≡ Some t
-      → (fields : Fields) × (partners l.parts r.parts ≡ Some fields) × (t.shape ≡ shape_of_kind Kind.struct)
+      → (fields : Fields) × (partners l.parts r.parts ≡ Some fields) × (t.shape ≡ shape_of_kind Kind.STRUCT)
       × Merged (coercion rules) l.parts fields fields t.parts
   layouts_joined h t e = struct_answer (coercion rules) l r t (sym (by_rule h) ∙ e)
 
@@ -61,10 +62,10 @@ module _ (rules : Rules) (q : Pairs rules.question) (l r : DataType) (ours : is_
     layouts_some h a ts e =
         let b = partners_arity l.parts r.parts fields a paired in
         let k = merged_some (coercion rules) l.parts fields fields ts b b e in
-        (record { shape = shape_of_kind Kind.struct; parts = k.0 }, by_rule h ∙ step k.0 k.1)
+        (record { shape = shape_of_kind Kind.STRUCT; parts = k.0 }, by_rule h ∙ step k.0 k.1)
       where
         step : (f : Fields) → join_fields (coercion rules) l.parts fields fields ≡ Some f
-            → struct_coercion (coercion rules) l r ≡ Some (record { shape = shape_of_kind Kind.struct; parts = f })
+            → struct_coercion (coercion rules) l r ≡ Some (record { shape = shape_of_kind Kind.STRUCT; parts = f })
         step f j = rw (ours, theirs, eq-eqb (arity l.parts) (arity r.parts) a, paired) (rw j)
 
   -- "Unless there is no common type, every field of the right feeds exactly one field of the left"
@@ -76,18 +77,18 @@ module _ (rules : Rules) (q : Pairs rules.question) (l r : DataType) (ours : is_
       go (no n) = let i : None ≡ Some t = sym (layouts_unequal n) ∙ e in let z : ◌≡◌ {A = ℕ} 0 1 = cc in absurd (omega arith)
 
 -- In a list: types by name, "In a list the nullability of Structs is joined by place"
-module _ (mask : ℕ) (l r : DataType) (ours : is_of Kind.struct l ≡ true) (theirs : is_of Kind.struct r ≡ true) where
-  pub listed_joined : equal l r ≡ false → (t : DataType) → coercion (rules_for list mask) l r ≡ Some t
-      → (fields : Fields) × (by_name l.parts r.parts ≡ Some fields) × (t.shape ≡ shape_of_kind Kind.struct)
-      × Merged (coercion (rules_for list mask)) l.parts fields r.parts t.parts
+module _ (rules : Rules) (l r : DataType) (ours : is_of Kind.STRUCT l ≡ true) (theirs : is_of Kind.STRUCT r ≡ true) where
+  pub listed_joined : equal l r ≡ false → (t : DataType) → coercion (for_list rules) l r ≡ Some t
+      → (fields : Fields) × (by_name l.parts r.parts ≡ Some fields) × (t.shape ≡ shape_of_kind Kind.STRUCT)
+      × Merged (coercion (for_list rules)) l.parts fields r.parts t.parts
   listed_joined h t e =
-      list_struct_answer (coercion (rules_for list mask)) l r t
-      (sym (coercion_asks (rules_for list mask) l r ∙ list_structs_asked (coercion (rules_for list mask)) mask l r ours theirs h) ∙ e)
+      list_struct_answer (coercion (for_list rules)) l r t
+      (sym (coercion_asks (for_list rules) l r ∙ list_structs_asked (coercion (for_list rules)) rules l r ours theirs h) ∙ e)
 
   -- so a list has no answer where a name of the left is missing on the right
-  pub listed_missing : equal l r ≡ false → fields_have_same_names l.parts r.parts ≡ false → coercion (rules_for list mask) l r ≡ None
-  listed_missing h m = go (coercion (rules_for list mask) l r) refl
+  pub listed_missing : equal l r ≡ false → fields_have_same_names l.parts r.parts ≡ false → coercion (for_list rules) l r ≡ None
+  listed_missing h m = go (coercion (for_list rules) l r) refl
     where
-      go : (o : Option DataType) → coercion (rules_for list mask) l r ≡ o → o ≡ None
+      go : (o : Option DataType) → coercion (for_list rules) l r ≡ o → o ≡ None
       go None e = refl
       go (Some t) e = let k = listed_joined h t e in never (sym m ∙ by_name_found l.parts r.parts k.0 k.1)

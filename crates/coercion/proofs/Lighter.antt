@@ -7,12 +7,12 @@ use Prim.Native.Nat.{ℕ, zero, suc, ◌+◌, ◌≤◌}
 use native.Mathlib.Omega.{arith}
 use lib.Dec.{eqb}
 use borrow.Author.Tests.{eqb-true}
-use Rattle.sheet.specs.Kind as Kind
+use Rattle.sheet.specs.declared.kind.TheConstants as Kind
 use Rattle.sheet.specs.Types.{Zone, absent, present, Shape, Fields, end, field, arity}
 use Rattle.sheet.specs.Names.{same_bytes, has_name, repeats}
 use Rattle.sheet.proofs.Tests.{never, and_fst}
-use Rattle.coercion.specs.Data.{DataType, size, Question, list, union, compare, Rules, may_become, and_then, first_of, figures_of, plain, as_type}
-use Rattle.coercion.specs.Kinds.{is_numeric, is_string, is_list, is_date, is_time}
+use Rattle.coercion.specs.Data.{DataType, size, may_become, and_then, first_of, figures_of, plain, as_type}
+use Rattle.sheet.specs.Kind.{is_numeric, is_string, is_list, is_date, is_time}
 use Rattle.coercion.specs.Same.{equal, alike}
 use Rattle.coercion.specs.Strings.{string_coercion, binary_coercion}
 use Rattle.coercion.specs.Times.{is_time_with_valid_unit, zone_coercion, temporal_coercion, temporal_coercion_nonstrict_timezone}
@@ -24,6 +24,8 @@ use Rattle.coercion.specs.Answers.{of_kind_type, string_number, pair_rules, keep
 use Rattle.coercion.specs.declared.Figures.{Figures}
 use Rattle.coercion.proofs.Maybe.{If, done, ◌also◌, if_then, if_cond, if_else, if_first, if_weak, if_both, cond_is}
 use Rattle.coercion.proofs.Weights.{weigh, weight, Scales, Apart, TypeApart, by_name_lem}
+use Rattle.coercion.specs.declared.Question.{Question}
+use Rattle.coercion.specs.declared.Rules.{Rules}
 
 module _ (a : List ℕ → ℕ) (b : Zone → ℕ) (scales : Scales a b) where
   -- the common type t of l and r
@@ -71,7 +73,7 @@ module _ (a : List ℕ → ℕ) (b : Zone → ℕ) (scales : Scales a b) where
     temporal_light : P (temporal_coercion_nonstrict_timezone l r)
     unfolding temporal_coercion_nonstrict_timezone repeats
     temporal_light =
-        cond_is P (eqb l.shape.kind Kind.timestamp && eqb r.shape.kind Kind.timestamp) _ _
+        cond_is P (eqb l.shape.kind Kind.TIMESTAMP && eqb r.shape.kind Kind.TIMESTAMP) _ _
         (record { light = omega (arith, zone_light l.shape.zone r.shape.zone); apart = (record { own = λ e. refl }, tt) })
         (as_light l r (temporal_coercion l.shape.kind r.shape.kind))
 
@@ -94,16 +96,16 @@ module _ (a : List ℕ → ℕ) (b : Zone → ℕ) (scales : Scales a b) where
         (cond_is P (is_numeric l.shape.kind && is_string r.shape.kind) _ _ right tt)
 
     string_number_light : (q : Question) → P (string_number q l r)
-    string_number_light list = numeric_light
-    string_number_light union = numeric_union_light
-    string_number_light compare = numeric_light
+    string_number_light Question.List = numeric_light
+    string_number_light Question.Union = numeric_union_light
+    string_number_light Question.Compare = numeric_light
 
     time_light : (t : DataType) → Lighter l r t → P (time_of_string t)
     unfolding repeats
     time_light t h =
         cond_is P (is_date t.shape.kind) _ _ h
         (cond_is P (is_time t.shape.kind) _ _ (cond_is P (is_time_with_valid_unit t.shape.kind t.shape.figure) _ _ h tt)
-        (cond_is P (eqb t.shape.kind Kind.timestamp) _ _ (record { light = omega (arith, h.light); apart = (record { own = λ e. refl }, tt) }) tt))
+        (cond_is P (eqb t.shape.kind Kind.TIMESTAMP) _ _ (record { light = omega (arith, h.light); apart = (record { own = λ e. refl }, tt) }) tt))
 
     string_temporal_light : P (string_temporal_coercion l r)
     unfolding string_temporal_coercion
@@ -145,16 +147,16 @@ module _ (a : List ℕ → ℕ) (b : Zone → ℕ) (scales : Scales a b) where
     swap : weight a b t + weight a b v ≤ weight a b d + weight a b u
     apart : TypeApart t
 
-  dictionary_swapped : (s : Shape) (f : Fields) → eqb s.kind Kind.struct ≡ false → Apart f
+  dictionary_swapped : (s : Shape) (f : Fields) → eqb s.kind Kind.STRUCT ≡ false → Apart f
       → If (λ v. (u : DataType) → TypeApart u → If (Swapped (record { shape = s; parts = f }) v u) (keep_dictionary (record { shape = s; parts = f }) u)) (value_in f)
   dictionary_swapped s end ne h = tt
   dictionary_swapped s (field n d s₁ p end) ne h = tt
   dictionary_swapped s (field n d s₁ p (field n₂ d₂ s₂ p₂ q)) ne h =
-      λ u k. if_cond (Swapped _ _ u) (is_of Kind.utf8_view u) (Some u) (Some _)
+      λ u k. if_cond (Swapped _ _ u) (is_of Kind.UTF8_VIEW u) (Some u) (Some _)
       (λ e. record { swap = omega arith; apart = k })
       (λ e. record { swap = omega (arith, scales.unnamed); apart = (record { own = λ e. never (sym ne ∙ e) }, (h.0, (h.1.0, (k.0, (k.1, tt))))) })
 
-  run_ends_swapped : (s : Shape) (f : Fields) → eqb s.kind Kind.struct ≡ false → Apart f
+  run_ends_swapped : (s : Shape) (f : Fields) → eqb s.kind Kind.STRUCT ≡ false → Apart f
       → If (λ v. (u : DataType) → TypeApart u → If (Swapped (record { shape = s; parts = f }) v u) (run_ends_of (record { shape = s; parts = f }) f u)) (value_in f)
   run_ends_swapped s end ne h = tt
   run_ends_swapped s (field n d s₁ p end) ne h = tt
@@ -229,8 +231,8 @@ module _ (a : List ℕ → ℕ) (b : Zone → ℕ) (scales : Scales a b) where
       struct_light : If (Lighter l r) (struct_coercion c l r)
       unfolding struct_coercion partners
       struct_light =
-          if_cond (Lighter l r) (is_of Kind.struct l && (is_of Kind.struct r && eqb (arity l.parts) (arity r.parts))) _ None
-          (λ e. let d = hl.0.own (and_fst (is_of Kind.struct l) _ e) in
+          if_cond (Lighter l r) (is_of Kind.STRUCT l && (is_of Kind.STRUCT r && eqb (arity l.parts) (arity r.parts))) _ None
+          (λ e. let d = hl.0.own (and_fst (is_of Kind.STRUCT l) _ e) in
           struct_of_light (and_then (partners l.parts r.parts) (λ fields. join_fields c l.parts fields fields))
           (if_then (λ f. (weigh a b f ≤ weigh a b r.parts) × Apart f) Made (partners l.parts r.parts) (λ fields. join_fields c l.parts fields fields)
           (if_cond _ (fields_have_same_names l.parts r.parts) (by_name l.parts r.parts) (Some r.parts)
@@ -238,7 +240,7 @@ module _ (a : List ℕ → ℕ) (b : Zone → ℕ) (scales : Scales a b) where
           (λ f g. joined_made f f d g.0 g.1)))
           (λ e. tt)
 
-      list_struct_light : is_of Kind.struct l ≡ true → If (Lighter l r) (list_struct c l r)
+      list_struct_light : is_of Kind.STRUCT l ≡ true → If (Lighter l r) (list_struct c l r)
       list_struct_light e =
           if_cond (Lighter l r) (eqb (arity l.parts) (arity r.parts)) _ None
           (λ e'. struct_of_light (and_then (by_name l.parts r.parts) (λ fields. join_fields c l.parts fields r.parts))
@@ -246,7 +248,7 @@ module _ (a : List ℕ → ℕ) (b : Zone → ℕ) (scales : Scales a b) where
           (by_name_lem a b l.parts r.parts (hl.0.own e) hr.1) (λ f g. joined_made f r.parts (hl.0.own e) g.0 g.1)))
           (λ e'. tt)
 
-      list_of_light : (shape : Shape) → b shape.zone ≡ b absent → eqb shape.kind Kind.struct ≡ false → (o : Option Fields)
+      list_of_light : (shape : Shape) → b shape.zone ≡ b absent → eqb shape.kind Kind.STRUCT ≡ false → (o : Option Fields)
           → If (Joined l.parts r.parts) o → If (Lighter l r) (list_of shape o)
       list_of_light shape z ne None h = tt
       list_of_light shape z ne (Some f) h =
@@ -264,16 +266,16 @@ module _ (a : List ℕ → ℕ) (b : Zone → ℕ) (scales : Scales a b) where
           (λ e. tt)
         where
           P : Shape → Type 0
-          P s = (b s.zone ≡ b absent) × (eqb s.kind Kind.struct ≡ false)
+          P s = (b s.zone ≡ b absent) × (eqb s.kind Kind.STRUCT ≡ false)
 
           bare : P (list_shape l.shape r.shape)
           bare =
-              cond_is P (eqb l.shape.kind Kind.fixed_size_list && eqb r.shape.kind Kind.fixed_size_list) _ _
+              cond_is P (eqb l.shape.kind Kind.FIXED_SIZE_LIST && eqb r.shape.kind Kind.FIXED_SIZE_LIST) _ _
               (cond_is P (eqb l.shape.size r.shape.size) _ _ (refl, refl) (refl, refl))
-              (cond_is P (eqb l.shape.kind Kind.large_list || eqb r.shape.kind Kind.large_list) _ _ (refl, refl) (refl, refl))
+              (cond_is P (eqb l.shape.kind Kind.LARGE_LIST || eqb r.shape.kind Kind.LARGE_LIST) _ _ (refl, refl) (refl, refl))
 
       both_light : (p q : Fields) → Apart p → Apart q → weigh a b p ≤ weigh a b l.parts → weigh a b q ≤ weigh a b r.parts
-          → eqb l.shape.kind Kind.struct ≡ false → If (Lighter l r) (both_parts c l p q)
+          → eqb l.shape.kind Kind.STRUCT ≡ false → If (Lighter l r) (both_parts c l p q)
       both_light end q h k g m ne = tt
       both_light (field n₁ d₁ s₁ p₁ end) q h k g m ne = tt
       both_light (field n₁ d₁ s₁ p₁ (field n₂ d₂ s₂ p₂ q₁)) end h k g m ne = tt
@@ -294,7 +296,7 @@ module _ (a : List ℕ → ℕ) (b : Zone → ℕ) (scales : Scales a b) where
     map_light : (l r : DataType) → TypeApart l → TypeApart r → If (Lighter l r) (map_coercion c l r)
     unfolding map_coercion
     map_light l r hl hr =
-        if_cond (Lighter l r) (is_of Kind.map l && is_of Kind.map r) _ None
+        if_cond (Lighter l r) (is_of Kind.MAP l && is_of Kind.MAP r) _ None
         (λ e. if_then (Entry l.parts) (Lighter l r) (entry_type l.parts) _ (entry_held l.parts hl.1)
         (λ x g. if_then (Entry r.parts) (Lighter l r) (entry_type r.parts) _ (entry_held r.parts hr.1)
         (λ y m. if_then (Lighter x y) (Lighter l r) (struct_coercion c x y) _ (struct_light x y g.apart m.apart)
@@ -318,8 +320,8 @@ module _ (a : List ℕ → ℕ) (b : Zone → ℕ) (scales : Scales a b) where
           if_first (Lighter l r) (pair_rules rules c l r)
           (alike_light l r hl hr
           also as_light l r (binary_numeric_coercion (figures_of l) (figures_of r))
-          also wrapper_light l r hl hr Kind.dictionary
-          also wrapper_light l r hl hr Kind.run_end_encoded
+          also wrapper_light l r hl hr Kind.DICTIONARY
+          also wrapper_light l r hl hr Kind.RUN_END_ENCODED
           also temporal_light l r hl hr
           also of_kind_light l r (string_coercion l.shape.kind r.shape.kind)
           also list_light l r hl hr
@@ -348,33 +350,33 @@ module _ (a : List ℕ → ℕ) (b : Zone → ℕ) (scales : Scales a b) where
       turned : (o : Option DataType) → If (Lighter r l) o → If (Lighter l r) o
       turned o h = if_weak (Lighter r l) (Lighter l r) o h (λ t g. record { light = omega (arith, g.light); apart = g.apart })
 
-      other_kind : (d : DataType) (k : ℕ) → eqb k Kind.struct ≡ false → is_of k d ≡ true → eqb d.shape.kind Kind.struct ≡ false
+      other_kind : (d : DataType) (k : ℕ) → eqb k Kind.STRUCT ≡ false → is_of k d ≡ true → eqb d.shape.kind Kind.STRUCT ≡ false
       other_kind d k ne e = rw (eqb-true d.shape.kind k e) ne
 
       resolution_light : If (Lighter l r) (resolution_coercion rules c l r)
       resolution_light =
           let P = Lighter l r in
           if_cond P (equal l r) (Some l) _ (λ e. left_light l r hl)
-          (λ e. if_cond P (is_of Kind.dictionary l && is_of Kind.dictionary r) _ _
-          (λ e. both_light l r hl hr l.parts r.parts hl.1 hr.1 (omega arith) (omega arith) (other_kind l Kind.dictionary refl (and_fst _ _ e)))
-          (λ e. if_cond P (is_of Kind.dictionary l) _ _
-          (λ e. wrapped_light l r keep_dictionary hl hr (dictionary_swapped l.shape l.parts (other_kind l Kind.dictionary refl e) hl.1))
-          (λ e. if_cond P (is_of Kind.dictionary r) _ _
+          (λ e. if_cond P (is_of Kind.DICTIONARY l && is_of Kind.DICTIONARY r) _ _
+          (λ e. both_light l r hl hr l.parts r.parts hl.1 hr.1 (omega arith) (omega arith) (other_kind l Kind.DICTIONARY refl (and_fst _ _ e)))
+          (λ e. if_cond P (is_of Kind.DICTIONARY l) _ _
+          (λ e. wrapped_light l r keep_dictionary hl hr (dictionary_swapped l.shape l.parts (other_kind l Kind.DICTIONARY refl e) hl.1))
+          (λ e. if_cond P (is_of Kind.DICTIONARY r) _ _
           (λ e. turned (wrapped c r l keep_dictionary)
-          (wrapped_light r l keep_dictionary hr hl (dictionary_swapped r.shape r.parts (other_kind r Kind.dictionary refl e) hr.1)))
-          (λ e. if_cond P (is_of Kind.run_end_encoded l && is_of Kind.run_end_encoded r) _ _
-          (λ e. both_light l r hl hr l.parts r.parts hl.1 hr.1 (omega arith) (omega arith) (other_kind l Kind.run_end_encoded refl (and_fst _ _ e)))
-          (λ e. if_cond P (is_of Kind.run_end_encoded l) _ _
-          (λ e. wrapped_light l r (λ d t. run_ends_of d d.parts t) hl hr (run_ends_swapped l.shape l.parts (other_kind l Kind.run_end_encoded refl e) hl.1))
-          (λ e. if_cond P (is_of Kind.run_end_encoded r) _ _
+          (wrapped_light r l keep_dictionary hr hl (dictionary_swapped r.shape r.parts (other_kind r Kind.DICTIONARY refl e) hr.1)))
+          (λ e. if_cond P (is_of Kind.RUN_END_ENCODED l && is_of Kind.RUN_END_ENCODED r) _ _
+          (λ e. both_light l r hl hr l.parts r.parts hl.1 hr.1 (omega arith) (omega arith) (other_kind l Kind.RUN_END_ENCODED refl (and_fst _ _ e)))
+          (λ e. if_cond P (is_of Kind.RUN_END_ENCODED l) _ _
+          (λ e. wrapped_light l r (λ d t. run_ends_of d d.parts t) hl hr (run_ends_swapped l.shape l.parts (other_kind l Kind.RUN_END_ENCODED refl e) hl.1))
+          (λ e. if_cond P (is_of Kind.RUN_END_ENCODED r) _ _
           (λ e. turned (wrapped c r l (λ d t. run_ends_of d d.parts t))
-          (wrapped_light r l (λ d t. run_ends_of d d.parts t) hr hl (run_ends_swapped r.shape r.parts (other_kind r Kind.run_end_encoded refl e) hr.1)))
-          (λ e. if_cond P (is_of Kind.struct l && is_of Kind.struct r) _ _ (λ e. list_struct_light l r hl hr (and_fst _ _ e)) (λ e. list_rules_light))))))))
+          (wrapped_light r l (λ d t. run_ends_of d d.parts t) hr hl (run_ends_swapped r.shape r.parts (other_kind r Kind.RUN_END_ENCODED refl e) hr.1)))
+          (λ e. if_cond P (is_of Kind.STRUCT l && is_of Kind.STRUCT r) _ _ (λ e. list_struct_light l r hl hr (and_fst _ _ e)) (λ e. list_rules_light))))))))
 
       ask_light : (q : Question) → If (Lighter l r) (ask q rules c l r)
-      ask_light list = resolution_light
-      ask_light union = pair_light
-      ask_light compare = pair_light
+      ask_light Question.List = resolution_light
+      ask_light Question.Union = pair_light
+      ask_light Question.Compare = pair_light
 
   in_light : (f : ℕ) (rules : Rules) (l r : DataType) → TypeApart l → TypeApart r → If (Lighter l r) (coerce_in f rules l r)
   unfolding coerce_in

@@ -7,22 +7,23 @@ use Prim.Native.Nat.{ℕ, zero, suc, ◌+◌}
 use native.Mathlib.Omega.{arith}
 use lib.Dec.{eqb}
 use borrow.Author.Tests.{eqb-true, eq-eqb}
-use Rattle.sheet.specs.Kind as Kind
-use Rattle.sheet.specs.Kind.{is_kind, is_decimal, sized, last_unit, parts_right, names_parts}
+use Rattle.sheet.specs.declared.kind.TheConstants as Kind
+use Rattle.sheet.specs.Kind.{is_kind, is_decimal, sized, last_unit, parts_right, names_parts, is_list}
 use Rattle.sheet.specs.Tests.{all_of, between}
 use Rattle.sheet.specs.Types.{absent, Shape, Fields, end, field, arity}
 use Rattle.sheet.specs.Names.{same_bytes}
 use Rattle.sheet.specs.Refusals.{figure_right, size_right, figures_right}
 use Rattle.sheet.specs.Carried.{FieldsRight}
 use Rattle.sheet.proofs.Tests.{all_at, all_cons, all_nil, and_fst, and_snd}
-use Rattle.coercion.specs.Data.{DataType, size, Question, list, union, compare, Rules, and_then, first_of}
-use Rattle.coercion.specs.Kinds.{is_list}
+use Rattle.coercion.specs.Data.{DataType, size, and_then, first_of}
 use Rattle.coercion.specs.Same.{equal}
 use Rattle.coercion.specs.Wrappers.{value_in, is_of, wrapper_coercion}
 use Rattle.coercion.specs.Nested.{join_fields, fields_have_same_names, with_name, by_name, partners, struct_of, struct_coercion, list_shape, list_of, list_coercion, entry_type, entry_of, map_shape, map_coercion}
 use Rattle.coercion.specs.Answers.{pair_rules, keep_dictionary, both_parts, run_ends_of, wrapped, list_struct, list_rules, resolution_coercion, ask, coerce_in, coercion}
 use Rattle.coercion.proofs.Maybe.{If, done, ◌also◌, if_then, if_cond, if_first, if_both, cond_when, cond_is}
 use Rattle.coercion.proofs.PlainRight.{OwnRight, Sound, own_right, empty_label, renamed, implies_true, named, unnamed, alike_sound, number_sound, string_sound, binary_sound, temporal_sound, null_sound, numeric_sound, string_number_sound, string_temporal_sound}
+use Rattle.coercion.specs.declared.Question.{Question}
+use Rattle.coercion.specs.declared.Rules.{Rules}
 
 -- the chain that fields of two chains make, as parts of a type of kind up
 record Joined (up : ℕ) (l t : Fields) : Type 0 where
@@ -65,11 +66,11 @@ one_part t h e =
 two_parts : (t : DataType) (k : ℕ) → parts_right k 2 ≡ true → is_of k t ≡ true → parts_right t.shape.kind 2 ≡ true
 two_parts t k h e = rw (eqb-true t.shape.kind k e) h
 
-dictionary_two : parts_right Kind.dictionary 2 ≡ true
+dictionary_two : parts_right Kind.DICTIONARY 2 ≡ true
 unfolding parts_right between
 dictionary_two = refl
 
-run_ends_two : parts_right Kind.run_end_encoded 2 ≡ true
+run_ends_two : parts_right Kind.RUN_END_ENCODED 2 ≡ true
 unfolding parts_right between
 run_ends_two = refl
 
@@ -77,9 +78,9 @@ run_ends_two = refl
 dictionary_sound : (s : Shape) (f : Fields) → Sound (record { shape = s; parts = f }) → parts_right s.kind 2 ≡ true
     → (u : DataType) → Sound u → If Sound (keep_dictionary (record { shape = s; parts = f }) u)
 unfolding arity
-dictionary_sound s end h two u k = cond_is (If Sound) (is_of Kind.utf8_view u) _ _ k tt
+dictionary_sound s end h two u k = cond_is (If Sound) (is_of Kind.UTF8_VIEW u) _ _ k tt
 dictionary_sound s (field n b s₁ p q) h two u k =
-    cond_is (If Sound) (is_of Kind.utf8_view u) _ _ k
+    cond_is (If Sound) (is_of Kind.UTF8_VIEW u) _ _ k
     (refilled _ h.0 two, (h.1.0, (h.1.1.0, (unnamed s.kind u.shape u.parts k.0, (k.1, tt)))))
 
 run_ends_sound : (s : Shape) (f : Fields) → Sound (record { shape = s; parts = f }) → parts_right s.kind 2 ≡ true
@@ -104,7 +105,7 @@ map_of_sound up (field n b s p q) sorted h =
         byte = omega arith;
         own_zone = empty_label;
       },
-      (named Kind.map n b t.shape t.parts refl h.0.own_name k.0, (k.1, tt)),
+      (named Kind.MAP n b t.shape t.parts refl h.0.own_name k.0, (k.1, tt)),
     )
 
 -- the shape of two lists' common list, around one part
@@ -121,22 +122,22 @@ list_right k size known is names figures =
       names = names;
     }
 
-fixed_size : (t : DataType) → Sound t → eqb t.shape.kind Kind.fixed_size_list ≡ true → figures_right Kind.fixed_size_list 0 0 t.shape.size false false ≡ true
+fixed_size : (t : DataType) → Sound t → eqb t.shape.kind Kind.FIXED_SIZE_LIST ≡ true → figures_right Kind.FIXED_SIZE_LIST 0 0 t.shape.size false false ≡ true
 unfolding between figures_right figure_right is_decimal last_unit
 fixed_size t h e =
     let g : size_right t.shape.kind t.shape.size ≡ true = all_at _ 1 h.0.figures in
-    let g' : size_right Kind.fixed_size_list t.shape.size ≡ true = rw (eqb-true t.shape.kind Kind.fixed_size_list e) at g in
+    let g' : size_right Kind.FIXED_SIZE_LIST t.shape.size ≡ true = rw (eqb-true t.shape.kind Kind.FIXED_SIZE_LIST e) at g in
     all_cons _ (all_cons _ refl (all_cons _ refl all_nil)) (all_cons _ g' (all_cons _ refl (all_cons _ refl all_nil)))
 
 list_shape_lem : (l r : DataType) → Sound r → ListRight (list_shape l.shape r.shape)
 unfolding is_kind between names_parts figures_right figure_right is_decimal last_unit size_right sized all_of
 list_shape_lem l r hr =
-    cond_when ListRight (eqb l.shape.kind Kind.fixed_size_list && eqb r.shape.kind Kind.fixed_size_list) _ _
+    cond_when ListRight (eqb l.shape.kind Kind.FIXED_SIZE_LIST && eqb r.shape.kind Kind.FIXED_SIZE_LIST) _ _
     (λ e. cond_is ListRight (eqb l.shape.size r.shape.size) _ _
-    (list_right Kind.fixed_size_list r.shape.size refl refl refl
-    (fixed_size r hr (and_snd (eqb l.shape.kind Kind.fixed_size_list) (eqb r.shape.kind Kind.fixed_size_list) e))) (list_right Kind.list 0 refl refl refl refl))
-    (λ e. cond_is ListRight (eqb l.shape.kind Kind.large_list || eqb r.shape.kind Kind.large_list) _ _
-    (list_right Kind.large_list 0 refl refl refl refl) (list_right Kind.list 0 refl refl refl refl))
+    (list_right Kind.FIXED_SIZE_LIST r.shape.size refl refl refl
+    (fixed_size r hr (and_snd (eqb l.shape.kind Kind.FIXED_SIZE_LIST) (eqb r.shape.kind Kind.FIXED_SIZE_LIST) e))) (list_right Kind.LIST 0 refl refl refl refl))
+    (λ e. cond_is ListRight (eqb l.shape.kind Kind.LARGE_LIST || eqb r.shape.kind Kind.LARGE_LIST) _ _
+    (list_right Kind.LARGE_LIST 0 refl refl refl refl) (list_right Kind.LIST 0 refl refl refl refl))
 
 list_of_sound : (l : DataType) (shape : Shape) → ((f : Fields) → arity f ≡ 1 → OwnRight shape f) → arity l.parts ≡ 1 → (o : Option Fields)
     → If (Joined shape.kind l.parts) o → If Sound (list_of shape o)
@@ -173,7 +174,7 @@ module _ (c : DataType → DataType → Option DataType) (keeps : (x y : DataTyp
         (cond_is P (is_of k l) _ _ (if_then Sound Sound (value_in l.parts) _ vl (λ v g. cond_is P (equal v r) _ _ hl (keeps v r g hr)))
         (cond_is P (is_of k r) _ _ (if_then Sound Sound (value_in r.parts) _ vr (λ w g. cond_is P (equal w l) _ _ hr (keeps l w hl g))) tt))
 
-    struct_of_sound : (o : Option Fields) → If (Joined Kind.struct l.parts) o → If Sound (struct_of o)
+    struct_of_sound : (o : Option Fields) → If (Joined Kind.STRUCT l.parts) o → If Sound (struct_of o)
     unfolding is_kind between parts_right figures_right all_of figure_right is_decimal last_unit size_right sized
     struct_of_sound None h = tt
     struct_of_sound (Some f) h = (record { known = refl; filled = refl; figures = refl; byte = omega arith; own_zone = empty_label }, h.right)
@@ -181,11 +182,11 @@ module _ (c : DataType → DataType → Option DataType) (keeps : (x y : DataTyp
     struct_sound : If Sound (struct_coercion c l r)
     unfolding struct_coercion partners names_parts between
     struct_sound =
-        cond_is (If Sound) (is_of Kind.struct l && (is_of Kind.struct r && eqb (arity l.parts) (arity r.parts))) _ _
+        cond_is (If Sound) (is_of Kind.STRUCT l && (is_of Kind.STRUCT r && eqb (arity l.parts) (arity r.parts))) _ _
         (struct_of_sound (and_then (partners l.parts r.parts) (λ fields. join_fields c l.parts fields fields))
-        (if_then (FieldsRight r.shape.kind) (Joined Kind.struct l.parts) (partners l.parts r.parts) (λ fields. join_fields c l.parts fields fields)
+        (if_then (FieldsRight r.shape.kind) (Joined Kind.STRUCT l.parts) (partners l.parts r.parts) (λ fields. join_fields c l.parts fields fields)
         (cond_is (If (FieldsRight r.shape.kind)) (fields_have_same_names l.parts r.parts) _ _ (by_name_right r.shape.kind l.parts r.parts hr.1) hr.1)
-        (λ f g. join_right l.shape.kind r.shape.kind Kind.struct l.parts f f refl hl.1 g)))
+        (λ f g. join_right l.shape.kind r.shape.kind Kind.STRUCT l.parts f f refl hl.1 g)))
         tt
 
     list_struct_sound : If Sound (list_struct c l r)
@@ -193,9 +194,9 @@ module _ (c : DataType → DataType → Option DataType) (keeps : (x y : DataTyp
     list_struct_sound =
         cond_is (If Sound) (eqb (arity l.parts) (arity r.parts)) _ _
         (struct_of_sound (and_then (by_name l.parts r.parts) (λ fields. join_fields c l.parts fields r.parts))
-        (if_then (FieldsRight r.shape.kind) (Joined Kind.struct l.parts) (by_name l.parts r.parts) (λ fields. join_fields c l.parts fields r.parts)
+        (if_then (FieldsRight r.shape.kind) (Joined Kind.STRUCT l.parts) (by_name l.parts r.parts) (λ fields. join_fields c l.parts fields r.parts)
         (by_name_right r.shape.kind l.parts r.parts hr.1)
-        (λ f g. join_right l.shape.kind r.shape.kind Kind.struct l.parts f r.parts refl hl.1 g)))
+        (λ f g. join_right l.shape.kind r.shape.kind Kind.STRUCT l.parts f r.parts refl hl.1 g)))
         tt
 
     list_sound : If Sound (list_coercion c l r)
@@ -226,7 +227,7 @@ module _ (c : DataType → DataType → Option DataType) (keeps : (x y : DataTyp
   map_sound : (l r : DataType) → Sound l → Sound r → If Sound (map_coercion c l r)
   unfolding map_coercion
   map_sound l r hl hr =
-      cond_is (If Sound) (is_of Kind.map l && is_of Kind.map r) _ _
+      cond_is (If Sound) (is_of Kind.MAP l && is_of Kind.MAP r) _ _
       (if_then _ Sound (entry_type l.parts) _
       (if_both Sound _ (entry_type l.parts) (entry_sound l.shape.kind l.parts hl.1)
       (map_of_sound l.shape.kind l.parts (l.shape.sorted && r.shape.sorted) hl.1))
@@ -246,8 +247,8 @@ module _ (c : DataType → DataType → Option DataType) (keeps : (x y : DataTyp
         if_first Sound (pair_rules rules c l r)
         (alike_sound l r hl hr
         also number_sound l r hl hr
-        also wrapper_sound l r hl hr Kind.dictionary
-        also wrapper_sound l r hl hr Kind.run_end_encoded
+        also wrapper_sound l r hl hr Kind.DICTIONARY
+        also wrapper_sound l r hl hr Kind.RUN_END_ENCODED
         also temporal_sound l r hl hr
         also string_sound l r hl hr
         also list_sound l r hl hr
@@ -275,24 +276,24 @@ module _ (c : DataType → DataType → Option DataType) (keeps : (x y : DataTyp
     resolution_sound : If Sound (resolution_coercion rules c l r)
     resolution_sound =
         if_cond Sound (equal l r) (Some l) _ (λ e. hl)
-        (λ e. if_cond Sound (is_of Kind.dictionary l && is_of Kind.dictionary r) _ _
-        (λ e. both_sound l r hl hr l.parts r.parts hl.1 hr.1 (two_parts l Kind.dictionary (dictionary_two) (and_fst _ _ e)))
-        (λ e. if_cond Sound (is_of Kind.dictionary l) _ _
-        (λ e. wrapped_sound l r keep_dictionary hl hr (dictionary_sound l.shape l.parts hl (two_parts l Kind.dictionary dictionary_two e)))
-        (λ e. if_cond Sound (is_of Kind.dictionary r) _ _
-        (λ e. wrapped_sound r l keep_dictionary hr hl (dictionary_sound r.shape r.parts hr (two_parts r Kind.dictionary dictionary_two e)))
-        (λ e. if_cond Sound (is_of Kind.run_end_encoded l && is_of Kind.run_end_encoded r) _ _
-        (λ e. both_sound l r hl hr l.parts r.parts hl.1 hr.1 (two_parts l Kind.run_end_encoded run_ends_two (and_fst _ _ e)))
-        (λ e. if_cond Sound (is_of Kind.run_end_encoded l) _ _
-        (λ e. wrapped_sound l r (λ d t. run_ends_of d d.parts t) hl hr (run_ends_sound l.shape l.parts hl (two_parts l Kind.run_end_encoded run_ends_two e)))
-        (λ e. if_cond Sound (is_of Kind.run_end_encoded r) _ _
-        (λ e. wrapped_sound r l (λ d t. run_ends_of d d.parts t) hr hl (run_ends_sound r.shape r.parts hr (two_parts r Kind.run_end_encoded run_ends_two e)))
-        (λ e. cond_is (If Sound) (is_of Kind.struct l && is_of Kind.struct r) _ _ (list_struct_sound l r hl hr) list_rules_sound)))))))
+        (λ e. if_cond Sound (is_of Kind.DICTIONARY l && is_of Kind.DICTIONARY r) _ _
+        (λ e. both_sound l r hl hr l.parts r.parts hl.1 hr.1 (two_parts l Kind.DICTIONARY (dictionary_two) (and_fst _ _ e)))
+        (λ e. if_cond Sound (is_of Kind.DICTIONARY l) _ _
+        (λ e. wrapped_sound l r keep_dictionary hl hr (dictionary_sound l.shape l.parts hl (two_parts l Kind.DICTIONARY dictionary_two e)))
+        (λ e. if_cond Sound (is_of Kind.DICTIONARY r) _ _
+        (λ e. wrapped_sound r l keep_dictionary hr hl (dictionary_sound r.shape r.parts hr (two_parts r Kind.DICTIONARY dictionary_two e)))
+        (λ e. if_cond Sound (is_of Kind.RUN_END_ENCODED l && is_of Kind.RUN_END_ENCODED r) _ _
+        (λ e. both_sound l r hl hr l.parts r.parts hl.1 hr.1 (two_parts l Kind.RUN_END_ENCODED run_ends_two (and_fst _ _ e)))
+        (λ e. if_cond Sound (is_of Kind.RUN_END_ENCODED l) _ _
+        (λ e. wrapped_sound l r (λ d t. run_ends_of d d.parts t) hl hr (run_ends_sound l.shape l.parts hl (two_parts l Kind.RUN_END_ENCODED run_ends_two e)))
+        (λ e. if_cond Sound (is_of Kind.RUN_END_ENCODED r) _ _
+        (λ e. wrapped_sound r l (λ d t. run_ends_of d d.parts t) hr hl (run_ends_sound r.shape r.parts hr (two_parts r Kind.RUN_END_ENCODED run_ends_two e)))
+        (λ e. cond_is (If Sound) (is_of Kind.STRUCT l && is_of Kind.STRUCT r) _ _ (list_struct_sound l r hl hr) list_rules_sound)))))))
 
     ask_sound : (q : Question) → If Sound (ask q rules c l r)
-    ask_sound list = resolution_sound
-    ask_sound union = pair_sound
-    ask_sound compare = pair_sound
+    ask_sound Question.List = resolution_sound
+    ask_sound Question.Union = pair_sound
+    ask_sound Question.Compare = pair_sound
 
 in_sound : (f : ℕ) (rules : Rules) (l r : DataType) → Sound l → Sound r → If Sound (coerce_in f rules l r)
 unfolding coerce_in

@@ -7,13 +7,12 @@ use Prim.Native.Nat.{ℕ, ◌+◌, ◌-◌, ◌%◌, ◌<◌, ◌≤◌, min, ma
 use native.Mathlib.Omega.{arith}
 use lib.Dec.{eqb, leb, ltb}
 use borrow.Author.Tests.{eqb-true, leb-true, le-leb, lt-leb, lt-ltb, ne_eqb}
-use Rattle.sheet.specs.Kind as Kind
-use Rattle.sheet.specs.Kind.{is_kind, is_decimal, cap, last_unit, parts_right}
+use Rattle.sheet.specs.declared.kind.TheConstants as Kind
+use Rattle.sheet.specs.Kind.{is_kind, is_decimal, cap, last_unit, parts_right, is_numeric, is_signed, one_is, with_kind}
 use Rattle.sheet.specs.Tests.{all_of, between}
 use Rattle.sheet.specs.Refusals.{biased, decimal_right, figure_right}
 use Rattle.sheet.proofs.Tests.{all_at, all_cons, all_nil, and_fst, and_snd}
 use Rattle.coercion.specs.Data.{and_then}
-use Rattle.coercion.specs.Kinds.{is_numeric, is_signed, one_is, with_kind}
 use Rattle.coercion.specs.Numbers.{float_coercion, integer_coercion, decimal, ahead, wider_scale, wider_precision, get_wider_decimal_type, get_wider_decimal_type_cross_variant, digits_of, fraction_of, takes, coerce_numeric_type_to_decimal, get_common_decimal_type, decimal_coercion, numerical_coercion, same_figures, binary_numeric_coercion}
 use Rattle.coercion.specs.declared.Figures.{Figures}
 use Rattle.coercion.proofs.Maybe.{If, if_cond, if_else, cond_is}
@@ -62,8 +61,8 @@ clamped_digits m p s h k = record { some = omega arith; low = omega arith; high 
 pub cap_small : (k : ℕ) → (1 ≤ cap k) × (cap k ≤ 76)
 unfolding cap
 cap_small k =
-    cond_is P (eqb k Kind.decimal32) 9 _ (omega arith)
-    (cond_is P (eqb k Kind.decimal64) 18 _ (omega arith) (cond_is P (eqb k Kind.decimal128) 38 76 (omega arith) (omega arith)))
+    cond_is P (eqb k Kind.DECIMAL32) 9 _ (omega arith)
+    (cond_is P (eqb k Kind.DECIMAL64) 18 _ (omega arith) (cond_is P (eqb k Kind.DECIMAL128) 38 76 (omega arith) (omega arith)))
   where
     P : ℕ → Type 0
     P n = (1 ≤ n) × (n ≤ 76)
@@ -130,26 +129,26 @@ number_digits k = go (digits k) (fraction k)
 
     digits : (k : ℕ) → P (digits_of k)
     digits k =
-        cond_is P (one_is k Kind.int8 Kind.uint8) 3 _ (omega arith)
-        (cond_is P (one_is k Kind.int16 Kind.uint16) 5 _ (omega arith)
-        (cond_is P (one_is k Kind.int32 Kind.uint32) 10 _ (omega arith)
-        (cond_is P (one_is k Kind.int64 Kind.uint64) 20 _ (omega arith)
-        (cond_is P (eqb k Kind.float16) 6 _ (omega arith) (cond_is P (eqb k Kind.float32) 14 30 (omega arith) (omega arith))))))
+        cond_is P (one_is k Kind.INT8 Kind.UINT8) 3 _ (omega arith)
+        (cond_is P (one_is k Kind.INT16 Kind.UINT16) 5 _ (omega arith)
+        (cond_is P (one_is k Kind.INT32 Kind.UINT32) 10 _ (omega arith)
+        (cond_is P (one_is k Kind.INT64 Kind.UINT64) 20 _ (omega arith)
+        (cond_is P (eqb k Kind.FLOAT16) 6 _ (omega arith) (cond_is P (eqb k Kind.FLOAT32) 14 30 (omega arith) (omega arith))))))
 
     fraction : (k : ℕ) → fraction_of k ≤ digits_of k
-    fraction k = f16 (eqb k Kind.float16) refl
+    fraction k = f16 (eqb k Kind.FLOAT16) refl
       where
-        f64 : (x : Bool) → eqb k Kind.float64 ≡ x → cond x 15 0 ≤ digits_of k
-        f64 true e = rw (eqb-true k Kind.float64 e) (omega arith)
+        f64 : (x : Bool) → eqb k Kind.FLOAT64 ≡ x → cond x 15 0 ≤ digits_of k
+        f64 true e = rw (eqb-true k Kind.FLOAT64 e) (omega arith)
         f64 false e = omega arith
 
-        f32 : (x : Bool) → eqb k Kind.float32 ≡ x → cond x 7 (cond (eqb k Kind.float64) 15 0) ≤ digits_of k
-        f32 true e = rw (eqb-true k Kind.float32 e) (omega arith)
-        f32 false e = f64 (eqb k Kind.float64) refl
+        f32 : (x : Bool) → eqb k Kind.FLOAT32 ≡ x → cond x 7 (cond (eqb k Kind.FLOAT64) 15 0) ≤ digits_of k
+        f32 true e = rw (eqb-true k Kind.FLOAT32 e) (omega arith)
+        f32 false e = f64 (eqb k Kind.FLOAT64) refl
 
-        f16 : (x : Bool) → eqb k Kind.float16 ≡ x → cond x 3 (cond (eqb k Kind.float32) 7 (cond (eqb k Kind.float64) 15 0)) ≤ digits_of k
-        f16 true e = rw (eqb-true k Kind.float16 e) (omega arith)
-        f16 false e = f32 (eqb k Kind.float32) refl
+        f16 : (x : Bool) → eqb k Kind.FLOAT16 ≡ x → cond x 3 (cond (eqb k Kind.FLOAT32) 7 (cond (eqb k Kind.FLOAT64) 15 0)) ≤ digits_of k
+        f16 true e = rw (eqb-true k Kind.FLOAT16 e) (omega arith)
+        f16 false e = f32 (eqb k Kind.FLOAT32) refl
 
     go : P (digits_of k) → fraction_of k ≤ digits_of k → Digits (digits_of k) (biased ((fraction_of k + 128 + 128) % 256))
     go d f = record { some = d.0; low = omega arith; high = omega arith }
@@ -181,16 +180,16 @@ unfolding numerical_coercion all_of is_kind parts_right between figure_right dec
 numerical_fits k j =
     let P = If Fits in
     if_else Fits (float_coercion k j) (integer_coercion k j)
-    (cond_is P (one_is Kind.float64 k j) _ _ refl
-    (cond_is P (one_is Kind.float32 k j) _ _ refl (cond_is P (one_is Kind.float16 k j) _ _ refl tt)))
-    (cond_is P (with_kind Kind.uint64 is_signed k j) _ _ refl
-    (cond_is P (one_is Kind.uint64 k j) _ _ refl
-    (cond_is P (one_is Kind.int64 k j || with_kind Kind.uint32 (between Kind.int8 Kind.int32) k j) _ _ refl
-    (cond_is P (one_is Kind.uint32 k j) _ _ refl
-    (cond_is P (one_is Kind.int32 k j || with_kind Kind.uint16 (between Kind.int8 Kind.int16) k j) _ _ refl
-    (cond_is P (one_is Kind.uint16 k j) _ _ refl
-    (cond_is P (one_is Kind.int16 k j || with_kind Kind.uint8 (λ i. eqb i Kind.int8) k j) _ _ refl
-    (cond_is P (one_is Kind.int8 k j) _ _ refl (cond_is P (one_is Kind.uint8 k j) _ _ refl tt)))))))))
+    (cond_is P (one_is Kind.FLOAT64 k j) _ _ refl
+    (cond_is P (one_is Kind.FLOAT32 k j) _ _ refl (cond_is P (one_is Kind.FLOAT16 k j) _ _ refl tt)))
+    (cond_is P (with_kind Kind.UINT64 is_signed k j) _ _ refl
+    (cond_is P (one_is Kind.UINT64 k j) _ _ refl
+    (cond_is P (one_is Kind.INT64 k j || with_kind Kind.UINT32 (between Kind.INT8 Kind.INT32) k j) _ _ refl
+    (cond_is P (one_is Kind.UINT32 k j) _ _ refl
+    (cond_is P (one_is Kind.INT32 k j || with_kind Kind.UINT16 (between Kind.INT8 Kind.INT16) k j) _ _ refl
+    (cond_is P (one_is Kind.UINT16 k j) _ _ refl
+    (cond_is P (one_is Kind.INT16 k j || with_kind Kind.UINT8 (λ i. eqb i Kind.INT8) k j) _ _ refl
+    (cond_is P (one_is Kind.INT8 k j) _ _ refl (cond_is P (one_is Kind.UINT8 k j) _ _ refl tt)))))))))
 
 pub numeric_fits : (l r : Figures) → Right l → Right r → If Fits (binary_numeric_coercion l r)
 unfolding binary_numeric_coercion

@@ -7,15 +7,14 @@ use Prim.Native.Nat.{ℕ, ◌<◌, ◌≤◌}
 use native.Mathlib.Omega.{arith}
 use lib.Dec.{eqb}
 use borrow.Author.Tests.{eqb-true, leb-true, le-leb, ltb-true}
-use Rattle.sheet.specs.Kind as Kind
-use Rattle.sheet.specs.Kind.{is_kind, is_decimal, sized, last_unit, parts_right, names_parts}
+use Rattle.sheet.specs.declared.kind.TheConstants as Kind
+use Rattle.sheet.specs.Kind.{is_kind, is_decimal, sized, last_unit, parts_right, names_parts, is_numeric, is_string, is_integer, is_date, is_time, is_span, one_is, with_kind}
 use Rattle.sheet.specs.Tests.{all_of, between, implies}
 use Rattle.sheet.specs.Types.{Zone, absent, present, Shape, Fields, arity, zone_bytes}
 use Rattle.sheet.specs.Refusals.{figure_right, size_right, figures_right}
 use Rattle.sheet.specs.Carried.{Label, is_named, is_zoned, FieldRight, FieldsRight}
 use Rattle.sheet.proofs.Tests.{all_at, all_cons, all_nil, and_fst, and_snd}
-use Rattle.coercion.specs.Data.{DataType, Question, list, union, compare, may_become, figures_of, plain, as_type, zoned, of_unit, of_kind}
-use Rattle.coercion.specs.Kinds.{is_numeric, is_string, is_integer, is_date, is_time, is_span, one_is, with_kind}
+use Rattle.coercion.specs.Data.{DataType, may_become, figures_of, plain, as_type, zoned, of_unit, of_kind}
 use Rattle.coercion.specs.Same.{alike}
 use Rattle.coercion.specs.Strings.{string_coercion, is_long_string, is_binary_or_string, binary_coercion}
 use Rattle.coercion.specs.Times.{nanosecond, is_time_with_valid_unit, timeunit_coercion, zone_coercion, temporal_coercion, temporal_coercion_nonstrict_timezone}
@@ -25,6 +24,7 @@ use Rattle.coercion.specs.Answers.{of_kind_type, string_number}
 use Rattle.coercion.specs.declared.Figures.{Figures}
 use Rattle.coercion.proofs.Maybe.{If, if_cond, if_else, cond_is}
 use Rattle.coercion.proofs.NumbersRight.{Fits, Right, numeric_fits}
+use Rattle.coercion.specs.declared.Question.{Question}
 
 -- a field that is right, apart from what its parent allows it: its type
 pub record OwnRight (shape : Shape) (parts : Fields) : Type 0 where
@@ -107,7 +107,7 @@ of_kind_sound None h = tt
 of_kind_sound (Some k) h = plain_sound (of_kind k) h
 
 -- a timestamp
-timestamp_sound : (unit : ℕ) (zone : Zone) → unit ≤ 3 → Label (zone_bytes zone) → Sound (zoned (of_unit Kind.timestamp unit) zone)
+timestamp_sound : (unit : ℕ) (zone : Zone) → unit ≤ 3 → Label (zone_bytes zone) → Sound (zoned (of_unit Kind.TIMESTAMP unit) zone)
 unfolding is_kind between parts_right arity figures_right figure_right is_decimal last_unit size_right sized
 timestamp_sound unit zone h l = (
   record {
@@ -120,11 +120,11 @@ timestamp_sound unit zone h l = (
   tt,
 )
 
-timestamp_unit : (t : DataType) → Sound t → eqb t.shape.kind Kind.timestamp ≡ true → t.shape.figure ≤ 3
+timestamp_unit : (t : DataType) → Sound t → eqb t.shape.kind Kind.TIMESTAMP ≡ true → t.shape.figure ≤ 3
 unfolding figure_right is_decimal between last_unit
 timestamp_unit t h e =
     let g : figure_right t.shape.kind t.shape.figure t.shape.scale ≡ true = (figures_of_lem t h).figure in
-    let g' : figure_right Kind.timestamp t.shape.figure t.shape.scale ≡ true = rw (eqb-true t.shape.kind Kind.timestamp e) at g in
+    let g' : figure_right Kind.TIMESTAMP t.shape.figure t.shape.scale ≡ true = rw (eqb-true t.shape.kind Kind.TIMESTAMP e) at g in
     leb-true t.shape.figure 3 (all_at _ 0 g')
 
 zone_label : (z w : Zone) → Label (zone_bytes z) → Label (zone_bytes w) → Label (zone_bytes (zone_coercion z w))
@@ -136,32 +136,32 @@ unfolding temporal_coercion all_of is_kind parts_right between figure_right is_d
 temporal_fits k j =
     let P = If Fits in
     cond_is P (is_span k && is_span j) _ _ refl
-    (cond_is P (with_kind Kind.date32 is_integer k j) _ _ refl
-    (cond_is P (with_kind Kind.date64 is_integer k j) _ _ refl
-    (cond_is P (with_kind Kind.date64 (λ i. eqb i Kind.date32) k j) _ _ refl
-    (cond_is P (with_kind Kind.date32 is_time k j || with_kind Kind.date64 is_time k j) _ _ refl
-    (cond_is P (with_kind Kind.timestamp is_date k j) _ _ refl tt)))))
+    (cond_is P (with_kind Kind.DATE32 is_integer k j) _ _ refl
+    (cond_is P (with_kind Kind.DATE64 is_integer k j) _ _ refl
+    (cond_is P (with_kind Kind.DATE64 (λ i. eqb i Kind.DATE32) k j) _ _ refl
+    (cond_is P (with_kind Kind.DATE32 is_time k j || with_kind Kind.DATE64 is_time k j) _ _ refl
+    (cond_is P (with_kind Kind.TIMESTAMP is_date k j) _ _ refl tt)))))
 
 string_fits : (k j : ℕ) → If (λ i. Fits (of_kind i)) (string_coercion k j)
 unfolding string_coercion all_of is_kind parts_right between figure_right is_decimal last_unit
 string_fits k j =
     let P = If (λ i. Fits (of_kind i)) in
     cond_is P (is_string k && is_string j) _ _
-    (cond_is P (one_is Kind.utf8_view k j) _ _ refl (cond_is P (one_is Kind.large_utf8 k j) _ _ refl refl)) tt
+    (cond_is P (one_is Kind.UTF8_VIEW k j) _ _ refl (cond_is P (one_is Kind.LARGE_UTF8 k j) _ _ refl refl)) tt
 
 binary_fits : (k j : ℕ) → If (λ i. Fits (of_kind i)) (binary_coercion k j)
 unfolding binary_coercion all_of is_kind parts_right between figure_right is_decimal last_unit
 binary_fits k j =
     let P = If (λ i. Fits (of_kind i)) in
-    cond_is P (eqb k Kind.binary && eqb j Kind.binary) _ _ refl
-    (cond_is P (eqb k Kind.large_binary && eqb j Kind.large_binary) _ _ refl
-    (cond_is P (eqb k Kind.binary_view && eqb j Kind.binary_view) _ _ refl
-    (cond_is P (with_kind Kind.binary_view (λ i. eqb i Kind.large_binary || is_binary_or_string i) k j) _ _ refl
-    (cond_is P (with_kind Kind.large_binary is_binary_or_string k j) _ _ refl
-    (cond_is P (with_kind Kind.binary is_long_string k j) _ _ refl
-    (cond_is P (with_kind Kind.binary (λ i. eqb i Kind.utf8) k j) _ _ refl
-    (cond_is P (with_kind Kind.binary (λ i. eqb i Kind.fixed_size_binary) k j) _ _ refl
-    (cond_is P (with_kind Kind.binary_view (λ i. eqb i Kind.fixed_size_binary) k j) _ _ refl tt))))))))
+    cond_is P (eqb k Kind.BINARY && eqb j Kind.BINARY) _ _ refl
+    (cond_is P (eqb k Kind.LARGE_BINARY && eqb j Kind.LARGE_BINARY) _ _ refl
+    (cond_is P (eqb k Kind.BINARY_VIEW && eqb j Kind.BINARY_VIEW) _ _ refl
+    (cond_is P (with_kind Kind.BINARY_VIEW (λ i. eqb i Kind.LARGE_BINARY || is_binary_or_string i) k j) _ _ refl
+    (cond_is P (with_kind Kind.LARGE_BINARY is_binary_or_string k j) _ _ refl
+    (cond_is P (with_kind Kind.BINARY is_long_string k j) _ _ refl
+    (cond_is P (with_kind Kind.BINARY (λ i. eqb i Kind.UTF8) k j) _ _ refl
+    (cond_is P (with_kind Kind.BINARY (λ i. eqb i Kind.FIXED_SIZE_BINARY) k j) _ _ refl
+    (cond_is P (with_kind Kind.BINARY_VIEW (λ i. eqb i Kind.FIXED_SIZE_BINARY) k j) _ _ refl tt))))))))
 
 -- the plain rules
 module _ (l r : DataType) (hl : Sound l) (hr : Sound r) where
@@ -180,9 +180,9 @@ module _ (l r : DataType) (hl : Sound l) (hr : Sound r) where
   pub temporal_sound : If Sound (temporal_coercion_nonstrict_timezone l r)
   unfolding temporal_coercion_nonstrict_timezone
   temporal_sound =
-      if_cond Sound (eqb l.shape.kind Kind.timestamp && eqb r.shape.kind Kind.timestamp) _ (as_type (temporal_coercion l.shape.kind r.shape.kind))
+      if_cond Sound (eqb l.shape.kind Kind.TIMESTAMP && eqb r.shape.kind Kind.TIMESTAMP) _ (as_type (temporal_coercion l.shape.kind r.shape.kind))
       (λ e. let u = timestamp_unit l hl (and_fst _ _ e) in
-      let v = timestamp_unit r hr (and_snd (eqb l.shape.kind Kind.timestamp) (eqb r.shape.kind Kind.timestamp) e) in
+      let v = timestamp_unit r hr (and_snd (eqb l.shape.kind Kind.TIMESTAMP) (eqb r.shape.kind Kind.TIMESTAMP) e) in
       timestamp_sound (timeunit_coercion l.shape.figure r.shape.figure) (zone_coercion l.shape.zone r.shape.zone) (omega arith)
       (zone_label l.shape.zone r.shape.zone hl.0.own_zone hr.0.own_zone))
       (λ e. as_sound (temporal_coercion l.shape.kind r.shape.kind) (temporal_fits l.shape.kind r.shape.kind))
@@ -207,16 +207,16 @@ module _ (l r : DataType) (hl : Sound l) (hr : Sound r) where
       cond_is P (is_string l.shape.kind && is_numeric r.shape.kind) _ _ hl (cond_is P (is_numeric l.shape.kind && is_string r.shape.kind) _ _ hr tt)
 
   pub string_number_sound : (q : Question) → If Sound (string_number q l r)
-  string_number_sound list = numeric_sound
-  string_number_sound union = numeric_union_sound
-  string_number_sound compare = numeric_sound
+  string_number_sound Question.List = numeric_sound
+  string_number_sound Question.Union = numeric_union_sound
+  string_number_sound Question.Compare = numeric_sound
 
 time_sound : (t : DataType) → Sound t → If Sound (time_of_string t)
 time_sound t h =
     let P = If Sound in
     cond_is P (is_date t.shape.kind) _ _ h
     (cond_is P (is_time t.shape.kind) _ _ (cond_is P (is_time_with_valid_unit t.shape.kind t.shape.figure) _ _ h tt)
-    (cond_is P (eqb t.shape.kind Kind.timestamp) _ _ (timestamp_sound nanosecond t.shape.zone (omega arith) h.0.own_zone) tt))
+    (cond_is P (eqb t.shape.kind Kind.TIMESTAMP) _ _ (timestamp_sound nanosecond t.shape.zone (omega arith) h.0.own_zone) tt))
 
 pub string_temporal_sound : (l r : DataType) → Sound l → Sound r → If Sound (string_temporal_coercion l r)
 unfolding string_temporal_coercion

@@ -10,10 +10,11 @@ use lib.Dec.{eqb, ltb, leb}
 use borrow.Author.Tests.{eqb-true, ltb-true, leb-true, le-leb, ne_eqb, not-true}
 use Rattle.sheet.specs.Tests.{all_of, between}
 use Rattle.sheet.specs.Types.{count}
-use Rattle.sheet.specs.Kind as Kind
+use Rattle.sheet.specs.declared.kind.TheConstants as Kind
 use Rattle.sheet.specs.Kind.{is_decimal, cap}
 use Rattle.sheet.proofs.Tests.{never, and_fst, and_snd}
-use Rattle.coercion.specs.Data.{DataType, plain, of_kind, of_unit, first_of}
+use Rattle.coercion.specs.declared.Rules.{Rules}
+use Rattle.coercion.specs.Data.{DataType, plain, of_kind, of_unit, first_of, for_list}
 use Rattle.coercion.specs.declared.Figures.{Figures}
 use Rattle.coercion.specs.Rules.{is_null, null_coercion, string_numeric_coercion}
 use Rattle.coercion.specs.Same.{same_zone, same_shape, same_fields, same_type, equal}
@@ -23,14 +24,14 @@ use Rattle.coercion.specs.Times.{temporal_coercion, temporal_coercion_nonstrict_
 use Rattle.coercion.specs.Nested.{list_coercion, map_coercion}
 use Rattle.coercion.specs.Answers.{coerce_in, coercion, Category, numeric, unknown, dateTime, category_of, category_number}
 use Rattle.coercion.specs.Families.{Family, integers, strings, timestamps, Member, integer, top, string, timestamp}
-use Rattle.coercion.proofs.Joins.{asking, Joins}
+use Rattle.coercion.proofs.Joins.{Joins}
 use Rattle.coercion.proofs.Resolving.{equal_plain, Categorised}
 use Rattle.coercion.proofs.Tables.{below, below2, below3, at, at2, at3}
 use Rattle.coercion.proofs.Codes.{Coded, coded_joins, of_one}
 
 -- Int8 to Int64 are 0 to 3, UInt8 to UInt64 are 4 to 7, Decimal128(20,0) is 8
 abbrev pub integer_at : ℕ → Figures
-integer_at r = cond (eqb r 8) (decimal Kind.decimal128 20 128) (of_kind (r + 3))
+integer_at r = cond (eqb r 8) (decimal Kind.DECIMAL128 20 128) (of_kind (r + 3))
 
 -- a signed integer with an unsigned one: the next wider signed one
 abbrev mixed : ℕ → ℕ → ℕ
@@ -43,7 +44,7 @@ abbrev pub string_at : ℕ → Figures
 string_at r = of_kind (r + 25)
 
 abbrev pub timestamp_at : ℕ → Figures
-timestamp_at u = of_unit Kind.timestamp u
+timestamp_at u = of_unit Kind.TIMESTAMP u
 
 abbrev answers_to : Option DataType → DataType → Bool
 answers_to None t = false
@@ -53,12 +54,12 @@ answers_to_lem : (o : Option DataType) (g : Figures) → answers_to o (plain g) 
 answers_to_lem None g h = never h
 answers_to_lem (Some u) g h = ap {B = Option DataType} Some (equal_plain u g h)
 
-abbrev Answering : (ℕ → Figures) → (ℕ → ℕ → ℕ) → ℕ → ℕ → ℕ → Bool
-Answering figuresAt up m r s = answers_to (coercion (asking m) (plain (figuresAt r)) (plain (figuresAt s))) (plain (figuresAt (up r s)))
+abbrev Answering : (ℕ → Figures) → (ℕ → ℕ → ℕ) → Rules → ℕ → ℕ → Bool
+Answering figuresAt up m r s = answers_to (coercion (for_list m) (plain (figuresAt r)) (plain (figuresAt s))) (plain (figuresAt (up r s)))
 
 -- the laws of a numbering, as computed tests
 pub record Lawful (figuresAt : ℕ → Figures) (up : ℕ → ℕ → ℕ) (n : ℕ) (c : Category) : Type 0 where
-  pub answers : (m : ℕ) → below2 (Answering figuresAt up m) n ≡ true
+  pub answers : (m : Rules) → below2 (Answering figuresAt up m) n ≡ true
   pub solid : below (λ r. not (is_null (plain (figuresAt r)))) n ≡ true
   pub closed : below2 (λ r s. ltb (up r s) n) n ≡ true
   pub comm : below2 (λ r s. eqb (up r s) (up s r)) n ≡ true
@@ -78,7 +79,7 @@ module _ (f : Family) (figuresAt : ℕ → Figures) (up : ℕ → ℕ → ℕ) (
         code = own.code;
         back = own.back;
         solid = λ r g. not-true (is_null (plain (figuresAt r))) (at (λ r. not (is_null (plain (figuresAt r)))) n laws.solid r g);
-        answers = λ m r s g h. answers_to_lem (coercion (asking m) (plain (figuresAt r)) (plain (figuresAt s))) (figuresAt (up r s))
+        answers = λ m r s g h. answers_to_lem (coercion (for_list m) (plain (figuresAt r)) (plain (figuresAt s))) (figuresAt (up r s))
             (at2 (Answering figuresAt up m) n (laws.answers m) r s g h);
         closed = λ r s g h. ltb-true (up r s) n (at2 (λ r s. ltb (up r s) n) n laws.closed r s g h);
         comm = λ r s g h. eqb-true (up r s) (up s r) (at2 (λ r s. eqb (up r s) (up s r)) n laws.comm r s g h);

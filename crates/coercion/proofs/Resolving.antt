@@ -3,19 +3,20 @@ use mathlib.Core.Path.{◌≡◌, refl, ap, sym, subst, ◌∙◌}
 use mathlib.Core.Bool.{Bool, true, false, cond, beq}
 use mathlib.Core.List.{List, [], ◌∷◌}
 use Rattle.std.specs.Prelude.{Option, Some}
-use Prim.Native.Nat.{ℕ, ◌+◌, ◌≤◌}
+use Prim.Native.Nat.{◌+◌, ◌≤◌}
 use native.Mathlib.Omega.{arith}
 use borrow.Author.Tests.{eqb-true, le-leb}
 use Rattle.sheet.specs.Tests.{all_of, between}
 use Rattle.sheet.specs.Types.{Zone, absent, present, Fields, end, field}
 use Rattle.sheet.proofs.Tests.{never, and_fst, and_snd, all_at}
-use Rattle.coercion.specs.Data.{DataType, plain, of_kind}
+use Rattle.coercion.specs.declared.Rules.{Rules}
+use Rattle.coercion.specs.Data.{DataType, plain, of_kind, for_list}
 use Rattle.coercion.specs.declared.Figures.{Figures}
 use Rattle.coercion.specs.Rules.{is_null}
 use Rattle.coercion.specs.Same.{same_zone, same_shape, same_fields, same_type, equal}
 use Rattle.coercion.specs.Answers.{Category, array, boolean, numeric, dateTime, composite, unknown, notSupported, category_of, category_number, is_category, has_category, as_number, categories_in, all_equal, fold_from, fold_types, type_union_resolution}
 use Rattle.coercion.specs.Families.{Family, Member, integer, top, string, timestamp, decimal_of, InFamily, null, member, AllIn, null_type}
-use Rattle.coercion.proofs.Joins.{asking, join, all, Joins, null_join, join_null, member_join, in_all, assoc, idem}
+use Rattle.coercion.proofs.Joins.{join, all, Joins, null_join, join_null, member_join, in_all, assoc, idem}
 
 -- an equation between values that a test chooses
 pub by_test {ℓ} : {A : Type ℓ} (b : Bool) {x y z : A} → (b ≡ true → x ≡ z) → (b ≡ false → y ≡ z) → cond b x y ≡ z
@@ -95,13 +96,13 @@ module _ (f : Family) (laws : Joins f) where
       ∙ idem f laws t b
 
   -- the fold from a member
-  fold_from_lem : (m : ℕ) (c : DataType) (ts : List DataType) → Member f c → AllIn f ts → fold_from (asking m) c ts ≡ Some (join c (all ts))
+  fold_from_lem : (m : Rules) (c : DataType) (ts : List DataType) → Member f c → AllIn f ts → fold_from (for_list m) c ts ≡ Some (join c (all ts))
   unfolding fold_from all
   fold_from_lem m c [] b a = ap {B = Option DataType} Some (sym (join_null f laws c (member b)))
   fold_from_lem m c (t ∷ ts) b a = go t a.0 (λ x y. fold_from_lem m x ts y a.1)
     where
-      go : (t : DataType) → InFamily f t → ((x : DataType) → Member f x → fold_from (asking m) x ts ≡ Some (join x (all ts)))
-          → fold_from (asking m) c (t ∷ ts) ≡ Some (join c (all (t ∷ ts)))
+      go : (t : DataType) → InFamily f t → ((x : DataType) → Member f x → fold_from (for_list m) x ts ≡ Some (join x (all ts)))
+          → fold_from (for_list m) c (t ∷ ts) ≡ Some (join c (all (t ∷ ts)))
       go t null r = r c b ∙ ap (λ (x : DataType). Some (join c x)) (sym (null_join (all ts)))
       go t (member d) r =
           rw (laws.solid t d)
@@ -110,13 +111,13 @@ module _ (f : Family) (laws : Joins f) where
           ∙ ap {B = Option DataType} Some
           (ap (λ (x : DataType). join x (all ts)) (laws.comm t c d b) ∙ assoc f laws c t (all ts) (member b) (member d) (in_all f laws ts a.1))))
 
-  fold_types_lem : (m : ℕ) (ts : List DataType) → AllIn f ts → is_null (all ts) ≡ false → fold_types (asking m) ts ≡ Some (all ts)
+  fold_types_lem : (m : Rules) (ts : List DataType) → AllIn f ts → is_null (all ts) ≡ false → fold_types (for_list m) ts ≡ Some (all ts)
   unfolding fold_types all
   fold_types_lem m [] a h = never (sym h)
   fold_types_lem m (t ∷ ts) a h = go t a.0 h (fold_types_lem m ts a.1)
     where
-      go : (t : DataType) → InFamily f t → is_null (all (t ∷ ts)) ≡ false → (is_null (all ts) ≡ false → fold_types (asking m) ts ≡ Some (all ts))
-          → fold_types (asking m) (t ∷ ts) ≡ Some (all (t ∷ ts))
+      go : (t : DataType) → InFamily f t → is_null (all (t ∷ ts)) ≡ false → (is_null (all ts) ≡ false → fold_types (for_list m) ts ≡ Some (all ts))
+          → fold_types (for_list m) (t ∷ ts) ≡ Some (all (t ∷ ts))
       go t null h r = r (ap is_null (sym (null_join (all ts))) ∙ h) ∙ ap {B = Option DataType} Some (sym (null_join (all ts)))
       go t (member d) h r = rw (laws.solid t d) (fold_from_lem m t ts d a.1)
 
@@ -165,8 +166,8 @@ module _ (f : Family) (laws : Joins f) where
         (omega (arith, counted c, at_most array ts a, at_most boolean ts a, at_most numeric ts a, at_most dateTime ts a, at_most composite ts a)))
 
     -- the list answer
-    pub resolved : (m : ℕ) (t : DataType) (ts : List DataType) → is_category notSupported c ≡ false → AllIn f (t ∷ ts)
-        → type_union_resolution (asking m) (t ∷ ts) ≡ Some (all (t ∷ ts))
+    pub resolved : (m : Rules) (t : DataType) (ts : List DataType) → is_category notSupported c ≡ false → AllIn f (t ∷ ts)
+        → type_union_resolution (for_list m) (t ∷ ts) ≡ Some (all (t ∷ ts))
     unfolding type_union_resolution all
     resolved m t ts h a =
         by_test (all_equal t ts) (λ e. ap {B = Option DataType} Some (sym (same_all t ts a.0 a.1 e)))

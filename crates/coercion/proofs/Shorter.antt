@@ -10,12 +10,14 @@ use Rattle.sheet.specs.Types.{Zone, Fields, end, field, count, labels}
 use Rattle.sheet.specs.Names.{names_differ}
 use Rattle.sheet.specs.Encode.{encode}
 use Rattle.sheet.proofs.Chains.{encode_length}
-use Rattle.coercion.specs.Data.{DataType, size, single, types_of, Question, Rules}
+use Rattle.coercion.specs.Data.{DataType, size, single, types_of}
 use Rattle.coercion.specs.Answers.{coercion, answer_of}
 use Rattle.coercion.proofs.Maybe.{If, if_weak, if_some}
 use Rattle.coercion.proofs.Folding.{total, Each, Under, answer_kept}
 use Rattle.coercion.proofs.Weights.{weigh, weight, Scales, nothing, one, records_scales, records_weigh, name_length, zone_length, labels_scales, labels_weigh, Apart, TypeApart, apart_differ, differ_apart}
 use Rattle.coercion.proofs.Lighter.{coercion_light}
+use Rattle.coercion.specs.declared.Question.{Question}
+use Rattle.coercion.specs.declared.Rules.{Rules}
 
 types_apart : (ts : Fields) → Apart ts → Each TypeApart (types_of ts)
 unfolding types_of

@@ -21,4 +21,4 @@ unfolding all_of between is_decimal arity count same_bytes first_of Same.same_zo
     Numbers.binary_numeric_coercion Nested.list_coercion Nested.map_coercion Times.temporal_coercion_nonstrict_timezone Strings.string_coercion
     Strings.binary_coercion Plain.null_coercion Plain.string_numeric_coercion Answers.coerce_in Answers.coercion Answers.category_of Answers.has_category
     Answers.categories_in Answers.fold_from Answers.fold_types type_union_resolution
-later_zone_lem mask = refl
+later_zone_lem rules = refl

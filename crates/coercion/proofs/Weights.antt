@@ -8,7 +8,7 @@ use native.Mathlib.Omega.{arith}
 use lib.ListN.{length, length-append}
 use lib.Dec.{eqb}
 use borrow.Author.Tests.{not-true}
-use Rattle.sheet.specs.Kind as Kind
+use Rattle.sheet.specs.declared.kind.TheConstants as Kind
 use Rattle.sheet.specs.Types.{Zone, absent, Shape, Fields, end, field, count, zone_bytes, own_labels, labels}
 use Rattle.sheet.specs.Names.{same_bytes, has_name, repeats, names_differ}
 use Rattle.sheet.proofs.Tests.{all_at, all_cons, all_nil, never, or_fst, or_snd}
@@ -71,7 +71,7 @@ labels_weigh (field name nullable shape parts rest) =
 
 -- names in each Struct differ, of a type and of a chain
 pub record NamesApart (shape : Shape) (parts : Fields) : Type 0 where
-  pub own : eqb shape.kind Kind.struct ≡ true → repeats parts ≡ false
+  pub own : eqb shape.kind Kind.STRUCT ≡ true → repeats parts ≡ false
 
 abbrev pub Apart : Fields → Type 0
 Apart end = Unit
@@ -84,9 +84,9 @@ pub apart_differ : (f : Fields) → Apart f → names_differ f ≡ true
 unfolding names_differ
 apart_differ end h = refl
 apart_differ (field name nullable shape parts rest) h =
-    all_cons _ (go (eqb shape.kind Kind.struct) refl) (all_cons _ (apart_differ parts h.1.0) (all_cons _ (apart_differ rest h.1.1) all_nil))
+    all_cons _ (go (eqb shape.kind Kind.STRUCT) refl) (all_cons _ (apart_differ parts h.1.0) (all_cons _ (apart_differ rest h.1.1) all_nil))
   where
-    go : (x : Bool) → eqb shape.kind Kind.struct ≡ x → not (x && repeats parts) ≡ true
+    go : (x : Bool) → eqb shape.kind Kind.STRUCT ≡ x → not (x && repeats parts) ≡ true
     go true e = rw (h.0.own e)
     go false e = refl
 
@@ -94,7 +94,7 @@ pub differ_apart : (f : Fields) → names_differ f ≡ true → Apart f
 unfolding names_differ
 differ_apart end h = tt
 differ_apart (field name nullable shape parts rest) h =
-    let g : not (eqb shape.kind Kind.struct && repeats parts) ≡ true = all_at _ 0 h in
+    let g : not (eqb shape.kind Kind.STRUCT && repeats parts) ≡ true = all_at _ 0 h in
     (record { own = λ e. let g' : not (repeats parts) ≡ true = rw e at g in not-true _ g' }, (differ_apart parts (all_at _ 1 h), differ_apart rest (all_at _ 2 h)))
 
 same_comm : (x y : List ℕ) → same_bytes x y ≡ true → same_bytes y x ≡ true

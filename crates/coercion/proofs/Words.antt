@@ -9,11 +9,10 @@ use lib.ListN.{replicate}
 use lib.Dec.{eqb}
 use borrow.Author.Tests.{ne_eqb, eqb-true}
 use Rattle.sheet.specs.Tests.{between}
-use Rattle.sheet.specs.Kind as Kind
-use Rattle.sheet.specs.Kind.{is_decimal}
+use Rattle.sheet.specs.declared.kind.TheConstants as Kind
+use Rattle.sheet.specs.Kind.{is_decimal, is_list}
 use Rattle.sheet.specs.Types.{Shape, Fields, end, field, arity, count}
-use Rattle.coercion.specs.Data.{DataType, size, types_of, Question, list, union, compare, Rules, or_else, and_then, first_of}
-use Rattle.coercion.specs.Kinds.{is_list}
+use Rattle.coercion.specs.Data.{DataType, size, types_of, or_else, and_then, first_of, for_list, for_question}
 use Rattle.coercion.specs.Same.{equal, alike}
 use Rattle.coercion.specs.Nested.{join_fields, by_name, partners, shape_of_kind, struct_of, struct_coercion, list_shape, list_of, list_coercion, map_shape, entry_type, entry_of, map_coercion}
 use Rattle.coercion.specs.Wrappers.{is_of}
@@ -24,15 +23,17 @@ use Rattle.coercion.specs.Rules as Rules
 use Rattle.coercion.specs.Wrappers as Wrappers
 use Rattle.coercion.specs.Answers.{ask, list_struct, coerce_in, coercion, all_equal, type_union_resolution}
 use Rattle.coercion.proofs.Sameness.{equal_same, equal_self, equal_alike, alike_self, alike_arity}
-use Rattle.coercion.specs.Columns.{Pairs, of_union, of_compare, rules_for, rows_of, names_of, nulls_of, by_place, Merged, Entry}
+use Rattle.coercion.specs.Columns.{Pairs, of_union, of_compare, rows_of, names_of, nulls_of, by_place, Merged, Entry}
+use Rattle.coercion.specs.declared.Question.{Question}
+use Rattle.coercion.specs.declared.Rules.{Rules}
 
 -- "Alike types give the left"
 alike_asked : (q : Question) → Pairs q → (rules : Rules) (coerce : DataType → DataType → Option DataType) (l r : DataType)
     → alike l r ≡ true → ask q rules coerce l r ≡ Some l
 unfolding first_of
-alike_asked list x'' rules coerce l r h = elim x'' [ ]
-alike_asked union of_union rules coerce l r h = rw h
-alike_asked compare of_compare rules coerce l r h = rw h
+alike_asked Question.List x'' rules coerce l r h = elim x'' [ ]
+alike_asked Question.Union of_union rules coerce l r h = rw h
+alike_asked Question.Compare of_compare rules coerce l r h = rw h
 
 -- a call of the rules, one step down
 pub coercion_step : (rules : Rules) (l r : DataType) → coercion rules l r ≡ ask rules.question rules (coerce_in (1 + (count l.parts + count r.parts)) rules) l r
@@ -46,9 +47,9 @@ alike_left rules q l r h = coercion_step rules l r ∙ alike_asked rules.questio
 
 -- equal types give themselves in all three
 equal_asked : (q : Question) (rules : Rules) (coerce : DataType → DataType → Option DataType) (t : DataType) → ask q rules coerce t t ≡ Some t
-equal_asked list rules coerce t = rw (equal_self t)
-equal_asked union rules coerce t = alike_asked union of_union rules coerce t t (alike_self t)
-equal_asked compare rules coerce t = alike_asked compare of_compare rules coerce t t (alike_self t)
+equal_asked Question.List rules coerce t = rw (equal_self t)
+equal_asked Question.Union rules coerce t = alike_asked Question.Union of_union rules coerce t t (alike_self t)
+equal_asked Question.Compare rules coerce t = alike_asked Question.Compare of_compare rules coerce t t (alike_self t)
 
 pub equal_left : (rules : Rules) (l r : DataType) → equal l r ≡ true → coercion rules l r ≡ Some l
 equal_left rules l r h =
@@ -141,36 +142,36 @@ module _ (coerce : DataType → DataType → Option DataType) where
   -- The answer for two Structs whose right fields were ordered before they were joined with the left's: the fields
   -- that give types, those that give nullability, and what was made of them.
   made_of : (l : Fields) (o : Option Fields) (nulls : Fields → Fields) (t : DataType) → struct_of (and_then o (λ fields. join_fields coerce l fields (nulls fields))) ≡ Some t
-      → (fields : Fields) × (o ≡ Some fields) × (t.shape ≡ shape_of_kind Kind.struct) × Merged coerce l fields (nulls fields) t.parts
+      → (fields : Fields) × (o ≡ Some fields) × (t.shape ≡ shape_of_kind Kind.STRUCT) × Merged coerce l fields (nulls fields) t.parts
   made_of l None nulls t h = let z : ◌≡◌ {A = ℕ} 0 1 = cc in absurd (omega arith)
   made_of l (Some fields) nulls t h = go (join_fields coerce l fields (nulls fields)) refl
     where
       go : (j : Option Fields) → join_fields coerce l fields (nulls fields) ≡ j
-          → (fields' : Fields) × (Some fields ≡ Some fields') × (t.shape ≡ shape_of_kind Kind.struct) × Merged coerce l fields' (nulls fields') t.parts
+          → (fields' : Fields) × (Some fields ≡ Some fields') × (t.shape ≡ shape_of_kind Kind.STRUCT) × Merged coerce l fields' (nulls fields') t.parts
       go None e = let i : None ≡ Some t = rw e at h in let z : ◌≡◌ {A = ℕ} 0 1 = cc in absurd (omega arith)
       go (Some f) e =
-          let i : Some (record { shape = shape_of_kind Kind.struct; parts = f }) ≡ Some t = rw e at h in
-          let j : record { shape = shape_of_kind Kind.struct; parts = f } ≡ t = cc in
+          let i : Some (record { shape = shape_of_kind Kind.STRUCT; parts = f }) ≡ Some t = rw e at h in
+          let j : record { shape = shape_of_kind Kind.STRUCT; parts = f } ≡ t = cc in
           (fields, refl, ap (λ (t : DataType). t.shape) (sym j), merged l fields (nulls fields) t.parts (e ∙ ap (λ (t : DataType). Some t.parts) j))
 
   -- union and compare: types and nullability go by the pairing
   pub struct_answer : (l r t : DataType) → struct_coercion coerce l r ≡ Some t
-      → (fields : Fields) × (partners l.parts r.parts ≡ Some fields) × (t.shape ≡ shape_of_kind Kind.struct) × Merged coerce l.parts fields fields t.parts
+      → (fields : Fields) × (partners l.parts r.parts ≡ Some fields) × (t.shape ≡ shape_of_kind Kind.STRUCT) × Merged coerce l.parts fields fields t.parts
   unfolding struct_coercion
   struct_answer l r t h =
       made_of l.parts (partners l.parts r.parts) (λ fields. fields) t
-      (held (is_of Kind.struct l && (is_of Kind.struct r && eqb (arity l.parts) (arity r.parts))) _ t h)
+      (held (is_of Kind.STRUCT l && (is_of Kind.STRUCT r && eqb (arity l.parts) (arity r.parts))) _ t h)
 
   -- a list: types by name, "In a list the nullability of Structs is joined by place"
   pub list_struct_answer : (l r t : DataType) → list_struct coerce l r ≡ Some t
-      → (fields : Fields) × (by_name l.parts r.parts ≡ Some fields) × (t.shape ≡ shape_of_kind Kind.struct) × Merged coerce l.parts fields r.parts t.parts
+      → (fields : Fields) × (by_name l.parts r.parts ≡ Some fields) × (t.shape ≡ shape_of_kind Kind.STRUCT) × Merged coerce l.parts fields r.parts t.parts
   list_struct_answer l r t h =
       made_of l.parts (by_name l.parts r.parts) (λ fields. r.parts) t (held (eqb (arity l.parts) (arity r.parts)) _ t h)
 
   -- "Structs with unequal numbers of fields have no common type"
   pub struct_unequal : (l r : DataType) → (arity l.parts ≡ arity r.parts → ⊥) → struct_coercion coerce l r ≡ None
   unfolding struct_coercion
-  struct_unequal l r n = rw (ne_eqb (arity l.parts) (arity r.parts) n) (rw (and_false (is_of Kind.struct r)) (rw (and_false (is_of Kind.struct l))))
+  struct_unequal l r n = rw (ne_eqb (arity l.parts) (arity r.parts) n) (rw (and_false (is_of Kind.STRUCT r)) (rw (and_false (is_of Kind.STRUCT l))))
 
   pub list_struct_unequal : (l r : DataType) → (arity l.parts ≡ arity r.parts → ⊥) → list_struct coerce l r ≡ None
   list_struct_unequal l r n = rw (ne_eqb (arity l.parts) (arity r.parts) n)
@@ -194,7 +195,7 @@ module _ (coerce : DataType → DataType → Option DataType) where
   pub map_answer : (l r t : DataType) → map_coercion coerce l r ≡ Some t → Entry coerce l r t
   unfolding map_coercion
   map_answer l r t h =
-      entries (entry_type l.parts) refl (entry_type r.parts) refl (held (is_of Kind.map l && is_of Kind.map r) _ t h)
+      entries (entry_type l.parts) refl (entry_type r.parts) refl (held (is_of Kind.MAP l && is_of Kind.MAP r) _ t h)
     where
       shut : None ≡ Some t → Entry coerce l r t
       shut e = let z : ◌≡◌ {A = ℕ} 0 1 = cc in absurd (omega arith)
@@ -249,54 +250,54 @@ fails false n = refl
 abbrev struct_with : Shape → Fields → DataType
 struct_with s p =
     record {
-      shape = record { kind = Kind.struct; figure = s.figure; scale = s.scale; size = s.size; sorted = s.sorted; zone = s.zone };
+      shape = record { kind = Kind.STRUCT; figure = s.figure; scale = s.scale; size = s.size; sorted = s.sorted; zone = s.zone };
       parts = p;
     }
 
 -- what holds of Structs by their other figures holds of two types of that kind
 of_structs : (P : DataType → DataType → Type 0) → ((s s' : Shape) (p p' : Fields) → P (struct_with s p) (struct_with s' p'))
-    → (l r : DataType) → is_of Kind.struct l ≡ true → is_of Kind.struct r ≡ true → P l r
+    → (l r : DataType) → is_of Kind.STRUCT l ≡ true → is_of Kind.STRUCT r ≡ true → P l r
 of_structs P f l r x y = subst (λ (t : DataType). P t r) (is l x) (subst (P (struct_with l.shape l.parts)) (is r y) (f l.shape r.shape l.parts r.parts))
   where
-    is : (t : DataType) → is_of Kind.struct t ≡ true → struct_with t.shape t.parts ≡ t
+    is : (t : DataType) → is_of Kind.STRUCT t ≡ true → struct_with t.shape t.parts ≡ t
     is t h =
         ap
         (λ (k : ℕ). record {
           shape = record { kind = k; figure = t.shape.figure; scale = t.shape.scale; size = t.shape.size; sorted = t.shape.sorted; zone = t.shape.zone };
           parts = t.parts;
         })
-        (sym (eqb-true t.shape.kind Kind.struct h))
+        (sym (eqb-true t.shape.kind Kind.STRUCT h))
 
-module _ (coerce : DataType → DataType → Option DataType) (mask : ℕ) where
+module _ (coerce : DataType → DataType → Option DataType) (rules : Rules) where
   pair_structs : (q : Question) → Pairs q → (s s' : Shape) (p p' : Fields) → alike (struct_with s p) (struct_with s' p') ≡ false
-      → ask q (rules_for q mask) coerce (struct_with s p) (struct_with s' p') ≡ struct_coercion coerce (struct_with s p) (struct_with s' p')
+      → ask q (for_question q rules) coerce (struct_with s p) (struct_with s' p') ≡ struct_coercion coerce (struct_with s p) (struct_with s' p')
   unfolding first_of between is_decimal Numbers.binary_numeric_coercion Times.temporal_coercion Times.temporal_coercion_nonstrict_timezone
       Strings.string_coercion Strings.binary_coercion Rules.null_coercion Rules.string_numeric_coercion Rules.string_numeric_union_coercion
       Rules.string_temporal_coercion Wrappers.wrapper_coercion list_coercion map_coercion
-  pair_structs list x'' s s' p p' h = elim x'' [ ]
-  pair_structs union of_union s s' p p' h = rw h (or_none _)
-  pair_structs compare of_compare s s' p p' h = rw h (or_none _)
+  pair_structs Question.List x'' s s' p p' h = elim x'' [ ]
+  pair_structs Question.Union of_union s s' p p' h = rw h (or_none _)
+  pair_structs Question.Compare of_compare s s' p p' h = rw h (or_none _)
 
   -- Structs that are not alike have the answer of the Struct rule
-  pub structs_asked : (q : Question) → Pairs q → (l r : DataType) → is_of Kind.struct l ≡ true → is_of Kind.struct r ≡ true → alike l r ≡ false
-      → ask q (rules_for q mask) coerce l r ≡ struct_coercion coerce l r
+  pub structs_asked : (q : Question) → Pairs q → (l r : DataType) → is_of Kind.STRUCT l ≡ true → is_of Kind.STRUCT r ≡ true → alike l r ≡ false
+      → ask q (for_question q rules) coerce l r ≡ struct_coercion coerce l r
   structs_asked q u l r x y h =
-      of_structs (λ l r. alike l r ≡ false → ask q (rules_for q mask) coerce l r ≡ struct_coercion coerce l r) (pair_structs q u) l r x y h
+      of_structs (λ l r. alike l r ≡ false → ask q (for_question q rules) coerce l r ≡ struct_coercion coerce l r) (pair_structs q u) l r x y h
 
   -- and so in a list, where they are not equal
-  pub list_structs_asked : (l r : DataType) → is_of Kind.struct l ≡ true → is_of Kind.struct r ≡ true → equal l r ≡ false
-      → ask list (rules_for list mask) coerce l r ≡ list_struct coerce l r
+  pub list_structs_asked : (l r : DataType) → is_of Kind.STRUCT l ≡ true → is_of Kind.STRUCT r ≡ true → equal l r ≡ false
+      → ask Question.List (for_list rules) coerce l r ≡ list_struct coerce l r
   list_structs_asked l r x y h =
-      of_structs (λ l r. equal l r ≡ false → ask list (rules_for list mask) coerce l r ≡ list_struct coerce l r) (λ s s' p p' h. rw h) l r x y h
+      of_structs (λ l r. equal l r ≡ false → ask Question.List (for_list rules) coerce l r ≡ list_struct coerce l r) (λ s s' p p' h. rw h) l r x y h
 
   -- "Structs with unequal numbers of fields have no common type", whichever the question
-  unequal_asked : (q : Question) (l r : DataType) → is_of Kind.struct l ≡ true → is_of Kind.struct r ≡ true → (arity l.parts ≡ arity r.parts → ⊥)
-      → ask q (rules_for q mask) coerce l r ≡ None
-  unequal_asked list l r x y n =
+  unequal_asked : (q : Question) (l r : DataType) → is_of Kind.STRUCT l ≡ true → is_of Kind.STRUCT r ≡ true → (arity l.parts ≡ arity r.parts → ⊥)
+      → ask q (for_question q rules) coerce l r ≡ None
+  unequal_asked Question.List l r x y n =
       list_structs_asked l r x y (fails (equal l r) (λ h. n (alike_arity l r (equal_alike l r h)))) ∙ list_struct_unequal coerce l r n
-  unequal_asked union l r x y n = structs_asked union of_union l r x y (fails (alike l r) (λ h. n (alike_arity l r h))) ∙ struct_unequal coerce l r n
-  unequal_asked compare l r x y n = structs_asked compare of_compare l r x y (fails (alike l r) (λ h. n (alike_arity l r h))) ∙ struct_unequal coerce l r n
+  unequal_asked Question.Union l r x y n = structs_asked Question.Union of_union l r x y (fails (alike l r) (λ h. n (alike_arity l r h))) ∙ struct_unequal coerce l r n
+  unequal_asked Question.Compare l r x y n = structs_asked Question.Compare of_compare l r x y (fails (alike l r) (λ h. n (alike_arity l r h))) ∙ struct_unequal coerce l r n
 
-pub structs_unequal : (rules : Rules) (l r : DataType) → is_of Kind.struct l ≡ true → is_of Kind.struct r ≡ true → (arity l.parts ≡ arity r.parts → ⊥)
+pub structs_unequal : (rules : Rules) (l r : DataType) → is_of Kind.STRUCT l ≡ true → is_of Kind.STRUCT r ≡ true → (arity l.parts ≡ arity r.parts → ⊥)
     → coercion rules l r ≡ None
-structs_unequal rules l r x y n = coercion_step rules l r ∙ unequal_asked _ rules.mask rules.question l r x y n
+structs_unequal rules l r x y n = coercion_step rules l r ∙ unequal_asked _ rules rules.question l r x y n

@@ -1,10 +1,10 @@
 -- The three answers on types: `type_union_resolution`, `type_union_coercion`, `comparison_coercion`.
 use Rattle.std.specs.Prelude.{ℕ, zero, suc, ◌+◌, Bool, true, false, cond, not, ◌&&◌, ◌||◌, List, [], ◌∷◌, eqb}
 use Rattle.std.specs.Prelude.{Option, None, Some}
-use Rattle.sheet.specs.Kind as Kind
+use Rattle.sheet.specs.declared.kind.TheConstants as Kind
 use Rattle.sheet.specs.Types.{Shape, Fields, end, field, arity}
-use Rattle.coercion.specs.Data.{DataType, size, Question, list, union, compare, Rules, and_then, first_of, figures_of, plain, as_type, of_kind}
-use Rattle.coercion.specs.Kinds.{is_numeric, is_string, is_date, is_time, is_span, is_list}
+use Rattle.coercion.specs.Data.{DataType, size, and_then, first_of, figures_of, plain, as_type, of_kind}
+use Rattle.sheet.specs.Kind.{is_numeric, is_string, is_date, is_time, is_span, is_list}
 use Rattle.coercion.specs.Strings.{string_coercion, binary_coercion}
 use Rattle.coercion.specs.Times.{temporal_coercion_nonstrict_timezone}
 use Rattle.coercion.specs.Numbers.{binary_numeric_coercion}
@@ -12,6 +12,8 @@ use Rattle.coercion.specs.Same.{equal, alike}
 use Rattle.coercion.specs.Rules.{is_null, null_coercion, string_numeric_coercion, string_numeric_union_coercion, string_temporal_coercion}
 use Rattle.coercion.specs.Wrappers.{value_in, is_of, dictionary_coercion, ree_coercion}
 use Rattle.coercion.specs.Nested.{before, join_fields, by_name, struct_of, struct_coercion, list_coercion, map_coercion}
+use Rattle.coercion.specs.declared.Question.{Question}
+use Rattle.coercion.specs.declared.Rules.{Rules}
 
 abbrev pub of_kind_type : Option ℕ → Option DataType
 of_kind_type None = None
@@ -19,9 +21,9 @@ of_kind_type (Some k) = Some (plain (of_kind k))
 
 -- `string_numeric_union_coercion` in a union, `string_numeric_coercion` else
 abbrev pub string_number : Question → DataType → DataType → Option DataType
-string_number list l r = string_numeric_coercion l r
-string_number union l r = string_numeric_union_coercion l r
-string_number compare l r = string_numeric_coercion l r
+string_number Question.List l r = string_numeric_coercion l r
+string_number Question.Union l r = string_numeric_union_coercion l r
+string_number Question.Compare l r = string_numeric_coercion l r
 
 -- The rules of `type_union_coercion` and `comparison_coercion`, in the source's order: "The number of a rule is its
 -- place in this list", the alike test being number 1.
@@ -50,7 +52,7 @@ dictionary_of d (field name nullable shape parts rest) value =
 
 -- "A Dictionary of Utf8View is redundant, so a Dictionary with a type that is none gives Utf8View alone"
 abbrev pub keep_dictionary : DataType → DataType → Option DataType
-keep_dictionary d value = cond (is_of Kind.utf8_view value) (Some value) (dictionary_of d d.parts value)
+keep_dictionary d value = cond (is_of Kind.UTF8_VIEW value) (Some value) (dictionary_of d d.parts value)
 
 -- "Two wrappers of one kind are joined part by part, under the names and nullability of the left, the new type"
 abbrev pub both_parts : (DataType → DataType → Option DataType) → DataType → Fields → Fields → Option DataType
@@ -99,20 +101,20 @@ list_rules rules coerce l r =
 abbrev pub resolution_coercion : Rules → (DataType → DataType → Option DataType) → DataType → DataType → Option DataType
 resolution_coercion rules coerce l r =
     cond (equal l r) (Some l)
-    (cond (is_of Kind.dictionary l && is_of Kind.dictionary r) (both_parts coerce l l.parts r.parts)
-    (cond (is_of Kind.dictionary l) (wrapped coerce l r keep_dictionary)
-    (cond (is_of Kind.dictionary r) (wrapped coerce r l keep_dictionary)
-    (cond (is_of Kind.run_end_encoded l && is_of Kind.run_end_encoded r) (both_parts coerce l l.parts r.parts)
-    (cond (is_of Kind.run_end_encoded l) (wrapped coerce l r (λ d t. run_ends_of d d.parts t))
-    (cond (is_of Kind.run_end_encoded r) (wrapped coerce r l (λ d t. run_ends_of d d.parts t))
-    (cond (is_of Kind.struct l && is_of Kind.struct r) (list_struct coerce l r)
+    (cond (is_of Kind.DICTIONARY l && is_of Kind.DICTIONARY r) (both_parts coerce l l.parts r.parts)
+    (cond (is_of Kind.DICTIONARY l) (wrapped coerce l r keep_dictionary)
+    (cond (is_of Kind.DICTIONARY r) (wrapped coerce r l keep_dictionary)
+    (cond (is_of Kind.RUN_END_ENCODED l && is_of Kind.RUN_END_ENCODED r) (both_parts coerce l l.parts r.parts)
+    (cond (is_of Kind.RUN_END_ENCODED l) (wrapped coerce l r (λ d t. run_ends_of d d.parts t))
+    (cond (is_of Kind.RUN_END_ENCODED r) (wrapped coerce r l (λ d t. run_ends_of d d.parts t))
+    (cond (is_of Kind.STRUCT l && is_of Kind.STRUCT r) (list_struct coerce l r)
     (first_of (list_rules rules coerce l r)))))))))
 
 -- what a question asks of two types, with what it asks of their parts
 abbrev pub ask : Question → Rules → (DataType → DataType → Option DataType) → DataType → DataType → Option DataType
-ask list rules coerce l r = resolution_coercion rules coerce l r
-ask union rules coerce l r = first_of (pair_rules rules coerce l r)
-ask compare rules coerce l r = first_of (pair_rules rules coerce l r)
+ask Question.List rules coerce l r = resolution_coercion rules coerce l r
+ask Question.Union rules coerce l r = first_of (pair_rules rules coerce l r)
+ask Question.Compare rules coerce l r = first_of (pair_rules rules coerce l r)
 
 -- the same with a bound on the depth
 unfoldable pub coerce_in : ℕ → Rules → DataType → DataType → Option DataType
@@ -132,18 +134,18 @@ pub data Category : Type 0 where
 abbrev pub own_category : ℕ → Category
 own_category k =
     cond (is_numeric k) numeric
-    (cond (eqb k Kind.boolean) boolean
+    (cond (eqb k Kind.BOOLEAN) boolean
     (cond (is_list k) array
-    (cond (is_string k || eqb k Kind.null) unknown
-    (cond (is_date k || (is_time k || (eqb k Kind.timestamp || is_span k))) dateTime
-    (cond (eqb k Kind.struct || eqb k Kind.map) composite notSupported)))))
+    (cond (is_string k || eqb k Kind.NULL) unknown
+    (cond (is_date k || (is_time k || (eqb k Kind.TIMESTAMP || is_span k))) dateTime
+    (cond (eqb k Kind.STRUCT || eqb k Kind.MAP) composite notSupported)))))
 
 -- "A Dictionary and a RunEndEncoded have the category of their value"
 unfoldable pub category_of : Shape → Fields → Category
-category_of shape end = cond (eqb shape.kind Kind.dictionary || eqb shape.kind Kind.run_end_encoded) notSupported (own_category shape.kind)
-category_of shape (field n b s p end) = cond (eqb shape.kind Kind.dictionary || eqb shape.kind Kind.run_end_encoded) notSupported (own_category shape.kind)
+category_of shape end = cond (eqb shape.kind Kind.DICTIONARY || eqb shape.kind Kind.RUN_END_ENCODED) notSupported (own_category shape.kind)
+category_of shape (field n b s p end) = cond (eqb shape.kind Kind.DICTIONARY || eqb shape.kind Kind.RUN_END_ENCODED) notSupported (own_category shape.kind)
 category_of shape (field n b s p (field n₂ b₂ s₂ p₂ rest)) =
-    cond (eqb shape.kind Kind.dictionary || eqb shape.kind Kind.run_end_encoded) (category_of s₂ p₂) (own_category shape.kind)
+    cond (eqb shape.kind Kind.DICTIONARY || eqb shape.kind Kind.RUN_END_ENCODED) (category_of s₂ p₂) (own_category shape.kind)
 
 -- the number of a category, to tell two apart
 abbrev pub category_number : Category → ℕ
@@ -211,6 +213,6 @@ pair_answer rules (l ∷ r ∷ x ∷ xs) = None
 
 -- the answer for a list of types
 abbrev pub answer_of : Question → Rules → List DataType → Option DataType
-answer_of list rules ts = type_union_resolution rules ts
-answer_of union rules ts = pair_answer rules ts
-answer_of compare rules ts = pair_answer rules ts
+answer_of Question.List rules ts = type_union_resolution rules ts
+answer_of Question.Union rules ts = pair_answer rules ts
+answer_of Question.Compare rules ts = pair_answer rules ts

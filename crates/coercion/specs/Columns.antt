@@ -3,17 +3,14 @@
 use Rattle.std.specs.Prelude.{◌≡◌, ℕ, Bool, ◌&&◌, ◌||◌, Option, Some}
 use mathlib.Core.List.{List, [], ◌∷◌, map, Permᴰ}
 use Rattle.sheet.specs.Types.{Fields, end, field, arity}
-use Rattle.coercion.specs.Data.{DataType, types_of, Question, union, compare, Rules}
+use Rattle.coercion.specs.Data.{DataType, types_of}
 use Rattle.coercion.specs.Nested.{by_name, partners, struct_coercion, entry_type, entry_of, map_shape}
+use Rattle.coercion.specs.declared.Question.{Question}
 
 -- the questions about two types
 pub data Pairs : Question → Type 0 where
-  of_union : Pairs union
-  of_compare : Pairs compare
-
--- the rules of a question
-abbrev pub rules_for : Question → ℕ → Rules
-rules_for q mask = record { question = q; mask = mask }
+  of_union : Pairs Question.Union
+  of_compare : Pairs Question.Compare
 
 -- a field by itself
 pub record Row : Type 0 where

@@ -1,8 +1,10 @@
--- Types, the question with its mask, and answers that may be missing.
-use Rattle.std.specs.Prelude.{ℕ, ◌+◌, ◌/◌, ◌%◌, ◌^◌, Bool, false, List, [], ◌∷◌, eqb}
+-- Types, what is asked of them, and answers that may be missing.
+use Rattle.std.specs.Prelude.{ℕ, ◌+◌, ◌/◌, ◌%◌, ◌^◌, Bool, true, false, List, [], ◌∷◌, eqb}
 use Rattle.std.specs.Prelude.{Option, None, Some}
 use Rattle.sheet.specs.Types.{Zone, absent, Shape, Fields, end, field, count}
 use Rattle.coercion.specs.declared.Figures.{Figures}
+use Rattle.coercion.specs.declared.Question.{Question}
+use Rattle.coercion.specs.declared.Rules.{Rules}
 
 -- a type: a shape with its parts, and neither a name nor a nullability of its own
 pub record DataType : Type 0 where
@@ -22,14 +24,19 @@ unfoldable pub types_of : Fields → List DataType
 types_of end = []
 types_of (field name nullable shape parts rest) = record { shape = shape; parts = parts } ∷ types_of rest
 
--- the list, union and compare answers
-pub data Question : Type 0 where
-  list union compare : Question
+-- "The question is kept as a value and handed down to every part", and with it what else is chosen: the same choices
+-- for another question, and for a list
+abbrev pub for_question : Question → Rules → Rules
+for_question q rules = record rules { question = q }
 
--- "The question is kept as a value and handed down to every part", and the mask with it
-pub record Rules : Type 0 where
-  pub question : Question
-  pub mask : ℕ
+abbrev pub for_list : Rules → Rules
+for_list rules = for_question Question.List rules
+
+-- a list looks at names, the other questions do not
+abbrev pub is_list_question : Question → Bool
+is_list_question Question.List = true
+is_list_question Question.Union = false
+is_list_question Question.Compare = false
 
 -- "Bit k of the mask is set where Null may become kind k"
 abbrev pub may_become : ℕ → ℕ → Bool

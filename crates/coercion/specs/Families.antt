@@ -1,9 +1,8 @@
 -- The words of the least-type theorem: families, what holds what, and the least type.
 use Rattle.std.specs.Prelude.{◌≡◌, ℕ, ◌+◌, ◌-◌, ◌*◌, ◌^◌, ◌<◌, ◌≤◌, Bool, true, false, cond, ◌&&◌, ◌||◌, List, [], ◌∷◌, leb}
-use Rattle.sheet.specs.Kind as Kind
-use Rattle.sheet.specs.Kind.{is_decimal, cap}
+use Rattle.sheet.specs.declared.kind.TheConstants as Kind
+use Rattle.sheet.specs.Kind.{is_decimal, cap, is_integer, is_signed, is_string}
 use Rattle.sheet.specs.Refusals.{biased, decimal_right}
-use Rattle.coercion.specs.Kinds.{is_integer, is_signed, is_string}
 use Rattle.coercion.specs.Data.{DataType, of_kind, of_unit, plain}
 use Rattle.coercion.specs.Numbers.{decimal}
 use Rattle.coercion.specs.Rules.{is_null}
@@ -16,20 +15,20 @@ pub data Family : Type 0 where
 
 -- Decimal128(20,0)
 abbrev pub widest : DataType
-widest = plain (decimal Kind.decimal128 20 128)
+widest = plain (decimal Kind.DECIMAL128 20 128)
 
 -- the types of a family
 pub data Member : Family → DataType → Type 0 where
   integer : (k : ℕ) → is_integer k ≡ true → Member integers (plain (of_kind k))
   top : Member integers widest
   string : (k : ℕ) → is_string k ≡ true → Member strings (plain (of_kind k))
-  timestamp : (unit : ℕ) → unit ≤ 3 → Member timestamps (plain (of_unit Kind.timestamp unit))
+  timestamp : (unit : ℕ) → unit ≤ 3 → Member timestamps (plain (of_unit Kind.TIMESTAMP unit))
   decimal_of : (w p s : ℕ) → is_decimal w ≡ true → decimal_right (cap w) p s ≡ true → s < 256 → Member (decimals w) (plain (record { kind = w; figure = p; scale = s }))
 
 -- Arrow's format: an integer of n bits has the numbers from −2ⁿ⁻¹ to 2ⁿ⁻¹ − 1 if it is signed, and from 0 to 2ⁿ − 1
 -- if not
 abbrev pub bits : ℕ → ℕ
-bits k = 8 * 2 ^ cond (is_signed k) (k - Kind.int8) (k - Kind.uint8)
+bits k = 8 * 2 ^ cond (is_signed k) (k - Kind.INT8) (k - Kind.UINT8)
 
 -- how far the range of an integer goes below zero, and what it ends before
 abbrev pub below : ℕ → ℕ
@@ -90,7 +89,7 @@ pub data Common : Family → List DataType → DataType → Type 0 where
 
 -- "Null is in no family and may stand in any list"
 abbrev pub null_type : DataType
-null_type = plain (of_kind Kind.null)
+null_type = plain (of_kind Kind.NULL)
 
 -- a list of one family and Nulls, with at least one type that is not Null
 pub data InFamily (f : Family) : DataType → Type 0 where

@@ -1,21 +1,23 @@
 -- The laws of the rules, which the functions of src/laws.rt promise. Quotations are of docs/RULES.md.
 use Rattle.std.specs.Prelude.{◌≡◌, ℕ, ◌<◌, ◌≤◌, true, false, ◌&&◌, Option, None, Some, length, replicate}
 use mathlib.Core.List.{List, [], ◌∷◌, map, Memᴰ}
-use Rattle.sheet.specs.Kind as Kind
+use Rattle.sheet.specs.declared.kind.TheConstants as Kind
 use Rattle.sheet.specs.Kind.{is_decimal, cap}
 use Rattle.sheet.specs.Types.{Fields, present, arity, count, labels}
 use Rattle.sheet.specs.Names.{has_name, repeats, names_differ}
 use Rattle.sheet.specs.Refusals.{decimal_right}
 use Rattle.sheet.specs.Encode.{encode}
 use Rattle.sheet.specs.Carried.{Carried}
-use Rattle.coercion.specs.Data.{DataType, single, types_of, Question, list, Rules, plain, zoned, of_unit}
+use Rattle.coercion.specs.Data.{DataType, single, types_of, plain, zoned, of_unit, for_list}
 use Rattle.coercion.specs.Same.{equal, alike, nameless}
 use Rattle.coercion.specs.Wrappers.{is_of}
 use Rattle.coercion.specs.Numbers.{get_wider_decimal_type}
 use Rattle.coercion.specs.Nested.{fields_have_same_names, by_name, partners, shape_of_kind, struct_coercion, list_shape, list_coercion, map_coercion}
 use Rattle.coercion.specs.Answers.{ask, list_struct, coercion, type_union_resolution, answer_of}
-use Rattle.coercion.specs.Columns.{Pairs, rules_for, names_of, nulls_of, by_place, Merged, Matched, Fed, Entry}
+use Rattle.coercion.specs.Columns.{Pairs, names_of, nulls_of, by_place, Merged, Matched, Fed, Entry}
 use Rattle.coercion.specs.Wider.{decimal_of, Wider}
+use Rattle.coercion.specs.declared.Question.{Question}
+use Rattle.coercion.specs.declared.Rules.{Rules}
 
 -- "The parts of two types are asked the same question": the common type of two types, without the bound on the depth
 abbrev pub SameQuestion : Type 0
@@ -72,7 +74,7 @@ EachFeedsOne = (l r : Fields) → repeats l ≡ false → arity l ≡ arity r �
 abbrev pub StructAnswer : Type 0
 StructAnswer =
     (coerce : DataType → DataType → Option DataType) (l r t : DataType) → struct_coercion coerce l r ≡ Some t
-    → (fields : Fields) × (partners l.parts r.parts ≡ Some fields) × (t.shape ≡ shape_of_kind Kind.struct) × Merged coerce l.parts fields fields t.parts
+    → (fields : Fields) × (partners l.parts r.parts ≡ Some fields) × (t.shape ≡ shape_of_kind Kind.STRUCT) × Merged coerce l.parts fields fields t.parts
 
 -- "Structs with unequal numbers of fields have no common type"
 abbrev pub StructUnequal : Type 0
@@ -80,7 +82,7 @@ StructUnequal = (coerce : DataType → DataType → Option DataType) (l r : Data
 
 -- what is said of the common type of two Structs
 abbrev OfStructs : (DataType → DataType → Type 0) → Type 0
-OfStructs P = (l r : DataType) → is_of Kind.struct l ≡ true → is_of Kind.struct r ≡ true → P l r
+OfStructs P = (l r : DataType) → is_of Kind.STRUCT l ≡ true → is_of Kind.STRUCT r ≡ true → P l r
 
 -- and of their union or comparison
 abbrev OfLayouts : (Rules → DataType → DataType → Type 0) → Type 0
@@ -99,7 +101,7 @@ LayoutsUnequal = OfLayouts (λ rules l r. (arity l.parts ≡ arity r.parts → �
 abbrev pub LayoutsJoined : Type 0
 LayoutsJoined =
     OfLayouts (λ rules l r. alike l r ≡ false → (t : DataType) → coercion rules l r ≡ Some t
-    → (fields : Fields) × (partners l.parts r.parts ≡ Some fields) × (t.shape ≡ shape_of_kind Kind.struct)
+    → (fields : Fields) × (partners l.parts r.parts ≡ Some fields) × (t.shape ≡ shape_of_kind Kind.STRUCT)
     × Merged (coercion rules) l.parts fields fields t.parts)
 
 -- "One pair of fields without a common type leaves the Structs without one"
@@ -122,16 +124,16 @@ LayoutsFed = OfLayouts (λ rules l r. repeats l.parts ≡ false → (t : DataTyp
 abbrev pub ListStructAnswer : Type 0
 ListStructAnswer =
     (coerce : DataType → DataType → Option DataType) (l r t : DataType) → list_struct coerce l r ≡ Some t
-    → (fields : Fields) × (by_name l.parts r.parts ≡ Some fields) × (t.shape ≡ shape_of_kind Kind.struct) × Merged coerce l.parts fields r.parts t.parts
+    → (fields : Fields) × (by_name l.parts r.parts ≡ Some fields) × (t.shape ≡ shape_of_kind Kind.STRUCT) × Merged coerce l.parts fields r.parts t.parts
 
 -- what is said of two Structs in a list that are not equal
 abbrev OfListed : (Rules → DataType → DataType → Type 0) → Type 0
-OfListed P = (mask : ℕ) → OfStructs (λ l r. equal l r ≡ false → P (rules_for list mask) l r)
+OfListed P = (rules : Rules) → OfStructs (λ l r. equal l r ≡ false → P (for_list rules) l r)
 
 abbrev pub ListedJoined : Type 0
 ListedJoined =
     OfListed (λ rules l r. (t : DataType) → coercion rules l r ≡ Some t
-    → (fields : Fields) × (by_name l.parts r.parts ≡ Some fields) × (t.shape ≡ shape_of_kind Kind.struct)
+    → (fields : Fields) × (by_name l.parts r.parts ≡ Some fields) × (t.shape ≡ shape_of_kind Kind.STRUCT)
     × Merged (coercion rules) l.parts fields r.parts t.parts)
 
 -- "In a list a name that the right lacks leaves the Structs without a common type"
@@ -160,12 +162,12 @@ MapKept =
 
 -- a Timestamp in seconds with a zone of one byte
 abbrev stamp : ℕ → DataType
-stamp z = zoned (of_unit Kind.timestamp 0) (present (z ∷ []))
+stamp z = zoned (of_unit Kind.TIMESTAMP 0) (present (z ∷ []))
 
 -- in a list of Timestamps with the zones A and B the later zone wins, as "In the fold the new type stands on the left
 -- and the candidate on the right"
 abbrev pub LaterZone : Type 0
-LaterZone = (mask : ℕ) → type_union_resolution (rules_for list mask) (stamp 65 ∷ stamp 66 ∷ []) ≡ Some (stamp 66)
+LaterZone = (rules : Rules) → type_union_resolution (for_list rules) (stamp 65 ∷ stamp 66 ∷ []) ≡ Some (stamp 66)
 
 -- two decimals of one width that a sheet may carry
 abbrev OfDecimals : ((w p s q t : ℕ) → Type 0) → Type 0

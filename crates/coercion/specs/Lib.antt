@@ -1,5 +1,4 @@
 pub mod Data
-pub mod Kinds
 pub mod Strings
 pub mod Times
 pub mod Numbers

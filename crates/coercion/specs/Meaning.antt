@@ -2,7 +2,7 @@
 use Rattle.std.specs.Prelude.{ℕ, Bool, true, false}
 use Rattle.std.specs.Prelude.{Option, None, Some}
 use Rattle.sheet.specs.Types.{Fields, end, field}
-use Rattle.sheet.specs.Kind as Kind
+use Rattle.sheet.specs.declared.kind.TheConstants as Kind
 use Rattle.coercion.specs.Data.{DataType, of_unit, zoned}
 use Rattle.coercion.specs.Times.{nanosecond}
 use Rattle.coercion.specs.Answers.{Category, array, boolean, numeric, dateTime, composite, unknown, notSupported, category_of}
@@ -18,8 +18,8 @@ side_of None l r = None
 abbrev pub moment_of : Option Moment → DataType → DataType → Option DataType
 moment_of (Some Moment.Left) l r = Some l
 moment_of (Some Moment.Right) l r = Some r
-moment_of (Some Moment.LeftNanoseconds) l r = Some (zoned (of_unit Kind.timestamp nanosecond) l.shape.zone)
-moment_of (Some Moment.RightNanoseconds) l r = Some (zoned (of_unit Kind.timestamp nanosecond) r.shape.zone)
+moment_of (Some Moment.LeftNanoseconds) l r = Some (zoned (of_unit Kind.TIMESTAMP nanosecond) l.shape.zone)
+moment_of (Some Moment.RightNanoseconds) l r = Some (zoned (of_unit Kind.TIMESTAMP nanosecond) r.shape.zone)
 moment_of None l r = None
 
 -- the bit of a category; Unknown and a type of no category have none

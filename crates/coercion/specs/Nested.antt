@@ -1,10 +1,10 @@
 -- Lists, structs and maps: `list_coercion`, `struct_coercion`, `map_coercion`. `coerce` is the source's `coerce_fn`.
 use Rattle.std.specs.Prelude.{ℕ, Bool, true, false, cond, ◌&&◌, ◌||◌, List, eqb}
 use Rattle.std.specs.Prelude.{Option, None, Some}
-use Rattle.sheet.specs.Kind as Kind
+use Rattle.sheet.specs.declared.kind.TheConstants as Kind
 use Rattle.sheet.specs.Types.{absent, Shape, Fields, end, field, arity}
 use Rattle.sheet.specs.Names.{same_bytes, has_name}
-use Rattle.coercion.specs.Kinds.{is_list}
+use Rattle.sheet.specs.Kind.{is_list}
 use Rattle.coercion.specs.Data.{DataType, and_then}
 use Rattle.coercion.specs.Wrappers.{is_of}
 
@@ -52,23 +52,23 @@ shape_of_kind k = record { kind = k; figure = 0; scale = 0; size = 0; sorted = f
 
 abbrev pub struct_of : Option Fields → Option DataType
 struct_of None = None
-struct_of (Some fields) = Some (record { shape = shape_of_kind Kind.struct; parts = fields })
+struct_of (Some fields) = Some (record { shape = shape_of_kind Kind.STRUCT; parts = fields })
 
 -- `struct_coercion`, with `coerce_struct_by_name`, `coerce_struct_by_position` and `coerce_fields`
 unfoldable pub struct_coercion : (DataType → DataType → Option DataType) → DataType → DataType → Option DataType
 struct_coercion coerce l r =
-    cond (is_of Kind.struct l && (is_of Kind.struct r && eqb (arity l.parts) (arity r.parts)))
+    cond (is_of Kind.STRUCT l && (is_of Kind.STRUCT r && eqb (arity l.parts) (arity r.parts)))
     (struct_of (and_then (partners l.parts r.parts) (λ fields. join_fields coerce l.parts fields fields)))
     None
 
 -- the kind and the size of two lists' common list
 abbrev pub list_shape : Shape → Shape → Shape
 list_shape l r =
-    cond (eqb l.kind Kind.fixed_size_list && eqb r.kind Kind.fixed_size_list)
+    cond (eqb l.kind Kind.FIXED_SIZE_LIST && eqb r.kind Kind.FIXED_SIZE_LIST)
     (cond (eqb l.size r.size)
-    (record { kind = Kind.fixed_size_list; figure = 0; scale = 0; size = r.size; sorted = false; zone = absent })
-    (shape_of_kind Kind.list))
-    (cond (eqb l.kind Kind.large_list || eqb r.kind Kind.large_list) (shape_of_kind Kind.large_list) (shape_of_kind Kind.list))
+    (record { kind = Kind.FIXED_SIZE_LIST; figure = 0; scale = 0; size = r.size; sorted = false; zone = absent })
+    (shape_of_kind Kind.LIST))
+    (cond (eqb l.kind Kind.LARGE_LIST || eqb r.kind Kind.LARGE_LIST) (shape_of_kind Kind.LARGE_LIST) (shape_of_kind Kind.LIST))
 
 abbrev pub list_of : Shape → Option Fields → Option DataType
 list_of shape None = None
@@ -90,12 +90,12 @@ entry_of end t = end
 entry_of (field name nullable shape parts rest) t = field name nullable t.shape t.parts end
 
 abbrev pub map_shape : Bool → Shape
-map_shape sorted = record { kind = Kind.map; figure = 0; scale = 0; size = 0; sorted = sorted; zone = absent }
+map_shape sorted = record { kind = Kind.MAP; figure = 0; scale = 0; size = 0; sorted = sorted; zone = absent }
 
 -- `map_coercion`: "The entry of a Map keeps the left's name and nullability"; "A Map is sorted where both are"
 unfoldable pub map_coercion : (DataType → DataType → Option DataType) → DataType → DataType → Option DataType
 map_coercion coerce l r =
-    cond (is_of Kind.map l && is_of Kind.map r)
+    cond (is_of Kind.MAP l && is_of Kind.MAP r)
     (and_then (entry_type l.parts)
     (λ a. and_then (entry_type r.parts)
     (λ b. and_then (struct_coercion coerce a b)

@@ -2,10 +2,9 @@
 use Rattle.std.specs.Prelude.{ℕ, ◌+◌, ◌-◌, ◌%◌, min, max, Bool, cond, not, ◌&&◌, ◌||◌, eqb, leb}
 use Rattle.std.specs.Prelude.{Option, None, Some}
 use Rattle.sheet.specs.Tests.{between}
-use Rattle.sheet.specs.Kind as Kind
-use Rattle.sheet.specs.Kind.{is_decimal, cap}
+use Rattle.sheet.specs.declared.kind.TheConstants as Kind
+use Rattle.sheet.specs.Kind.{is_decimal, cap, is_numeric, is_signed, one_is, with_kind}
 use Rattle.sheet.specs.Refusals.{biased}
-use Rattle.coercion.specs.Kinds.{is_numeric, is_signed, one_is, with_kind}
 use Rattle.coercion.specs.Data.{or_else, and_then, of_kind}
 use Rattle.coercion.specs.declared.Figures.{Figures}
 
@@ -45,22 +44,22 @@ get_wider_decimal_type_cross_variant l r =
 -- (14,7) and Float64 (30,15), as in Spark, and Float16 becomes (6,3), which is the source's own"
 abbrev pub digits_of : ℕ → ℕ
 digits_of k =
-    cond (one_is k Kind.int8 Kind.uint8) 3
-    (cond (one_is k Kind.int16 Kind.uint16) 5
-    (cond (one_is k Kind.int32 Kind.uint32) 10
-    (cond (one_is k Kind.int64 Kind.uint64) 20
-    (cond (eqb k Kind.float16) 6 (cond (eqb k Kind.float32) 14 30)))))
+    cond (one_is k Kind.INT8 Kind.UINT8) 3
+    (cond (one_is k Kind.INT16 Kind.UINT16) 5
+    (cond (one_is k Kind.INT32 Kind.UINT32) 10
+    (cond (one_is k Kind.INT64 Kind.UINT64) 20
+    (cond (eqb k Kind.FLOAT16) 6 (cond (eqb k Kind.FLOAT32) 14 30)))))
 
 abbrev pub fraction_of : ℕ → ℕ
-fraction_of k = cond (eqb k Kind.float16) 3 (cond (eqb k Kind.float32) 7 (cond (eqb k Kind.float64) 15 0))
+fraction_of k = cond (eqb k Kind.FLOAT16) 3 (cond (eqb k Kind.FLOAT32) 7 (cond (eqb k Kind.FLOAT64) 15 0))
 
 -- whether a decimal of kind w takes a number of kind k: "Decimal32 takes integers of up to 16 bits and Float16";
 -- "Decimal64 takes integers of up to 32 bits, Float16 and Float32"; "Decimal128 and Decimal256 take every integer and
 -- float"
 abbrev pub takes : ℕ → ℕ → Bool
 takes w k =
-    cond (eqb w Kind.decimal32) (one_is k Kind.int8 Kind.uint8 || (one_is k Kind.int16 Kind.uint16 || eqb k Kind.float16))
-    (cond (eqb w Kind.decimal64) (between Kind.int8 Kind.float32 k && not (one_is k Kind.int64 Kind.uint64)) (between Kind.int8 Kind.float64 k))
+    cond (eqb w Kind.DECIMAL32) (one_is k Kind.INT8 Kind.UINT8 || (one_is k Kind.INT16 Kind.UINT16 || eqb k Kind.FLOAT16))
+    (cond (eqb w Kind.DECIMAL64) (between Kind.INT8 Kind.FLOAT32 k && not (one_is k Kind.INT64 Kind.UINT64)) (between Kind.INT8 Kind.FLOAT64 k))
 
 -- `coerce_numeric_type_to_decimal32` to `256`: the decimal of kind w that a number of kind k takes
 unfoldable pub coerce_numeric_type_to_decimal : ℕ → ℕ → Option Figures
@@ -80,20 +79,20 @@ decimal_coercion l r =
 -- `numerical_coercion`, on kinds: floats first
 abbrev pub float_coercion : ℕ → ℕ → Option Figures
 float_coercion k j =
-    cond (one_is Kind.float64 k j) (Some (of_kind Kind.float64))
-    (cond (one_is Kind.float32 k j) (Some (of_kind Kind.float32)) (cond (one_is Kind.float16 k j) (Some (of_kind Kind.float16)) None))
+    cond (one_is Kind.FLOAT64 k j) (Some (of_kind Kind.FLOAT64))
+    (cond (one_is Kind.FLOAT32 k j) (Some (of_kind Kind.FLOAT32)) (cond (one_is Kind.FLOAT16 k j) (Some (of_kind Kind.FLOAT16)) None))
 
 -- and then integers
 abbrev pub integer_coercion : ℕ → ℕ → Option Figures
 integer_coercion k j =
-    cond (with_kind Kind.uint64 is_signed k j) (Some (decimal Kind.decimal128 20 128))
-    (cond (one_is Kind.uint64 k j) (Some (of_kind Kind.uint64))
-    (cond (one_is Kind.int64 k j || with_kind Kind.uint32 (between Kind.int8 Kind.int32) k j) (Some (of_kind Kind.int64))
-    (cond (one_is Kind.uint32 k j) (Some (of_kind Kind.uint32))
-    (cond (one_is Kind.int32 k j || with_kind Kind.uint16 (between Kind.int8 Kind.int16) k j) (Some (of_kind Kind.int32))
-    (cond (one_is Kind.uint16 k j) (Some (of_kind Kind.uint16))
-    (cond (one_is Kind.int16 k j || with_kind Kind.uint8 (λ i. eqb i Kind.int8) k j) (Some (of_kind Kind.int16))
-    (cond (one_is Kind.int8 k j) (Some (of_kind Kind.int8)) (cond (one_is Kind.uint8 k j) (Some (of_kind Kind.uint8)) None))))))))
+    cond (with_kind Kind.UINT64 is_signed k j) (Some (decimal Kind.DECIMAL128 20 128))
+    (cond (one_is Kind.UINT64 k j) (Some (of_kind Kind.UINT64))
+    (cond (one_is Kind.INT64 k j || with_kind Kind.UINT32 (between Kind.INT8 Kind.INT32) k j) (Some (of_kind Kind.INT64))
+    (cond (one_is Kind.UINT32 k j) (Some (of_kind Kind.UINT32))
+    (cond (one_is Kind.INT32 k j || with_kind Kind.UINT16 (between Kind.INT8 Kind.INT16) k j) (Some (of_kind Kind.INT32))
+    (cond (one_is Kind.UINT16 k j) (Some (of_kind Kind.UINT16))
+    (cond (one_is Kind.INT16 k j || with_kind Kind.UINT8 (λ i. eqb i Kind.INT8) k j) (Some (of_kind Kind.INT16))
+    (cond (one_is Kind.INT8 k j) (Some (of_kind Kind.INT8)) (cond (one_is Kind.UINT8 k j) (Some (of_kind Kind.UINT8)) None))))))))
 
 unfoldable pub numerical_coercion : ℕ → ℕ → Option Figures
 numerical_coercion k j = or_else (float_coercion k j) (integer_coercion k j)

@@ -2,13 +2,13 @@
 -- `string_temporal_coercion`.
 use Rattle.std.specs.Prelude.{ℕ, Bool, cond, ◌&&◌, eqb}
 use Rattle.std.specs.Prelude.{Option, None, Some}
-use Rattle.sheet.specs.Kind as Kind
-use Rattle.coercion.specs.Kinds.{is_numeric, is_string, is_date, is_time}
+use Rattle.sheet.specs.declared.kind.TheConstants as Kind
+use Rattle.sheet.specs.Kind.{is_numeric, is_string, is_date, is_time}
 use Rattle.coercion.specs.Data.{DataType, may_become, or_else, of_unit, zoned}
 use Rattle.coercion.specs.Times.{nanosecond, is_time_with_valid_unit}
 
 abbrev pub is_null : DataType → Bool
-is_null t = eqb t.shape.kind Kind.null
+is_null t = eqb t.shape.kind Kind.NULL
 
 -- `null_coercion`
 unfoldable pub null_coercion : ℕ → DataType → DataType → Option DataType
@@ -33,7 +33,7 @@ abbrev pub time_of_string : DataType → Option DataType
 time_of_string t =
     cond (is_date t.shape.kind) (Some t)
     (cond (is_time t.shape.kind) (cond (is_time_with_valid_unit t.shape.kind t.shape.figure) (Some t) None)
-    (cond (eqb t.shape.kind Kind.timestamp) (Some (zoned (of_unit Kind.timestamp nanosecond) t.shape.zone)) None))
+    (cond (eqb t.shape.kind Kind.TIMESTAMP) (Some (zoned (of_unit Kind.TIMESTAMP nanosecond) t.shape.zone)) None))
 
 -- `match_rule` of `string_temporal_coercion`
 abbrev pub match_rule : DataType → DataType → Option DataType

@@ -3,9 +3,9 @@
 use Rattle.std.specs.Prelude.{ℕ, max, Bool, cond, ◌&&◌, ◌||◌, eqb, leb}
 use Rattle.std.specs.Prelude.{Option, None, Some}
 use Rattle.sheet.specs.Tests.{between}
-use Rattle.sheet.specs.Kind as Kind
+use Rattle.sheet.specs.declared.kind.TheConstants as Kind
 use Rattle.sheet.specs.Types.{Zone, absent, present}
-use Rattle.coercion.specs.Kinds.{is_integer, is_date, is_time, is_span, with_kind}
+use Rattle.sheet.specs.Kind.{is_integer, is_date, is_time, is_span, with_kind}
 use Rattle.coercion.specs.Data.{DataType, of_kind, of_unit, zoned, as_type}
 use Rattle.coercion.specs.declared.Figures.{Figures}
 
@@ -22,12 +22,12 @@ timeunit_coercion u v = max u v
 -- `temporal_coercion`, on kinds
 unfoldable pub temporal_coercion : ℕ → ℕ → Option Figures
 temporal_coercion k j =
-    cond (is_span k && is_span j) (Some (of_unit Kind.interval month_day_nano))
-    (cond (with_kind Kind.date32 is_integer k j) (Some (of_kind Kind.date32))
-    (cond (with_kind Kind.date64 is_integer k j) (Some (of_kind Kind.date64))
-    (cond (with_kind Kind.date64 (λ i. eqb i Kind.date32) k j) (Some (of_kind Kind.date64))
-    (cond (with_kind Kind.date32 is_time k j || with_kind Kind.date64 is_time k j) (Some (of_unit Kind.timestamp nanosecond))
-    (cond (with_kind Kind.timestamp is_date k j) (Some (of_unit Kind.timestamp nanosecond)) None)))))
+    cond (is_span k && is_span j) (Some (of_unit Kind.INTERVAL month_day_nano))
+    (cond (with_kind Kind.DATE32 is_integer k j) (Some (of_kind Kind.DATE32))
+    (cond (with_kind Kind.DATE64 is_integer k j) (Some (of_kind Kind.DATE64))
+    (cond (with_kind Kind.DATE64 (λ i. eqb i Kind.DATE32) k j) (Some (of_kind Kind.DATE64))
+    (cond (with_kind Kind.DATE32 is_time k j || with_kind Kind.DATE64 is_time k j) (Some (of_unit Kind.TIMESTAMP nanosecond))
+    (cond (with_kind Kind.TIMESTAMP is_date k j) (Some (of_unit Kind.TIMESTAMP nanosecond)) None)))))
 
 -- "The zone is that of the left, if it has one, and else that of the right"
 abbrev pub zone_coercion : Zone → Zone → Zone
@@ -37,10 +37,10 @@ zone_coercion absent w = w
 -- `temporal_coercion_nonstrict_timezone`
 unfoldable pub temporal_coercion_nonstrict_timezone : DataType → DataType → Option DataType
 temporal_coercion_nonstrict_timezone l r =
-    cond (eqb l.shape.kind Kind.timestamp && eqb r.shape.kind Kind.timestamp)
-    (Some (zoned (of_unit Kind.timestamp (timeunit_coercion l.shape.figure r.shape.figure)) (zone_coercion l.shape.zone r.shape.zone)))
+    cond (eqb l.shape.kind Kind.TIMESTAMP && eqb r.shape.kind Kind.TIMESTAMP)
+    (Some (zoned (of_unit Kind.TIMESTAMP (timeunit_coercion l.shape.figure r.shape.figure)) (zone_coercion l.shape.zone r.shape.zone)))
     (as_type (temporal_coercion l.shape.kind r.shape.kind))
 
 -- `is_time_with_valid_unit`: Time32 has seconds and milliseconds, Time64 microseconds and nanoseconds
 unfoldable pub is_time_with_valid_unit : ℕ → ℕ → Bool
-is_time_with_valid_unit k unit = (eqb k Kind.time32 && leb unit 1) || (eqb k Kind.time64 && between 2 3 unit)
+is_time_with_valid_unit k unit = (eqb k Kind.TIME32 && leb unit 1) || (eqb k Kind.TIME64 && between 2 3 unit)

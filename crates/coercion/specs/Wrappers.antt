@@ -1,7 +1,7 @@
 -- Dictionary and run ends: `dictionary_coercion`, `ree_coercion`. `coerce` is the source's `coerce_fn`.
 use Rattle.std.specs.Prelude.{ℕ, Bool, cond, ◌&&◌, eqb}
 use Rattle.std.specs.Prelude.{Option, None, Some}
-use Rattle.sheet.specs.Kind as Kind
+use Rattle.sheet.specs.declared.kind.TheConstants as Kind
 use Rattle.sheet.specs.Types.{Fields, end, field}
 use Rattle.coercion.specs.Data.{DataType, and_then}
 use Rattle.coercion.specs.Same.{equal}
@@ -23,7 +23,7 @@ wrapper_coercion k coerce l r =
     (cond (is_of k r) (and_then (value_in r.parts) (λ w. cond (equal w l) (Some r) (coerce l w))) None))
 
 abbrev pub dictionary_coercion : (DataType → DataType → Option DataType) → DataType → DataType → Option DataType
-dictionary_coercion coerce l r = wrapper_coercion Kind.dictionary coerce l r
+dictionary_coercion coerce l r = wrapper_coercion Kind.DICTIONARY coerce l r
 
 abbrev pub ree_coercion : (DataType → DataType → Option DataType) → DataType → DataType → Option DataType
-ree_coercion coerce l r = wrapper_coercion Kind.run_end_encoded coerce l r
+ree_coercion coerce l r = wrapper_coercion Kind.RUN_END_ENCODED coerce l r

@@ -1,11 +1,63 @@
-//! The types that the plain rules of the source take and give. The rules themselves stand in crates of their own, their
-//! definitions in specs/. A kind is the byte of a record, and every function here takes any byte.
+//! What is asked of types, and the types that the plain rules of the source take and give. The rules themselves stand
+//! in crates of their own, their definitions in specs/. A kind is the byte of a record, and every function here takes any byte.
 #![tactic(auto)]
 
 pub mod laws;
 
 ghost use Rattle.std.specs.Prelude.{◌≡◌};
-ghost use Rattle.coercion.specs.Data.{of_kind, of_unit};
+ghost use Rattle.coercion.specs.Data.{of_kind, of_unit, for_list, is_list_question};
+
+use std::fmt;
+
+/// What is asked of listed types.
+#[derive(Clone, Copy)]
+pub enum Question {
+    /// `type_union_resolution`, of any number of types.
+    List,
+    /// `type_union_coercion`, of two types.
+    Union,
+    /// `comparison_coercion`, of two types.
+    Compare,
+}
+
+/// Writes `list`, `union` or `compare`.
+impl fmt::Display for Question {
+    fn fmt<W: fmt::Write>(&self, f: &mut fmt::Formatter<W>) -> fmt::Result {
+        f.write_str(match self {
+            Question::List => "list",
+            Question::Union => "union",
+            Question::Compare => "compare",
+        })
+    }
+}
+
+/// What decides a common type besides the types themselves. It is handed down to every part of a type.
+#[derive(Clone, Copy)]
+pub struct Rules {
+    /// What is asked.
+    pub question: Question,
+    /// Bit k is set where Null may become kind k.
+    pub mask: u64,
+}
+
+impl Rules {
+    /// Whether the question is a list's: then names are compared, and strings become no times.
+    pub fn is_list_question(self) -> bool
+        ensures { result ≡ is_list_question self.question }
+    {
+        matches!(self.question, Question::List)
+    }
+
+    /// The same choices for a list.
+    pub fn for_list(self) -> Rules
+        ensures { result ≡ for_list self }
+    {
+        Rules {
+            question: Question::List,
+            ..self
+        }
+    }
+}
 
 /// What the rules for types without parts look at, as a record stores it.
 #[derive(Clone, Copy, PartialEq)]

@@ -10,23 +10,23 @@ use lib.Dec.{eqb, ltb}
 use borrow.Author.Tests.{eqb-true, ltb-true, eq-eqb, ne_eqb}
 use Rattle.sheet.specs.Head.{head_at}
 use Rattle.sheet.proofs.Tests.{never, and_fst, and_snd}
-use Rattle.coercion.specs.Data.{DataType, Rules}
-use Rattle.coercion.specs.Data as Data
+use Rattle.coercion.specs.Data.{DataType, is_list_question}
 use Rattle.coercion.specs.Same.{same_type}
 use Rattle.coercion.specs.Answers.{coercion}
 use Rattle.coercion.proofs.Fuel.{coercion_asks}
+use Rattle.coercion.specs.declared.Question.{Question}
+use Rattle.coercion.specs.declared.Rules.{Rules}
 use Rattle.buffers.specs.Differ.{type_differs, DifferTypes}
 use Rattle.buffers.specs.Writes.{side}
 use Rattle.buffers.specs.Goal.{CopiedType}
 use Rattle.buffers.specs.Typed.{Typed, Merges}
-use Rattle.buffers.specs.Plain.{asked, rules_of, is_list_question, plain_rules}
+use Rattle.buffers.specs.Plain.{plain_rules}
 use Rattle.turns.specs.Turns.{nested_of, resolved, unwrapped, either_wrapped, rewrapped, turns_for, turns_of}
 use Rattle.merge.specs.Descent.{passes}
 use Rattle.merge.specs.Known.{Known, FirstDifference}
 use Rattle.merge.specs.Merge.{MergesKnown, MergesHinted}
 use Rattle.buffers.specs.declared.Space.{Space}
 use Rattle.buffers.specs.declared.Goal.{Goal}
-use Rattle.buffers.specs.declared.Question.{Question}
 use Rattle.buffers.specs.Out.{Out}
 use Rattle.turns.proofs.Orders.{ask_turns, bare_turns, plain_turns}
 use Rattle.merge.proofs.Merging.{chain_some, nothing_known, typed_differs, none_known, hinted_within, known_as, as_known, merges_left}
@@ -35,15 +35,15 @@ use Rattle.buffers.proofs.Differing.{type_same}
 use Rattle.wrappers.proofs.Values.{kind_of_lem}
 
 -- the rules of a question that looks at names, and of one that does not
-list_turns : (q : Data.Question) (rules : Rules) (c : DataType → DataType → Option DataType) (x y : DataType) → is_list_question q ≡ true → resolved rules c x y ≡ turns_for q rules c x y
-list_turns Data.list rules c x y h = refl
-list_turns Data.union rules c x y h = never h
-list_turns Data.compare rules c x y h = never h
+list_turns : (q : Question) (rules : Rules) (c : DataType → DataType → Option DataType) (x y : DataType) → is_list_question q ≡ true → resolved rules c x y ≡ turns_for q rules c x y
+list_turns Question.List rules c x y h = refl
+list_turns Question.Union rules c x y h = never h
+list_turns Question.Compare rules c x y h = never h
 
-pair_turns : (q : Data.Question) (rules : Rules) (c : DataType → DataType → Option DataType) (x y : DataType) → is_list_question q ≡ false → unwrapped rules c x y ≡ turns_for q rules c x y
-pair_turns Data.list rules c x y h = never (sym h)
-pair_turns Data.union rules c x y h = refl
-pair_turns Data.compare rules c x y h = refl
+pair_turns : (q : Question) (rules : Rules) (c : DataType → DataType → Option DataType) (x y : DataType) → is_list_question q ≡ false → unwrapped rules c x y ≡ turns_for q rules c x y
+pair_turns Question.List rules c x y h = never (sym h)
+pair_turns Question.Union rules c x y h = refl
+pair_turns Question.Compare rules c x y h = refl
 
 types_unlike : (named : Bool) (x y : DataType) → ¬ (x.shape.kind ≡ y.shape.kind) → same_type named x y ≡ false
 unfolding same_type
@@ -67,20 +67,20 @@ passed k j h = go (eqb k 37) refl (eqb j 37) refl (eqb k 38) refl (ltb j 37) ref
     go false p b q false r d t h = never h
 
 -- a wrapper of a list that is passed comes to the rule for one wrapper of its kind
-module _ (question : Question) (mask : ℕ) (of_list : is_list_question (asked question) ≡ true) where
+module _ (rules : Rules) (of_list : is_list_question rules.question ≡ true) where
   abbrev list_both : DataType → DataType → Option DataType
-  list_both = coercion (rules_of question mask)
+  list_both = coercion rules
 
-  listed : (x y : DataType) → ¬ (x.shape.kind ≡ y.shape.kind) → list_both x y ≡ resolved (rules_of question mask) list_both x y
+  listed : (x y : DataType) → ¬ (x.shape.kind ≡ y.shape.kind) → list_both x y ≡ resolved rules list_both x y
   listed x y ne =
-      coercion_asks (rules_of question mask) x y ∙ ask_turns (rules_of question mask) list_both x y ∙ rw (types_unlike (is_list_question (asked question)) x y ne)
-      (sym (list_turns (asked question) (rules_of question mask) list_both x y of_list))
+      coercion_asks rules x y ∙ ask_turns rules list_both x y ∙ rw (types_unlike (is_list_question rules.question) x y ne)
+      (sym (list_turns rules.question rules list_both x y of_list))
 
-  dictionary_rule : (x y : DataType) → x.shape.kind ≡ 37 → ¬ (y.shape.kind ≡ 37) → resolved (rules_of question mask) list_both x y ≡ rewrapped 37 list_both x y
+  dictionary_rule : (x y : DataType) → x.shape.kind ≡ 37 → ¬ (y.shape.kind ≡ 37) → resolved rules list_both x y ≡ rewrapped 37 list_both x y
   unfolding resolved either_wrapped
   dictionary_rule x y p q = rw (eq-eqb x.shape.kind 37 p) (rw (ne_eqb y.shape.kind 37 q) refl)
 
-  run_ends_rule : (x y : DataType) → x.shape.kind ≡ 38 → y.shape.kind < 37 → resolved (rules_of question mask) list_both x y ≡ rewrapped 38 list_both x y
+  run_ends_rule : (x y : DataType) → x.shape.kind ≡ 38 → y.shape.kind < 37 → resolved rules list_both x y ≡ rewrapped 38 list_both x y
   unfolding resolved either_wrapped
   run_ends_rule x y p q =
       rw (ne_eqb x.shape.kind 37 (λ e. omega arith), ne_eqb y.shape.kind 37 (λ e. omega arith), eq-eqb x.shape.kind 38 p, ne_eqb y.shape.kind 38 (λ e. omega arith)) refl
@@ -89,7 +89,7 @@ module _ (question : Question) (mask : ℕ) (of_list : is_list_question (asked q
   by_kind x y (dictionary p q) = listed x y (λ e. q (sym e ∙ p)) ∙ dictionary_rule x y p q ∙ ap (λ (k : ℕ). rewrapped k list_both x y) (sym p)
   by_kind x y (run_ends p q) = listed x y (λ e. omega arith) ∙ run_ends_rule x y p q ∙ ap (λ (k : ℕ). rewrapped k list_both x y) (sym p)
 
-  pub by_rule : (x y : DataType) → passes x.shape.kind y.shape.kind ≡ true → coercion (rules_of question mask) x y ≡ rewrapped x.shape.kind (coercion (rules_of question mask)) x y
+  pub by_rule : (x y : DataType) → passes x.shape.kind y.shape.kind ≡ true → coercion rules x y ≡ rewrapped x.shape.kind (coercion rules) x y
   by_rule x y h = by_kind x y (passed x.shape.kind y.shape.kind h)
 
 -- where two types first differ, by the flag for their names
@@ -107,15 +107,15 @@ handed {l = l} known e names ef f z x y a b d =
     let i = told ef f x y a b d in
     (sym (type_same names l x y (chain_some a.chain)) ∙ ne_eqb _ 0 (λ q. z (i ∙ q)), λ c p. sym i ∙ same_Some e c p)
 
-module _ (question : Question) (mask : ℕ) (space : Space) (left : ℕ) (swap : Bool) (s w : List ℕ) (l r : ℕ) (g : Goal) where
+module _ (rules : Rules) (space : Space) (left : ℕ) (swap : Bool) (s w : List ℕ) (l r : ℕ) (g : Goal) where
   abbrev both : DataType → DataType → Option DataType
-  both = coercion (rules_of question mask)
+  both = coercion rules
 
-  turns : (x y : DataType) → both x y ≡ cond (same_type (is_list_question (asked question)) x y) (Some x) (turns_of (rules_of question mask) both x y)
-  turns x y = coercion_asks (rules_of question mask) x y ∙ ask_turns (rules_of question mask) both x y
+  turns : (x y : DataType) → both x y ≡ cond (same_type (is_list_question rules.question) x y) (Some x) (turns_of rules both x y)
+  turns x y = coercion_asks rules x y ∙ ask_turns rules both x y
 
   abbrev names : Bool
-  names = is_list_question (asked question)
+  names = is_list_question rules.question
 
   -- two types that are the same
   pub coerce_same : {known : Option ℕ} {flag : Bool} {e : ℕ} → flag ≡ names → FirstDifference known flag space (side swap s w) l (side (not swap) s w) r e → (v : List ℕ) (o : Out) → e ≡ 0
@@ -127,20 +127,20 @@ module _ (question : Question) (mask : ℕ) (space : Space) (left : ℕ) (swap :
 
   -- two types that are not
   module _ {known d : Option ℕ} (apart : Handed names space (side swap s w) l (side (not swap) s w) r known d) where
-    differ : (x y : DataType) → Typed space (side swap s w) l x → Typed space (side (not swap) s w) r y → Known known names l x y → turns_of (rules_of question mask) both x y ≡ both x y
+    differ : (x y : DataType) → Typed space (side swap s w) l x → Typed space (side (not swap) s w) r y → Known known names l x y → turns_of rules both x y ≡ both x y
     differ x y a b k = sym (turns x y ∙ rw (apart x y a b k).0 refl)
 
     pub coerce_list : (v : List ℕ) (o : Out) → names ≡ true → ¬ (left ≡ 0)
-        → MergesKnown d names (resolved (rules_of question mask) both) space (left - 1 + 1) swap s w v l r g o → MergesKnown known names both space left swap s w v l r g o
+        → MergesKnown d names (resolved rules both) space (left - 1 + 1) swap s w v l r g o → MergesKnown known names both space left swap s w v l r g o
     coerce_list v o f more m =
         known_as both space swap s w v l r g o known left (omega arith)
-        (λ x y a b k. (list_turns (asked question) (rules_of question mask) both x y f ∙ differ x y a b k, (apart x y a b k).1)) m
+        (λ x y a b k. (list_turns rules.question rules both x y f ∙ differ x y a b k, (apart x y a b k).1)) m
 
     pub coerce_pair : {hint : ℕ} (v : List ℕ) (o : Out) → names ≡ false → ¬ (left ≡ 0)
-        → MergesHinted hint mask d names (unwrapped (rules_of question mask) both) space (left - 1 + 1) swap s w v l r g o → MergesHinted hint mask known names both space left swap s w v l r g o
+        → MergesHinted hint rules.mask d names (unwrapped rules both) space (left - 1 + 1) swap s w v l r g o → MergesHinted hint rules.mask known names both space left swap s w v l r g o
     coerce_pair v o f more m =
         hinted_within both space swap s w v l r g o known left (omega arith)
-        (λ x y a b q k n. (pair_turns (asked question) (rules_of question mask) both x y f ∙ differ x y a b k, (apart x y a b k).1)) m
+        (λ x y a b q k n. (pair_turns rules.question rules both x y f ∙ differ x y a b k, (apart x y a b k).1)) m
 
     -- the kinds of both, where both are below a number
     module _ {k j : ℕ} (ek : k ≡ (head_at (side swap s w) l).kind) (ej : j ≡ (head_at (side (not swap) s w) r).kind) (top : ℕ) (h : (ltb k top && ltb j top) ≡ true) where
@@ -151,25 +151,25 @@ module _ (question : Question) (mask : ℕ) (space : Space) (left : ℕ) (swap :
       right_kind b = let p = ltb-true j top (and_snd (ltb k top) (ltb j top) h) in omega (arith, kind_of_lem ej b)
 
     module _ (v : List ℕ) (o : Out) {k j : ℕ} (ek : k ≡ (head_at (side swap s w) l).kind) (ej : j ≡ (head_at (side (not swap) s w) r).kind) where
-      pub coerce_plain : (ltb k 32 && ltb j 32) ≡ true → ((i : ℕ) → Merges (plain_rules (rules_of question mask)) space i swap s w v l r g o)
+      pub coerce_plain : (ltb k 32 && ltb j 32) ≡ true → ((i : ℕ) → Merges (plain_rules rules) space i swap s w v l r g o)
           → MergesKnown known names both space left swap s w v l r g o
       coerce_plain h m =
           as_known both space swap s w v l r g o known left (omega arith)
-          (λ x y a b d. plain_turns (rules_of question mask) both x y (left_kind ek ej 32 h a) (right_kind ek ej 32 h b) ∙ differ x y a b d) (m left)
+          (λ x y a b d. plain_turns rules both x y (left_kind ek ej 32 h a) (right_kind ek ej 32 h b) ∙ differ x y a b d) (m left)
 
       -- no wrappers
-      pub coerce_bare : (ltb k 37 && ltb j 37) ≡ true → ¬ (left ≡ 0) → MergesKnown d names (nested_of (rules_of question mask) both) space (left - 1 + 1) swap s w v l r g o
+      pub coerce_bare : (ltb k 37 && ltb j 37) ≡ true → ¬ (left ≡ 0) → MergesKnown d names (nested_of rules both) space (left - 1 + 1) swap s w v l r g o
           → MergesKnown known names both space left swap s w v l r g o
       coerce_bare h more m =
           known_as both space swap s w v l r g o known left (omega arith)
-          (λ x y a b d. (bare_turns (rules_of question mask) both x y (left_kind ek ej 37 h a) (right_kind ek ej 37 h b) ∙ differ x y a b d, (apart x y a b d).1)) m
+          (λ x y a b d. (bare_turns rules both x y (left_kind ek ej 37 h a) (right_kind ek ej 37 h b) ∙ differ x y a b d, (apart x y a b d).1)) m
 
   -- types of unlike kinds are not the same; the rule of two without parts
   module _ {k j : ℕ} (ek : k ≡ (head_at (side swap s w) l).kind) (ej : j ≡ (head_at (side (not swap) s w) r).kind) (ne : ¬ (k ≡ j)) where
     unlike : Handed names space (side swap s w) l (side (not swap) s w) r None None
     unlike x y a b d = (types_unlike names x y (λ q. ne (sym (kind_of_lem ek a) ∙ q ∙ kind_of_lem ej b)), nothing_known names _ x y)
 
-    pub coerce_unlike : (v : List ℕ) (o : Out) → (ltb k 32 && ltb j 32) ≡ true → ((i : ℕ) → Merges (plain_rules (rules_of question mask)) space i swap s w v l r g o)
+    pub coerce_unlike : (v : List ℕ) (o : Out) → (ltb k 32 && ltb j 32) ≡ true → ((i : ℕ) → Merges (plain_rules rules) space i swap s w v l r g o)
         → Merges both space left swap s w v l r g o
     coerce_unlike v o h m = none_known swap (coerce_plain {known = None} {d = None} unlike v o ek ej h m)
 
@@ -181,7 +181,7 @@ module _ (question : Question) (mask : ℕ) (space : Space) (left : ℕ) (swap :
       (as_known both space swap s w v l r g o None left (omega arith)
       (λ x y a b d.
       let p = kind_of_lem ek a in
-      ap (λ (i : ℕ). rewrapped i both x y) (sym p) ∙ sym (by_rule question mask f x y (ap₂ passes p (kind_of_lem ej b) ∙ h))) m)
+      ap (λ (i : ℕ). rewrapped i both x y) (sym p) ∙ sym (by_rule rules f x y (ap₂ passes p (kind_of_lem ej b) ∙ h))) m)
 
 -- what was found
 pub difference_found : (named : Bool) {space : Space} {s t : List ℕ} {l r : ℕ} (known : Option ℕ) {e : ℕ} → DifferTypes s space.n l t space.n r named e → FirstDifference known named space s l t r e

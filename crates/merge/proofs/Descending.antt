@@ -20,7 +20,7 @@ use Rattle.buffers.specs.declared.Space.{Space}
 use Rattle.buffers.proofs.Sources.{link_inside}
 use Rattle.buffers.proofs.Chained.{held_first, held_next}
 use Rattle.buffers.proofs.Rows.{chain_typed}
-use Rattle.wrappers.specs.Ways.{is_wrapper}
+use Rattle.sheet.specs.Kind.{is_wrapper}
 use Rattle.wrappers.proofs.Cores.{wrapper_is}
 use Rattle.wrappers.proofs.Values.{Two, typed_two}
 use Rattle.merge.specs.Descent.{passes, Wrapper, alone, nest, AllPass, AllDictionaries, innermost, Begins, Descends, Descended, Stops}

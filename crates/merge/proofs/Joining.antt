@@ -14,9 +14,10 @@ use Rattle.sheet.specs.Types.{Shape, Fields, end, field, arity, count, zone_byte
 use Rattle.sheet.specs.Head.{head_at}
 use Rattle.sheet.specs.Encode.{link_to}
 use Rattle.sheet.specs.declared.Head.{Head}
-use Rattle.coercion.specs.Data.{DataType, Rules, size, and_then}
+use Rattle.coercion.specs.Data.{DataType, size, and_then}
 use Rattle.coercion.specs.Answers.{coercion}
 use Rattle.coercion.specs.Nested.{before, join_fields, by_name}
+use Rattle.coercion.specs.declared.Rules.{Rules}
 use Rattle.buffers.specs.Writes.{side}
 use Rattle.buffers.specs.Region.{Room, Kept, Inside, Grows, Wrote}
 use Rattle.buffers.specs.Goal.{letters, spot_of, field_for, Means, Tied}

@@ -11,11 +11,12 @@ use Rattle.sheet.specs.Types.{Shape, Fields, field, zone_bytes, labels}
 use Rattle.sheet.specs.Names.{names_differ}
 use Rattle.sheet.specs.Head.{head_at}
 use Rattle.sheet.specs.declared.Head.{Head}
-use Rattle.coercion.specs.Data.{DataType, Rules, size, single}
+use Rattle.coercion.specs.Data.{DataType, size, single}
 use Rattle.coercion.specs.Answers.{coercion}
 use Rattle.coercion.proofs.Shorter.{coercion_smaller, coercion_shorter}
 use Rattle.sheet.proofs.Tests.{all_at, all_cons, all_nil}
 use Rattle.coercion.specs.Same.{same_type}
+use Rattle.coercion.specs.declared.Rules.{Rules}
 use Rattle.buffers.specs.Source.{SameTypes}
 use Rattle.buffers.specs.Writes.{side}
 use Rattle.buffers.specs.Region.{Room, Kept}

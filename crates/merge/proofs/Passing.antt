@@ -7,18 +7,16 @@ use Rattle.std.specs.Prelude.{Option, None, Some}
 use Prim.Native.Nat.{ℕ}
 use native.Mathlib.Omega.{arith}
 use borrow.Author.Tests.{eq-eqb, ne_eqb}
-use Rattle.sheet.specs.Kind.{names_parts}
+use Rattle.sheet.specs.Kind.{names_parts, is_wrapper}
 use Rattle.sheet.specs.Tests.{between}
 use Rattle.sheet.specs.Types.{Shape, Fields, field}
 use Rattle.sheet.specs.Carried.{is_named, FieldRight, FieldsRight}
 use Rattle.sheet.proofs.Tests.{never}
-use Rattle.coercion.specs.Data.{DataType, and_then}
+use Rattle.coercion.specs.Data.{DataType, and_then, is_list_question}
 use Rattle.coercion.specs.Answers.{coercion}
+use Rattle.coercion.specs.declared.Rules.{Rules}
 use Rattle.buffers.specs.Goal.{type_of}
-use Rattle.buffers.specs.Plain.{asked, rules_of, is_list_question}
-use Rattle.buffers.specs.declared.Question.{Question}
 use Rattle.turns.specs.Turns.{rewrap, rewrapped}
-use Rattle.wrappers.specs.Ways.{is_wrapper}
 use Rattle.wrappers.proofs.Cores.{implies_no, wrapper_is}
 use Rattle.merge.specs.Descent.{Wrapper, alone, nest, AllPass, AllDictionaries, innermost}
 use Rattle.merge.proofs.Asking.{by_rule}
@@ -34,9 +32,9 @@ bare_part : {name : List ℕ} {nullable : Bool} {shape : Shape} {parts : Fields}
 unfolding names_parts between
 bare_part {name} {nullable} f = (unnamed_is name (implies_no (is_named name) f.may_be_named), implies_no nullable f.may_be_null)
 
-module _ (question : Question) (mask : ℕ) (of_list : is_list_question (asked question) ≡ true) where
+module _ (rules : Rules) (of_list : is_list_question rules.question ≡ true) where
   abbrev pub both : DataType → DataType → Option DataType
-  both = coercion (rules_of question mask)
+  both = coercion rules
 
   -- what is made of a value: a Dictionary of Utf8View gives way
   rewrap_gone : (k : ℕ) (x t : DataType) → k ≡ 37 → t.shape.kind ≡ 27 → rewrap k x t ≡ Some t
@@ -73,7 +71,7 @@ module _ (question : Question) (mask : ℕ) (of_list : is_list_question (asked q
     none_through sh n b part p (z ∷ zs) a e =
         let v = type_of z.shape (filled z.part_name z.part_nullable z.part z.part_parts zs name nullable c) in
         through sh.kind sh n b part p z.name z.nullable v y None
-        (by_rule question mask of_list v y a.0 ∙ none_through z.shape z.part_name z.part_nullable z.part z.part_parts zs a.1 e)
+        (by_rule rules of_list v y a.0 ∙ none_through z.shape z.part_name z.part_nullable z.part z.part_parts zs a.1 e)
 
     -- the core has one, and the wrappers stay
     pub kept_through : (sh : Shape) (n : List ℕ) (b : Bool) (part : Shape) (p : Fields) (zs : List Wrapper) (t : DataType) → is_wrapper sh.kind ≡ true
@@ -86,7 +84,7 @@ module _ (question : Question) (mask : ℕ) (of_list : is_list_question (asked q
         let u = type_of z.shape (filled z.part_name z.part_nullable z.part z.part_parts zs name nullable t) in
         let inner = passes_wrapper z.shape.kind y.shape.kind a.0 in
         through sh.kind sh n b part p z.name z.nullable v y (Some u)
-        (by_rule question mask of_list v y a.0 ∙ kept_through z.shape z.part_name z.part_nullable z.part z.part_parts zs t inner right.1.1.1.0 a.1 e h)
+        (by_rule rules of_list v y a.0 ∙ kept_through z.shape z.part_name z.part_nullable z.part z.part_parts zs t inner right.1.1.1.0 a.1 e h)
         ∙ rewrap_kept sh n b part p z.name z.nullable v u w right (λ q. ⊎_elim (λ r. omega (arith, q.1, r)) (λ r. omega (arith, q.1, r)) (wrapper_is z.shape.kind inner))
 
     -- it is Utf8View, and all wrappers are Dictionaries
@@ -98,7 +96,7 @@ module _ (question : Question) (mask : ℕ) (of_list : is_list_question (asked q
     gone_through sh n b part p (z ∷ zs) t q ds a e h =
         let v = type_of z.shape (filled z.part_name z.part_nullable z.part z.part_parts zs name nullable c) in
         through sh.kind sh n b part p z.name z.nullable v y (Some t)
-        (by_rule question mask of_list v y a.0 ∙ gone_through z.shape z.part_name z.part_nullable z.part z.part_parts zs t ds.0 ds.1 a.1 e h)
+        (by_rule rules of_list v y a.0 ∙ gone_through z.shape z.part_name z.part_nullable z.part z.part_parts zs t ds.0 ds.1 a.1 e h)
         ∙ rewrap_gone sh.kind (type_of sh (field n b part p (alone z.name z.nullable v))) t q h
 
     -- a run of Dictionaries as one field
@@ -119,5 +117,5 @@ module _ (question : Question) (mask : ℕ) (of_list : is_list_question (asked q
           nullable₁ = z.nullable;
           type = v;
           is = refl;
-          answers = λ t e h. by_rule question mask of_list v y a.0 ∙ gone_through z.shape z.part_name z.part_nullable z.part z.part_parts zs t ds.0 ds.1 a.1 e h;
+          answers = λ t e h. by_rule rules of_list v y a.0 ∙ gone_through z.shape z.part_name z.part_nullable z.part z.part_parts zs t ds.0 ds.1 a.1 e h;
         }

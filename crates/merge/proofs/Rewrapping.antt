@@ -12,7 +12,7 @@ use native.Mathlib.Omega.{arith}
 use lib.ListN.{length, length-append}
 use lib.Dec.{eqb, leb}
 use borrow.Author.Tests.{eq-eqb, eqb-true, leb-true}
-use Rattle.sheet.specs.Kind.{is_decimal, sized, last_unit, parts_right}
+use Rattle.sheet.specs.Kind.{is_decimal, sized, last_unit, parts_right, is_wrapper}
 use Rattle.sheet.specs.Tests.{between}
 use Rattle.sheet.specs.Types.{Zone, absent, Shape, Fields, end, field, arity, count, zone_bytes, labels}
 use Rattle.sheet.specs.Head.{head_at}
@@ -21,27 +21,25 @@ use Rattle.sheet.specs.Refusals.{figure_right, size_right, figures_right}
 use Rattle.sheet.specs.Carried.{is_zoned, FieldsRight}
 use Rattle.sheet.specs.declared.Head.{Head}
 use Rattle.sheet.proofs.Tests.{never, all_at, and_snd}
-use Rattle.coercion.specs.Data.{DataType, size}
+use Rattle.coercion.specs.Data.{DataType, size, is_list_question}
 use Rattle.coercion.proofs.Maybe.{If}
 use Rattle.coercion.proofs.PlainRight.{Sound, own_right}
 use Rattle.coercion.proofs.NestedRight.{coercion_sound}
+use Rattle.coercion.specs.declared.Rules.{Rules}
 use Rattle.buffers.specs.Writes.{side}
 use Rattle.buffers.specs.Region.{Room, region, Kept, Grows, Wrote, CopiedHead}
 use Rattle.buffers.specs.Goal.{letters, Means, Writes, type_of, LaidPlain}
-use Rattle.buffers.specs.Plain.{asked, rules_of, is_list_question}
 use Rattle.buffers.specs.Span.{CopiedSpan}
 use Rattle.buffers.specs.Typed.{Chain, Typed, Merges, ChainIs}
 use Rattle.buffers.specs.declared.Space.{Space}
 use Rattle.buffers.specs.declared.Spot.{Spot}
 use Rattle.buffers.specs.declared.Goal.{Goal}
-use Rattle.buffers.specs.declared.Question.{Question}
 use Rattle.buffers.specs.Out.{Out}
 use Rattle.buffers.specs.declared.Failure.{Failure}
 use Rattle.buffers.specs.declared.Failure.TheVariants.{NoType, Full}
 use Rattle.buffers.proofs.Frames.{kept_trans, kept_wider}
 use Rattle.buffers.proofs.Chained.{room_kept, labels_sum}
 use Rattle.turns.specs.Turns.{rewrapped}
-use Rattle.wrappers.specs.Ways.{is_wrapper}
 use Rattle.wrappers.proofs.Cores.{implies_no, absent_is}
 use Rattle.merge.specs.declared.descent.Descent.{Descent}
 use Rattle.merge.specs.Descent.{Wrapper, alone, nest, AllPass, AllDictionaries, innermost, Descends, Descended, view, PlacedView, run_gives_way, Settled}
@@ -103,11 +101,11 @@ none_between : (zs : List Wrapper) (f : Fields) → count (nest zs f) ≡ count 
 none_between [] f e = refl
 none_between (z ∷ zs) f e = absurd (omega (arith, e, nest_longer z zs f))
 
-module _ (question : Question) (mask : ℕ) (of_list : is_list_question (asked question) ≡ true) (space : Space) (left : ℕ) (swap : Bool) (s w : List ℕ) (k l r : ℕ) (g : Goal) (room : Room w space)
+module _ (rules : Rules) (of_list : is_list_question rules.question ≡ true) (space : Space) (left : ℕ) (swap : Bool) (s w : List ℕ) (k l r : ℕ) (g : Goal) (room : Room w space)
     (is : is_wrapper k ≡ true) (h : Head) (eh : h ≡ head_at (side swap s w) l) (ek : (head_at (side swap s w) l).kind ≡ k)
     (descent : Descent) (down : Descended space (side swap s w) k (head_at (side (not swap) s w) r).kind l descent) where
   abbrev c : DataType → DataType → Option DataType
-  c = both question mask of_list
+  c = both rules of_list
 
   abbrev answer : DataType → DataType → Option DataType
   answer = rewrapped k c
@@ -189,14 +187,14 @@ module _ (question : Question) (mask : ℕ) (of_list : is_list_question (asked q
   none_of : {x y : DataType} (d : Way x) → Typed space (side (not swap) s w) r y → c d.core y ≡ None → rewrapped x.shape.kind c x y ≡ None
   none_of {x} {y} d u e =
       with_parts x y (cut d).is
-      ∙ none_through question mask of_list d.name d.nullable d.core y x.shape d.part_name d.part_nullable d.part d.part_parts (d.kept ++ d.run) (all_passed d u) e
+      ∙ none_through rules of_list d.name d.nullable d.core y x.shape d.part_name d.part_nullable d.part d.part_parts (d.kept ++ d.run) (all_passed d u) e
 
   -- where the wrappers stay
   kept_of : {x y : DataType} (t : Typed space (side swap s w) l x) (d : Way x) → Typed space (side (not swap) s w) r y → {m : DataType} → c d.core y ≡ Some m
       → ¬ ((innermost x.shape.kind (d.kept ++ d.run) ≡ 37) × (m.shape.kind ≡ 27)) → rewrapped x.shape.kind c x y ≡ Some (type_of x.shape (with_type (cut d) m))
   kept_of {x} {y} t d u {m} e n =
       with_parts x y (cut d).is
-      ∙ kept_through question mask of_list d.name d.nullable d.core y x.shape d.part_name d.part_nullable d.part d.part_parts (d.kept ++ d.run) m (wraps t) (fields_right t (cut d).is) (all_passed d u) e n
+      ∙ kept_through rules of_list d.name d.nullable d.core y x.shape d.part_name d.part_nullable d.part d.part_parts (d.kept ++ d.run) m (wraps t) (fields_right t (cut d).is) (all_passed d u) e n
 
   stays_bare : {x : DataType} (d : Way x) (m : DataType) → (not (eqb descent.run descent.core) && eqb m.shape.kind 27) ≡ false → ¬ ((innermost x.shape.kind (d.kept ++ d.run) ≡ 37) × (m.shape.kind ≡ 27))
   stays_bare {x} d m n q = ⊎_elim (λ i. omega (arith, i.1.1, same, d.ends, core_below d)) behind d.begins
@@ -219,15 +217,15 @@ module _ (question : Question) (mask : ℕ) (of_list : is_list_question (asked q
   whole_of {x} {y} d u {m} e v lt =
       let i = begins_whole d lt in
       with_parts x y (cut d).is
-      ∙ gone_through question mask of_list d.name d.nullable d.core y x.shape d.part_name d.part_nullable d.part d.part_parts (d.kept ++ d.run) m i.0
+      ∙ gone_through rules of_list d.name d.nullable d.core y x.shape d.part_name d.part_nullable d.part d.part_parts (d.kept ++ d.run) m i.0
       (subst (λ (zs : List Wrapper). AllDictionaries (zs ++ d.run)) (sym i.1.0) d.dictionaries) (all_passed d u) e v
 
-  part_of : {x y : DataType} (t : Typed space (side swap s w) l x) (d : Way x) → Typed space (side (not swap) s w) r y → {m : DataType} (f : Sole question mask of_list d.name d.nullable d.core y d.run)
+  part_of : {x y : DataType} (t : Typed space (side swap s w) l x) (d : Way x) → Typed space (side (not swap) s w) r y → {m : DataType} (f : Sole rules of_list d.name d.nullable d.core y d.run)
       → x.parts ≡ field d.part_name d.part_nullable d.part d.part_parts (nest d.kept (alone f.name₁ f.nullable₁ f.type)) → innermost x.shape.kind d.kept ≡ 38 → c f.type y ≡ Some m
       → rewrapped x.shape.kind c x y ≡ Some (type_of x.shape (field d.part_name d.part_nullable d.part d.part_parts (nest d.kept (alone f.name₁ f.nullable₁ m))))
   part_of {x} {y} t d u {m} f i last e =
       with_parts x y i
-      ∙ kept_through question mask of_list f.name₁ f.nullable₁ f.type y x.shape d.part_name d.part_nullable d.part d.part_parts d.kept m (wraps t) (fields_right t i) (passed_on d.kept u d.kept_pass) e
+      ∙ kept_through rules of_list f.name₁ f.nullable₁ f.type y x.shape d.part_name d.part_nullable d.part d.part_parts d.kept m (wraps t) (fields_right t i) (passed_on d.kept u d.kept_pass) e
       (λ q. omega (arith, q.0, last))
 
   -- the record was copied
@@ -348,9 +346,9 @@ module _ (question : Question) (mask : ℕ) (of_list : is_list_question (asked q
 
             said_part : {x y : DataType} (t : Typed space (side swap s w) l x) (d : Way x) → Typed space (side (not swap) s w) r y → {z₁ y₁ : ℕ} → size x ≤ z₁ → letters x ≤ y₁ → (m : DataType) → c d.core y ≡ Some m → Sound m
                 → Wrote space v₃ b e (alone d.name d.nullable m) → Means space w v₄ g z₁ y₁ o (rewrapped x.shape.kind c x y)
-            said_part {x} {y} t d u {z₁} {y₁} lz ly m q sound wrote = go (sole question mask of_list d.name d.nullable d.core y d.run d.dictionaries (passed_on d.run u d.run_pass)) (begins_behind d le)
+            said_part {x} {y} t d u {z₁} {y₁} lz ly m q sound wrote = go (sole rules of_list d.name d.nullable d.core y d.run d.dictionaries (passed_on d.run u d.run_pass)) (begins_behind d le)
               where
-                go : Sole question mask of_list d.name d.nullable d.core y d.run → Behind d → Means space w v₄ g z₁ y₁ o (rewrapped x.shape.kind c x y)
+                go : Sole rules of_list d.name d.nullable d.core y d.run → Behind d → Means space w v₄ g z₁ y₁ o (rewrapped x.shape.kind c x y)
                 go f i =
                     let made = field d.part_name d.part_nullable d.part d.part_parts (nest d.kept (alone f.name₁ f.nullable₁ view)) in
                     let is = d.is ∙ ap (λ (v : Fields). field d.part_name d.part_nullable d.part d.part_parts (nest d.kept v)) f.is in
@@ -380,7 +378,7 @@ module _ (question : Question) (mask : ℕ) (of_list : is_list_question (asked q
               (λ x t d y u q.
               let a = d.stands.held.source.right in
               let i = u.chain.held.source.right in
-              each x y t d u 0 0 (c d.core y) refl (coercion_sound (rules_of question mask) d.core y (own_right a.0, a.1.0) (own_right i.0, i.1.0)) (core mf t d y u q))
+              each x y t d u 0 0 (c d.core y) refl (coercion_sound rules d.core y (own_right a.0, a.1.0) (own_right i.0, i.1.0)) (core mf t d y u q))
 
         pub settled_on : Merges answer space (left + 1) swap s w v₄ l r g o
         settled_on = go (run_gives_way space v₃ descent b.at) refl

@@ -8,24 +8,25 @@ use Prim.Native.Nat.{ℕ, ◌+◌, ◌<◌, ◌≤◌}
 use native.Mathlib.Omega.{arith}
 use lib.Dec.{eqb, ltb}
 use borrow.Author.Tests.{eq-eqb, ne_eqb, eqb-true, lt-ltb}
-use Rattle.sheet.specs.Kind as Kind
+use Rattle.sheet.specs.declared.kind.TheConstants as Kind
 use Rattle.sheet.specs.Types.{Shape, Fields, end}
 use Rattle.sheet.specs.Head.{head_at}
 use Rattle.sheet.specs.declared.Head.{Head}
 use Rattle.sheet.proofs.Tests.{never}
-use Rattle.coercion.specs.Data.{DataType, Rules, size, or_else, and_then}
-use Rattle.coercion.specs.Data as Data
-use Rattle.coercion.specs.Kinds.{is_list}
+use Rattle.coercion.specs.Data.{DataType, size, or_else, and_then, is_list_question}
+use Rattle.sheet.specs.Kind.{is_list, is_wrapper}
 use Rattle.coercion.specs.Same.{same_type}
 use Rattle.coercion.specs.Wrappers.{is_of, wrapper_coercion}
 use Rattle.coercion.specs.Nested.{before, join_fields, list_shape, list_of, list_coercion, struct_coercion}
 use Rattle.coercion.specs.Answers.{both_parts, list_struct, coercion}
+use Rattle.coercion.specs.declared.Question.{Question}
+use Rattle.coercion.specs.declared.Rules.{Rules}
 use Rattle.buffers.specs.Source.{SameTypes}
 use Rattle.buffers.specs.Writes.{side}
 use Rattle.buffers.specs.Region.{Room, Kept}
 use Rattle.buffers.specs.Goal.{letters, Means, CopiedType, shape_for}
 use Rattle.buffers.specs.Steps.{Reads, list_kind, list_size}
-use Rattle.buffers.specs.Plain.{is_list_question, plain_rules}
+use Rattle.buffers.specs.Plain.{plain_rules}
 use Rattle.turns.proofs.Orders.{map_turns}
 use Rattle.turns.specs.Turns.{struct_rule, nested_of, list_rule, map_rule, both_wrapped, rewrapped, either_wrapped, resolved, wrapper_rule, unwrapped}
 use Rattle.buffers.specs.Typed.{Typed, Merges}
@@ -41,7 +42,7 @@ use Rattle.buffers.specs.declared.Feed.TheVariants as Feed
 use Rattle.buffers.proofs.Frames.{kept_trans}
 use Rattle.merge.proofs.Knowing.{parts_known, value_known}
 use Rattle.merge.proofs.Merging.{typed_side, typed_same, nothing_known, any_known, any_hint, means_for, means_after, hinted_within, known_as, as_known, merges_swapped, merges_left, merges_right, merges_none}
-use Rattle.wrappers.specs.Ways.{is_wrapper, Hint, without}
+use Rattle.wrappers.specs.Ways.{Hint, without}
 use Rattle.wrappers.specs.Walks.{Way, kind_in}
 use Rattle.wrappers.specs.declared.walk.Turn.{Turn}
 use Rattle.wrappers.proofs.Choosing.{typed_whole, way_rule, way_none}
@@ -343,15 +344,15 @@ module _ (known : Option ℕ) (named : Bool) (rules : Rules) (c : DataType → D
 
   module _ (n : (is_list k && is_list j) ≡ false) where
     module _ (h : (eqb k 35 && eqb j 35) ≡ true) where
-      by_names : (q : Data.Question) (X Y : DataType) → is_list_question q ≡ true → list_struct c X Y ≡ struct_rule q c X Y
-      by_names Data.list X Y e = refl
-      by_names Data.union X Y e = never e
-      by_names Data.compare X Y e = never e
+      by_names : (q : Question) (X Y : DataType) → is_list_question q ≡ true → list_struct c X Y ≡ struct_rule q c X Y
+      by_names Question.List X Y e = refl
+      by_names Question.Union X Y e = never e
+      by_names Question.Compare X Y e = never e
 
-      by_rule : (q : Data.Question) (X Y : DataType) → is_list_question q ≡ false → struct_coercion c X Y ≡ struct_rule q c X Y
-      by_rule Data.list X Y e = never (sym e)
-      by_rule Data.union X Y e = refl
-      by_rule Data.compare X Y e = refl
+      by_rule : (q : Question) (X Y : DataType) → is_list_question q ≡ false → struct_coercion c X Y ≡ struct_rule q c X Y
+      by_rule Question.List X Y e = never (sym e)
+      by_rule Question.Union X Y e = refl
+      by_rule Question.Compare X Y e = refl
 
       pub nested_listed : is_list_question rules.question ≡ true → MergesKnown known named (list_struct c) space (left + 1) swap s w v l r g o → MergesKnown known named (nested_of rules c) space (left + 1) swap s w v l r g o
       unfolding nested_of
@@ -383,7 +384,7 @@ module _ (known : Option ℕ) (named : Bool) (rules : Rules) (c : DataType → D
 size_of : {h : Head} {t : DataType} → Reads h t → eqb t.shape.kind 34 ≡ true → t.shape.size ≡ h.quad
 size_of {h} {t} a e =
     let k = eqb-true t.shape.kind 34 e in
-    a.size (a.bare (ne_eqb t.shape.kind Kind.timestamp (λ q. omega arith)))
+    a.size (a.bare (ne_eqb t.shape.kind Kind.TIMESTAMP (λ q. omega arith)))
 
 pub shape_listed : {x y : Head} {X Y : DataType} → Reads x X → Reads y Y → shape_for (list_kind x y) 0 0 (list_size x y) false ≡ list_shape X.shape Y.shape
 shape_listed {x} {y} {X} {Y} a b = rw (sym a.kind) (rw (sym b.kind) (go (eqb X.shape.kind 34) refl (eqb Y.shape.kind 34) refl))

@@ -1,6 +1,6 @@
 -- Wrappers that are passed on the way down to a core, and the records at which the way ends.
 use Rattle.std.specs.Prelude.{◌≡◌, ℕ, ◌+◌, ◌<◌, ◌≤◌, Bool, true, false, not, ◌&&◌, ◌||◌, List, [], ◌∷◌, ◌⊎◌, length, eqb, ltb}
-use Rattle.sheet.specs.Kind as Kind
+use Rattle.sheet.specs.declared.kind.TheConstants as Kind
 use Rattle.sheet.specs.Types.{Shape, Fields, end, field, count, labels}
 use Rattle.sheet.specs.Head.{head_at}
 use Rattle.coercion.specs.Data.{DataType, size}
@@ -16,7 +16,7 @@ use Rattle.merge.specs.declared.descent.Descent.{Descent}
 
 -- whether a wrapper of kind k that meets a type of kind j comes to the rule for one wrapper of its kind
 abbrev pub passes : ℕ → ℕ → Bool
-passes k j = (eqb k Kind.dictionary && not (eqb j Kind.dictionary)) || (eqb k Kind.run_end_encoded && ltb j Kind.dictionary)
+passes k j = (eqb k Kind.DICTIONARY && not (eqb j Kind.DICTIONARY)) || (eqb k Kind.RUN_END_ENCODED && ltb j Kind.DICTIONARY)
 
 -- a field that is a wrapper, without its value: its name and nullability, its shape, and its first part
 pub record Wrapper : Type 0 where
@@ -45,7 +45,7 @@ AllPass j (z ∷ zs) = (passes z.shape.kind j ≡ true) × AllPass j zs
 -- each wrapper is a Dictionary
 abbrev pub AllDictionaries : List Wrapper → Type 0
 AllDictionaries [] = Unit
-AllDictionaries (z ∷ zs) = (z.shape.kind ≡ Kind.dictionary) × AllDictionaries zs
+AllDictionaries (z ∷ zs) = (z.shape.kind ≡ Kind.DICTIONARY) × AllDictionaries zs
 
 -- the kind of the innermost of wrappers, the outermost of which has kind k
 abbrev pub innermost : ℕ → List Wrapper → ℕ
@@ -56,8 +56,8 @@ innermost k (z ∷ zs) = innermost z.shape.kind zs
 -- record l, where that is a Dictionary and all wrappers are; or behind run ends.
 abbrev pub Begins : Space → List ℕ → ℕ → DataType → List Wrapper → ℕ → Fields → Type 0
 Begins space s l x kept i f =
-    ((x.shape.kind ≡ Kind.dictionary) × ((kept ≡ []) × (i ≡ l)))
-    ⊎ ((innermost x.shape.kind kept ≡ Kind.run_end_encoded) × (Chain space s i f × (i + count f ≡ l + size x)))
+    ((x.shape.kind ≡ Kind.DICTIONARY) × ((kept ≡ []) × (i ≡ l)))
+    ⊎ ((innermost x.shape.kind kept ≡ Kind.RUN_END_ENCODED) × (Chain space s i f × (i + count f ≡ l + size x)))
 
 -- The way down from the wrapper x at record l towards a type of kind j: wrappers that are kept, a run of
 -- Dictionaries, and the core. The record of the core is known, and that of the run, which begins with x where x
@@ -91,7 +91,7 @@ Stops space s k j l d = (x : DataType) → Typed space s l x → x.shape.kind �
 
 -- Utf8View
 abbrev pub view : DataType
-view = type_of (shape_for Kind.utf8_view 0 0 0 false) end
+view = type_of (shape_for Kind.UTF8_VIEW 0 0 0 false) end
 
 -- Utf8View was written at a place under the name and nullability of the field at a link
 pub record NamedView (space : Space) (s w v : List ℕ) (link : ℕ) (to : Spot) (o : Out) : Type 0 where
@@ -110,7 +110,7 @@ pub record PlacedView (space : Space) (s w v : List ℕ) (r i : ℕ) (to : Spot)
 
 -- whether a run of Dictionaries stands about Utf8View, which was written at record i
 abbrev pub run_gives_way : Space → List ℕ → Descent → ℕ → Bool
-run_gives_way space w d i = not (eqb d.run d.core) && eqb (head_at (region space w) i).kind Kind.utf8_view
+run_gives_way space w d i = not (eqb d.run d.core) && eqb (head_at (region space w) i).kind Kind.UTF8_VIEW
 
 -- a wrapper, written at a goal with its parts from a up to e, stays so, or its run of Dictionaries gives way to
 -- the Utf8View at record i

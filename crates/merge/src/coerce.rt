@@ -9,13 +9,14 @@ ghost use Rattle.sheet.specs.Head.{head_at, sorted_in};
 ghost use Rattle.buffers.specs.Writes.{side};
 ghost use Rattle.buffers.specs.Region.{Room, Inside, Ready};
 ghost use Rattle.buffers.specs.Goal.{shape_for};
-ghost use Rattle.buffers.specs.Plain.{asked, rules_of, is_list_question, plain_rules};
-ghost use Rattle.wrappers.specs.Ways.{is_wrapper};
+ghost use Rattle.buffers.specs.Plain.{plain_rules};
+ghost use Rattle.sheet.specs.Kind.{is_wrapper};
 ghost use Rattle.turns.specs.Turns.{resolved, unwrapped, wrapper_rule, either_wrapped, nested_of, both_wrapped, rewrapped, list_rule, map_rule};
 ghost use Rattle.buffers.specs.Typed.{Merges};
 ghost use Rattle.partners.specs.Naming.{StructsFed};
 ghost use Rattle.merge.specs.Known.{known_names};
 ghost use Rattle.merge.specs.Merge.{Tabled, MergesKnown, MergesHinted, MergesField, Rowed, Under};
+ghost use Rattle.coercion.specs.Data.{is_list_question};
 
 use crate::Merger;
 use crate::descent::passes;
@@ -24,16 +25,16 @@ use buffers::alike::same_sides;
 use buffers::copy::{copy_head, copy_parent};
 use buffers::field::{first_link, name_goal, next_link, row_end};
 use buffers::lay::{copy_type, lay, tie};
-use buffers::plain::{is_list_question, list_kind, list_size};
+use buffers::plain::{list_kind, list_size};
 use buffers::span::copy_span;
 use buffers::stamp::plain_rule;
 use buffers::write::{kind_at, look, value_at};
 use buffers::{Failure, Feed, Goal, Out, Shape, Spot};
 use coercion::Figures;
-use kinds::tests::is_list;
 use partners::names::{same_arity, struct_feed};
 use partners::rows::row;
 use sheet::Head;
+use sheet::kind::{self, is_list};
 use wrappers::walk::way;
 
 // How many records the type at a link has. It ends where the chain goes on, or with the last
@@ -73,7 +74,7 @@ impl<'a> Merger<'a> {
         g: Goal,
     ) -> Out
         requires { Room work.old self.now.space × Ready self.now.space g }
-        ensures { MergesKnown known (is_list_question (asked self.now.question)) (coercion (rules_of self.now.question self.now.mask)) self.now.space left swap self.now.sheet.now work.old work.new l r g result }
+        ensures { MergesKnown known (is_list_question self.now.rules.question) (coercion self.now.rules) self.now.space left swap self.now.sheet.now work.old work.new l r g result }
     {
         let records = records_from(self.space.n, l, look(self.sheet, &*work, swap, l).next);
         if records < 9 {
@@ -99,7 +100,7 @@ impl<'a> Merger<'a> {
         g: Goal,
     ) -> Out
         requires { Room work.old self.now.space × Ready self.now.space g }
-        ensures { MergesKnown known (is_list_question (asked self.now.question)) (coercion (rules_of self.now.question self.now.mask)) self.now.space left swap self.now.sheet.now work.old work.new l r g result }
+        ensures { MergesKnown known (is_list_question self.now.rules.question) (coercion self.now.rules) self.now.space left swap self.now.sheet.now work.old work.new l r g result }
     {
         self.common(work, &mut [0u32; 2048], left, swap, known, 0, l, r, g)
     }
@@ -125,19 +126,9 @@ impl<'a> Merger<'a> {
     // The rules for types without parts.
     fn plain(&self, work: &mut [u8], swap: bool, l: usize, r: usize, g: Goal) -> Out
         requires { Room work.old self.now.space × Ready self.now.space g }
-        ensures { (left : ℕ) → Merges (plain_rules (rules_of self.now.question self.now.mask)) self.now.space left swap self.now.sheet.now work.old work.new l r g result }
+        ensures { (left : ℕ) → Merges (plain_rules self.now.rules) self.now.space left swap self.now.sheet.now work.old work.new l r g result }
     {
-        plain_rule(
-            self.sheet,
-            work,
-            self.space,
-            self.question,
-            self.mask,
-            swap,
-            l,
-            r,
-            g,
-        )
+        plain_rule(self.sheet, work, self.space, self.rules, swap, l, r, g)
     }
 
     // What feeds the fields of two Structs at their links: the fields at their places where names
@@ -155,7 +146,7 @@ impl<'a> Merger<'a> {
     ) -> Option<Feed>
         requires few { self.now.space.n ≤ 1024 }
         requires tabled { Tabled self.now.space self.now.sheet.now work.now table.old }
-        ensures struct_fed { StructsFed (known_names (is_list_question (asked self.now.question)) known) by_name self.now.space (side swap self.now.sheet.now work.now) (side (not swap) self.now.sheet.now work.now) floor l r result }
+        ensures struct_fed { StructsFed (known_names (is_list_question self.now.rules.question) known) by_name self.now.space (side swap self.now.sheet.now work.now) (side (not swap) self.now.sheet.now work.now) floor l r result }
         ensures stays_tabled { Tabled self.now.space self.now.sheet.now work.now table.new }
     {
         let known = self.known_names(known);
@@ -180,7 +171,7 @@ impl<'a> Merger<'a> {
     ) -> Out
         requires room { Room work.old self.now.space × Ready self.now.space g }
         requires tabled { Tabled self.now.space self.now.sheet.now work.old table.old }
-        ensures merges_hinted { MergesHinted hint self.now.mask known (is_list_question (asked self.now.question)) (coercion (rules_of self.now.question self.now.mask)) self.now.space left swap self.now.sheet.now work.old work.new l r g result }
+        ensures merges_hinted { MergesHinted hint self.now.rules.mask known (is_list_question self.now.rules.question) (coercion self.now.rules) self.now.space left swap self.now.sheet.now work.old work.new l r g result }
         ensures stays_tabled { Tabled self.now.space self.now.sheet.now work.new table.new }
     {
         if left == 0 {
@@ -191,13 +182,13 @@ impl<'a> Merger<'a> {
             return copy_type(self.sheet, work, self.space, swap, l, g);
         }
         let (k, j) = self.kinds(&*work, swap, l, r);
-        if k < 32 && j < 32 {
+        if k < kind::LIST && j < kind::LIST {
             return self.plain(work, swap, l, r, g);
         }
-        if k < 37 && j < 37 {
+        if k < kind::DICTIONARY && j < kind::DICTIONARY {
             return self.nested(work, table, left - 1, swap, Some(d), l, r, g);
         }
-        if is_list_question(self.question) {
+        if self.rules.is_list_question() {
             return self.resolve(work, table, left - 1, swap, Some(d), l, r, g);
         }
         self.unwrap(work, table, left - 1, swap, Some(d), hint, l, r, g)
@@ -217,17 +208,19 @@ impl<'a> Merger<'a> {
         g: Goal,
     ) -> Out
         requires room { Room work.old self.now.space × Ready self.now.space g }
-        requires of_list { is_list_question (asked self.now.question) ≡ true }
+        requires of_list { is_list_question self.now.rules.question ≡ true }
         requires tabled { Tabled self.now.space self.now.sheet.now work.old table.old }
-        ensures merges_known { MergesKnown known (is_list_question (asked self.now.question)) (resolved (rules_of self.now.question self.now.mask) (coercion (rules_of self.now.question self.now.mask))) self.now.space (left + 1) swap self.now.sheet.now work.old work.new l r g result }
+        ensures merges_known { MergesKnown known (is_list_question self.now.rules.question) (resolved self.now.rules (coercion self.now.rules)) self.now.space (left + 1) swap self.now.sheet.now work.old work.new l r g result }
         ensures stays_tabled { Tabled self.now.space self.now.sheet.now work.new table.new }
     {
         let (k, j) = self.kinds(&*work, swap, l, r);
-        if k == 37 || j == 37 {
-            return self.resolve_wrapper(work, table, left, swap, known, 37, l, r, g);
+        if k == kind::DICTIONARY || j == kind::DICTIONARY {
+            let kind = kind::DICTIONARY;
+            return self.resolve_wrapper(work, table, left, swap, known, kind, l, r, g);
         }
-        if k == 38 || j == 38 {
-            return self.resolve_wrapper(work, table, left, swap, known, 38, l, r, g);
+        if k == kind::RUN_END_ENCODED || j == kind::RUN_END_ENCODED {
+            let kind = kind::RUN_END_ENCODED;
+            return self.resolve_wrapper(work, table, left, swap, known, kind, l, r, g);
         }
         self.nested(work, table, left, swap, known, l, r, g)
     }
@@ -247,10 +240,10 @@ impl<'a> Merger<'a> {
         g: Goal,
     ) -> Out
         requires room { Room work.old self.now.space × Ready self.now.space g }
-        requires of_list { is_list_question (asked self.now.question) ≡ true }
+        requires of_list { is_list_question self.now.rules.question ≡ true }
         requires wrapper { is_wrapper kind ≡ true }
         requires tabled { Tabled self.now.space self.now.sheet.now work.old table.old }
-        ensures merges_known { MergesKnown known (is_list_question (asked self.now.question)) (either_wrapped kind (coercion (rules_of self.now.question self.now.mask))) self.now.space (left + 1) swap self.now.sheet.now work.old work.new l r g result }
+        ensures merges_known { MergesKnown known (is_list_question self.now.rules.question) (either_wrapped kind (coercion self.now.rules)) self.now.space (left + 1) swap self.now.sheet.now work.old work.new l r g result }
         ensures stays_tabled { Tabled self.now.space self.now.sheet.now work.new table.new }
     {
         let (k, j) = self.kinds(&*work, swap, l, r);
@@ -281,7 +274,7 @@ impl<'a> Merger<'a> {
     ) -> Out
         requires room { Room work.old self.now.space × Ready self.now.space g }
         requires tabled { Tabled self.now.space self.now.sheet.now work.old table.old }
-        ensures merges_known { MergesKnown known (is_list_question (asked self.now.question)) (both_wrapped (coercion (rules_of self.now.question self.now.mask))) self.now.space (left + 1) swap self.now.sheet.now work.old work.new l r g result }
+        ensures merges_known { MergesKnown known (is_list_question self.now.rules.question) (both_wrapped (coercion self.now.rules)) self.now.space (left + 1) swap self.now.sheet.now work.old work.new l r g result }
         ensures stays_tabled { Tabled self.now.space self.now.sheet.now work.new table.new }
     {
         if self.space.n <= g.at {
@@ -319,10 +312,10 @@ impl<'a> Merger<'a> {
         g: Goal,
     ) -> Out
         requires room { Room work.old self.now.space × Ready self.now.space g }
-        requires of_list { is_list_question (asked self.now.question) ≡ true }
+        requires of_list { is_list_question self.now.rules.question ≡ true }
         requires wrapper { (is_wrapper kind ≡ true) × ((head_at (side swap self.now.sheet.now work.old) l).kind ≡ kind) }
         requires tabled { Tabled self.now.space self.now.sheet.now work.old table.old }
-        ensures merges { Merges (rewrapped kind (coercion (rules_of self.now.question self.now.mask))) self.now.space (left + 1) swap self.now.sheet.now work.old work.new l r g result }
+        ensures merges { Merges (rewrapped kind (coercion self.now.rules)) self.now.space (left + 1) swap self.now.sheet.now work.old work.new l r g result }
         ensures stays_tabled { Tabled self.now.space self.now.sheet.now work.new table.new }
     {
         let space = self.space;
@@ -352,9 +345,9 @@ impl<'a> Merger<'a> {
         to: Spot,
     ) -> Out
         requires room { Room work.old self.now.space × Inside self.now.space to }
-        requires of_list { is_list_question (asked self.now.question) ≡ true }
+        requires of_list { is_list_question self.now.rules.question ≡ true }
         requires tabled { Tabled self.now.space self.now.sheet.now work.old table.old }
-        ensures merges_field { MergesField None (is_list_question (asked self.now.question)) (coercion (rules_of self.now.question self.now.mask)) self.now.space left swap self.now.sheet.now work.old work.new l r to result }
+        ensures merges_field { MergesField None (is_list_question self.now.rules.question) (coercion self.now.rules) self.now.space left swap self.now.sheet.now work.old work.new l r to result }
         ensures stays_tabled { Tabled self.now.space self.now.sheet.now work.new table.new }
     {
         let x = look(self.sheet, &*work, swap, l);
@@ -376,9 +369,9 @@ impl<'a> Merger<'a> {
         g: Goal,
     ) -> Out
         requires room { Room work.old self.now.space × Ready self.now.space g }
-        requires of_list { is_list_question (asked self.now.question) ≡ true }
+        requires of_list { is_list_question self.now.rules.question ≡ true }
         requires tabled { Tabled self.now.space self.now.sheet.now work.old table.old }
-        ensures merges { Merges (coercion (rules_of self.now.question self.now.mask)) self.now.space left swap self.now.sheet.now work.old work.new l r g result }
+        ensures merges { Merges (coercion self.now.rules) self.now.space left swap self.now.sheet.now work.old work.new l r g result }
         ensures stays_tabled { Tabled self.now.space self.now.sheet.now work.new table.new }
     {
         if left == 0 {
@@ -388,7 +381,7 @@ impl<'a> Merger<'a> {
         if passes(k, j) {
             return self.rewrapped(work, table, left - 1, swap, k, l, r, g);
         }
-        if k != j && k < 32 && j < 32 {
+        if k != j && k < kind::LIST && j < kind::LIST {
             return self.plain(work, swap, l, r, g);
         }
         self.common(work, table, left, swap, None, 0, l, r, g)
@@ -410,9 +403,9 @@ impl<'a> Merger<'a> {
         g: Goal,
     ) -> Out
         requires room { Room work.old self.now.space × Ready self.now.space g }
-        requires of_pair { is_list_question (asked self.now.question) ≡ false }
+        requires of_pair { is_list_question self.now.rules.question ≡ false }
         requires tabled { Tabled self.now.space self.now.sheet.now work.old table.old }
-        ensures merges_hinted { MergesHinted hint self.now.mask known (is_list_question (asked self.now.question)) (unwrapped (rules_of self.now.question self.now.mask) (coercion (rules_of self.now.question self.now.mask))) self.now.space (left + 1) swap self.now.sheet.now work.old work.new l r g result }
+        ensures merges_hinted { MergesHinted hint self.now.rules.mask known (is_list_question self.now.rules.question) (unwrapped self.now.rules (coercion self.now.rules)) self.now.space (left + 1) swap self.now.sheet.now work.old work.new l r g result }
         ensures stays_tabled { Tabled self.now.space self.now.sheet.now work.new table.new }
     {
         // Each answer has an arm of its own, since the proof goes by cases.
@@ -440,11 +433,11 @@ impl<'a> Merger<'a> {
     ) -> Out
         requires room { Room work.old self.now.space × Ready self.now.space g }
         requires tabled { Tabled self.now.space self.now.sheet.now work.old table.old }
-        ensures merges_hinted { MergesHinted hint self.now.mask known (is_list_question (asked self.now.question)) (wrapper_rule (rules_of self.now.question self.now.mask) (coercion (rules_of self.now.question self.now.mask))) self.now.space (left + 1) swap self.now.sheet.now work.old work.new l r g result }
+        ensures merges_hinted { MergesHinted hint self.now.rules.mask known (is_list_question self.now.rules.question) (wrapper_rule self.now.rules (coercion self.now.rules)) self.now.space (left + 1) swap self.now.sheet.now work.old work.new l r g result }
         ensures stays_tabled { Tabled self.now.space self.now.sheet.now work.new table.new }
     {
         let n = self.space.n;
-        let Some(t) = way(self.sheet, &*work, swap, self.mask, left, hint, l, r) else {
+        let Some(t) = way(self.sheet, &*work, swap, self.rules.mask, left, hint, l, r) else {
             return Err(Failure::NoType);
         };
         let kind = t.kind;
@@ -486,20 +479,20 @@ impl<'a> Merger<'a> {
     ) -> Out
         requires room { Room work.old self.now.space × Ready self.now.space g }
         requires tabled { Tabled self.now.space self.now.sheet.now work.old table.old }
-        ensures merges_known { MergesKnown known (is_list_question (asked self.now.question)) (nested_of (rules_of self.now.question self.now.mask) (coercion (rules_of self.now.question self.now.mask))) self.now.space (left + 1) swap self.now.sheet.now work.old work.new l r g result }
+        ensures merges_known { MergesKnown known (is_list_question self.now.rules.question) (nested_of self.now.rules (coercion self.now.rules)) self.now.space (left + 1) swap self.now.sheet.now work.old work.new l r g result }
         ensures stays_tabled { Tabled self.now.space self.now.sheet.now work.new table.new }
     {
         let (k, j) = self.kinds(&*work, swap, l, r);
         if is_list(k) && is_list(j) {
             return self.list_rule(work, table, left, swap, known, l, r, g);
         }
-        if k == 35 && j == 35 {
-            if is_list_question(self.question) {
+        if k == kind::STRUCT && j == kind::STRUCT {
+            if self.rules.is_list_question() {
                 return self.list_struct(work, table, left, swap, known, l, r, g);
             }
             return self.struct_rule(work, table, left, swap, known, l, r, g);
         }
-        if k == 36 && j == 36 {
+        if k == kind::MAP && j == kind::MAP {
             return self.map_rule(work, table, left, swap, known, l, r, g);
         }
         self.plain(work, swap, l, r, g)
@@ -522,7 +515,7 @@ impl<'a> Merger<'a> {
     ) -> Out
         requires room { (Room work.old self.now.space × Ready self.now.space g) × (shape.size < 4294967296) }
         requires tabled { Tabled self.now.space self.now.sheet.now work.old table.old }
-        ensures under { Under known (is_list_question (asked self.now.question)) (coercion (rules_of self.now.question self.now.mask)) self.now.space left swap self.now.sheet.now work.old work.new feed (shape_for shape.kind shape.figure shape.scale shape.size shape.sorted) l r r g result }
+        ensures under { Under known (is_list_question self.now.rules.question) (coercion self.now.rules) self.now.space left swap self.now.sheet.now work.old work.new feed (shape_for shape.kind shape.figure shape.scale shape.size shape.sorted) l r r g result }
         ensures stays_tabled { Tabled self.now.space self.now.sheet.now work.new table.new }
     {
         let at = g.at;
@@ -550,7 +543,7 @@ impl<'a> Merger<'a> {
     ) -> Out
         requires room { Room work.old self.now.space × Ready self.now.space g }
         requires tabled { Tabled self.now.space self.now.sheet.now work.old table.old }
-        ensures merges_known { MergesKnown known (is_list_question (asked self.now.question)) (list_rule (coercion (rules_of self.now.question self.now.mask))) self.now.space (left + 1) swap self.now.sheet.now work.old work.new l r g result }
+        ensures merges_known { MergesKnown known (is_list_question self.now.rules.question) (list_rule (coercion self.now.rules)) self.now.space (left + 1) swap self.now.sheet.now work.old work.new l r g result }
         ensures stays_tabled { Tabled self.now.space self.now.sheet.now work.new table.new }
     {
         let (x, y) = self.heads(&*work, swap, l, r);
@@ -577,19 +570,19 @@ impl<'a> Merger<'a> {
     ) -> Out
         requires room { Room work.old self.now.space × Ready self.now.space g }
         requires tabled { Tabled self.now.space self.now.sheet.now work.old table.old }
-        ensures merges_known { MergesKnown known (is_list_question (asked self.now.question)) (struct_coercion (coercion (rules_of self.now.question self.now.mask))) self.now.space (left + 1) swap self.now.sheet.now work.old work.new l r g result }
+        ensures merges_known { MergesKnown known (is_list_question self.now.rules.question) (struct_coercion (coercion self.now.rules)) self.now.space (left + 1) swap self.now.sheet.now work.old work.new l r g result }
         ensures stays_tabled { Tabled self.now.space self.now.sheet.now work.new table.new }
     {
         let (x, y) = self.heads(&*work, swap, l, r);
         let (a, b) = (x.first, y.first);
-        if x.kind == 35
-            && y.kind == 35
+        if x.kind == kind::STRUCT
+            && y.kind == kind::STRUCT
             && same_arity(self.sheet, &*work, self.space, swap, l, a, b)
         {
             let feed = self
                 .struct_feed(&*work, table, swap, known, Feed::Name, l, a, b)
                 .unwrap_or(Feed::Place);
-            let shape = Shape::from(Figures::of_kind(35));
+            let shape = Shape::from(Figures::of_kind(kind::STRUCT));
             return self.under(work, table, left, swap, known, feed, shape, a, b, g);
         }
         Err(Failure::NoType)
@@ -611,7 +604,7 @@ impl<'a> Merger<'a> {
         requires room { Room work.old self.now.space × Ready self.now.space g }
         requires structs { ((head_at (side swap self.now.sheet.now work.old) l).kind ≡ 35) × ((head_at (side (not swap) self.now.sheet.now work.old) r).kind ≡ 35) }
         requires tabled { Tabled self.now.space self.now.sheet.now work.old table.old }
-        ensures merges_known { MergesKnown known (is_list_question (asked self.now.question)) (list_struct (coercion (rules_of self.now.question self.now.mask))) self.now.space (left + 1) swap self.now.sheet.now work.old work.new l r g result }
+        ensures merges_known { MergesKnown known (is_list_question self.now.rules.question) (list_struct (coercion self.now.rules)) self.now.space (left + 1) swap self.now.sheet.now work.old work.new l r g result }
         ensures stays_tabled { Tabled self.now.space self.now.sheet.now work.new table.new }
     {
         let (x, y) = self.heads(&*work, swap, l, r);
@@ -619,7 +612,7 @@ impl<'a> Merger<'a> {
         if !same_arity(self.sheet, &*work, self.space, swap, l, a, b) {
             return Err(Failure::NoType);
         }
-        let shape = Shape::from(Figures::of_kind(35));
+        let shape = Shape::from(Figures::of_kind(kind::STRUCT));
         match self.struct_feed(&*work, table, swap, known, Feed::NameThenPlace, l, a, b) {
             Some(feed) => self.under(work, table, left, swap, known, feed, shape, a, b, g),
             None => Err(Failure::NoType),
@@ -641,7 +634,7 @@ impl<'a> Merger<'a> {
     ) -> Out
         requires room { Room work.old self.now.space × Ready self.now.space g }
         requires tabled { Tabled self.now.space self.now.sheet.now work.old table.old }
-        ensures merges_known { MergesKnown known (is_list_question (asked self.now.question)) (map_rule (coercion (rules_of self.now.question self.now.mask))) self.now.space (left + 1) swap self.now.sheet.now work.old work.new l r g result }
+        ensures merges_known { MergesKnown known (is_list_question self.now.rules.question) (map_rule (coercion self.now.rules)) self.now.space (left + 1) swap self.now.sheet.now work.old work.new l r g result }
         ensures stays_tabled { Tabled self.now.space self.now.sheet.now work.new table.new }
     {
         let at = g.at;
@@ -656,7 +649,7 @@ impl<'a> Merger<'a> {
         }
         let shape = Shape {
             sorted: are_sorted(x, y),
-            ..Shape::from(Figures::of_kind(36))
+            ..Shape::from(Figures::of_kind(kind::MAP))
         };
         lay(work, self.space, g, shape, at + 1);
         self.entry(
@@ -686,7 +679,7 @@ impl<'a> Merger<'a> {
     ) -> Out
         requires room { Room work.old self.now.space × Inside self.now.space to }
         requires tabled { Tabled self.now.space self.now.sheet.now work.old table.old }
-        ensures merges_field { MergesField known (is_list_question (asked self.now.question)) (struct_coercion (coercion (rules_of self.now.question self.now.mask))) self.now.space (left + 1) swap self.now.sheet.now work.old work.new l r to result }
+        ensures merges_field { MergesField known (is_list_question self.now.rules.question) (struct_coercion (coercion self.now.rules)) self.now.space (left + 1) swap self.now.sheet.now work.old work.new l r to result }
         ensures stays_tabled { Tabled self.now.space self.now.sheet.now work.new table.new }
     {
         let x = look(self.sheet, &*work, swap, l);
@@ -713,7 +706,7 @@ impl<'a> Merger<'a> {
     ) -> Out
         requires room { Room work.old self.now.space × Inside self.now.space to }
         requires tabled { Tabled self.now.space self.now.sheet.now work.old table.old }
-        ensures rowed { Rowed known (is_list_question (asked self.now.question)) (coercion (rules_of self.now.question self.now.mask)) self.now.space left swap self.now.sheet.now work.old work.new feed l r p to result }
+        ensures rowed { Rowed known (is_list_question self.now.rules.question) (coercion self.now.rules) self.now.space left swap self.now.sheet.now work.old work.new feed l r p to result }
         ensures stays_tabled { Tabled self.now.space self.now.sheet.now work.new table.new }
     {
         if l == 0 {

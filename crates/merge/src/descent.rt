@@ -5,7 +5,7 @@ ghost use Rattle.std.specs.Prelude.{◌≡◌, true, not, cond, eqb};
 ghost use Rattle.sheet.specs.Head.{head_at};
 ghost use Rattle.buffers.specs.Writes.{side};
 ghost use Rattle.buffers.specs.Region.{Room, Inside, Ready};
-ghost use Rattle.wrappers.specs.Ways.{is_wrapper};
+ghost use Rattle.sheet.specs.Kind.{is_wrapper};
 ghost use Rattle.merge.specs.Descent.{passes, run_gives_way, Descended, Stops, NamedView, PlacedView, Settled};
 
 use crate::Merger;
@@ -15,6 +15,7 @@ use buffers::span::copy_span;
 use buffers::write::{kind_at, look, sides};
 use buffers::{Goal, Out, Space, Spot};
 use coercion::Figures;
+use sheet::kind;
 use sheet::record::head_at;
 
 /// The way down from a wrapper: the record of its first part; that of the core at which the
@@ -32,14 +33,19 @@ pub struct Descent {
 pub(crate) fn passes(k: u8, j: u8) -> bool
     ensures { result ≡ passes k j }
 {
-    (k == 37 && j != 37) || (k == 38 && j < 37)
+    (k == kind::DICTIONARY && j != kind::DICTIONARY)
+        || (k == kind::RUN_END_ENCODED && j < kind::DICTIONARY)
 }
 
 // Where the run of Dictionaries begins, after a wrapper of kind k about the value at a record.
 fn run_after(k: u8, value: usize, run: usize) -> usize
     ensures { result ≡ cond (eqb k 38) value run }
 {
-    if k == 38 { value } else { run }
+    if k == kind::RUN_END_ENCODED {
+        value
+    } else {
+        run
+    }
 }
 
 // Walks down from the wrapper of kind k at record l, towards a type of kind j. A link is followed
@@ -86,7 +92,7 @@ fn run_gives_way(work: &[u8], space: Space, descent: Descent, i: usize) -> bool
     requires { Room work.now space }
     ensures { result ≡ run_gives_way space work.now descent i }
 {
-    descent.run != descent.core && head_at(&work[space.half..], i).kind == 27
+    descent.run != descent.core && head_at(&work[space.half..], i).kind == kind::UTF8_VIEW
 }
 
 impl<'a> Merger<'a> {
@@ -108,7 +114,7 @@ impl<'a> Merger<'a> {
     {
         let h = look(self.sheet, &*work, swap, link);
         let g = name_goal(self.sheet, work, self.space, swap, h, h.nullable(), to)?;
-        lay_plain(work, self.space, g, Figures::of_kind(27))
+        lay_plain(work, self.space, g, Figures::of_kind(kind::UTF8_VIEW))
     }
 
     // The parts of a wrapper, the first of which is record r, with Utf8View in the place of record
@@ -141,7 +147,7 @@ impl<'a> Merger<'a> {
             return Ok(e);
         }
         if descent.run < descent.first {
-            return lay_plain(work, self.space, g, Figures::of_kind(27));
+            return lay_plain(work, self.space, g, Figures::of_kind(kind::UTF8_VIEW));
         }
         self.place_view(work, swap, descent.first, descent.run, a)
     }

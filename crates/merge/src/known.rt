@@ -1,13 +1,12 @@
 //! Where two types differ, by the number of a record, so that no record is compared twice.
 
 ghost use Rattle.std.specs.Prelude.{◌≡◌, not, ◌<◌};
-ghost use Rattle.buffers.specs.Plain.{asked, is_list_question};
 ghost use Rattle.buffers.specs.Writes.{side};
 ghost use Rattle.merge.specs.Known.{row_known, known_names, FirstDifference};
+ghost use Rattle.coercion.specs.Data.{is_list_question};
 
 use crate::Merger;
 use buffers::alike::differ_sides;
-use buffers::plain::is_list_question;
 
 impl<'a> Merger<'a> {
     /// The record at which two types first differ, or 0; they are compared only where it is not
@@ -21,21 +20,21 @@ impl<'a> Merger<'a> {
         r: usize,
     ) -> usize
         requires { self.now.space.n < 65536 }
-        ensures { FirstDifference known (is_list_question (asked self.now.question)) self.now.space (side swap self.now.sheet.now work.now) l (side (not swap) self.now.sheet.now work.now) r result }
+        ensures { FirstDifference known (is_list_question self.now.rules.question) self.now.space (side swap self.now.sheet.now work.now) l (side (not swap) self.now.sheet.now work.now) r result }
     {
         if let Some(d) = known {
             return d;
         }
-        let named = is_list_question(self.question);
+        let named = self.rules.is_list_question();
         differ_sides(self.sheet, work, self.space.n, swap, l, r, named)
     }
 
     /// What is known of the names of two chains by where they differ: in a list alone names are
     /// compared.
     pub(crate) fn known_names(&self, known: Option<usize>) -> Option<usize>
-        ensures { result ≡ known_names (is_list_question (asked self.now.question)) known }
+        ensures { result ≡ known_names (is_list_question self.now.rules.question) known }
     {
-        if is_list_question(self.question) {
+        if self.rules.is_list_question() {
             known
         } else {
             None

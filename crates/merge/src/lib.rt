@@ -6,7 +6,8 @@ pub mod coerce;
 mod descent;
 mod known;
 
-use buffers::{Question, Space};
+use buffers::Space;
+use coercion::Rules;
 
 /// What all calls of one merge share: the sheet and its sizes, what is asked, and the mask of the
 /// kinds that Null may become, bit k for kind k.
@@ -14,6 +15,5 @@ use buffers::{Question, Space};
 pub struct Merger<'a> {
     pub sheet: &'a [u8],
     pub space: Space,
-    pub question: Question,
-    pub mask: u64,
+    pub rules: Rules,
 }

@@ -1,15 +1,14 @@
 //! Numbers and decimals. Where the source has a function for each of four widths, one over the width's kind serves.
 //! A kind is the byte of a record, and every function here takes any byte.
 ghost use Rattle.std.specs.Prelude.{◌≡◌, true, ◌&&◌, ◌+◌, ◌<◌, ◌≤◌, Some};
-ghost use Rattle.sheet.specs.Kind.{is_decimal, cap};
+ghost use Rattle.sheet.specs.Kind.{is_decimal, cap, is_integer};
 ghost use Rattle.coercion.specs.Numbers.{decimal, ahead, wider_scale, wider_precision, create_decimal_type, get_wider_decimal_type, get_wider_decimal_type_cross_variant, digits_of, fraction_of, takes, coerce_numeric_type_to_decimal, get_common_decimal_type, decimal_coercion, float_coercion, integer_coercion, numerical_coercion, binary_numeric_coercion};
 ghost use Rattle.coercion.specs.Data.{or_else};
-ghost use Rattle.coercion.specs.Kinds.{is_integer};
 
 use coercion::Figures;
-use kinds::tests::{is_integer, is_numeric, one_is};
 use sheet::caps::precision_cap;
-use sheet::figure::{biased_scale, is_decimal, within};
+use sheet::figure::biased_scale;
+use sheet::kind::{self, is_decimal, is_integer, is_numeric, one_is, within};
 
 // p - s, plus 256, of a precision and a scale plus 128.
 fn digits_ahead(p: u8, s: usize) -> usize
@@ -75,12 +74,12 @@ fn digits_of(k: u8) -> usize
     ensures { (result ≡ digits_of k) × (result < 256) }
 {
     match k {
-        3 | 7 => 3,
-        4 | 8 => 5,
-        5 | 9 => 10,
-        6 | 10 => 20,
-        11 => 6,
-        12 => 14,
+        kind::INT8 | kind::UINT8 => 3,
+        kind::INT16 | kind::UINT16 => 5,
+        kind::INT32 | kind::UINT32 => 10,
+        kind::INT64 | kind::UINT64 => 20,
+        kind::FLOAT16 => 6,
+        kind::FLOAT32 => 14,
         _ => 30,
     }
 }
@@ -89,9 +88,9 @@ fn fraction_of(k: u8) -> usize
     ensures { (result ≡ fraction_of k) × (result < 128) }
 {
     match k {
-        11 => 3,
-        12 => 7,
-        13 => 15,
+        kind::FLOAT16 => 3,
+        kind::FLOAT32 => 7,
+        kind::FLOAT64 => 15,
         _ => 0,
     }
 }
@@ -101,9 +100,15 @@ fn takes_number(w: u8, k: u8) -> bool
     ensures { result ≡ takes w k }
 {
     match w {
-        14 => one_is(k, 3, 7) || one_is(k, 4, 8) || k == 11,
-        15 => within(3, 12, k) && !one_is(k, 6, 10),
-        _ => within(3, 13, k),
+        kind::DECIMAL32 => {
+            one_is(k, kind::INT8, kind::UINT8)
+                || one_is(k, kind::INT16, kind::UINT16)
+                || k == kind::FLOAT16
+        }
+        kind::DECIMAL64 => {
+            within(kind::INT8, kind::FLOAT32, k) && !one_is(k, kind::INT64, kind::UINT64)
+        }
+        _ => within(kind::INT8, kind::FLOAT64, k),
     }
 }
 
@@ -139,12 +144,12 @@ fn decimal_coercion(l: Figures, r: Figures) -> Option<Figures>
 fn float_coercion(k: u8, j: u8) -> Option<Figures>
     ensures { result ≡ float_coercion k j }
 {
-    if one_is(13, k, j) {
-        Some(Figures::of_kind(13))
-    } else if one_is(12, k, j) {
-        Some(Figures::of_kind(12))
-    } else if one_is(11, k, j) {
-        Some(Figures::of_kind(11))
+    if one_is(kind::FLOAT64, k, j) {
+        Some(Figures::of_kind(kind::FLOAT64))
+    } else if one_is(kind::FLOAT32, k, j) {
+        Some(Figures::of_kind(kind::FLOAT32))
+    } else if one_is(kind::FLOAT16, k, j) {
+        Some(Figures::of_kind(kind::FLOAT16))
     } else {
         None
     }
@@ -159,12 +164,12 @@ fn wider_integer(k: u8, j: u8) -> Figures
 {
     let low = k.min(j);
     let high = k.max(j);
-    if high <= 6 || 7 <= low {
+    if high <= kind::INT64 || kind::UINT8 <= low {
         Figures::of_kind(high)
-    } else if high == 10 {
-        decimal_of(16, 20, 128)
+    } else if high == kind::UINT64 {
+        decimal_of(kind::DECIMAL128, 20, 128)
     } else {
-        Figures::of_kind(low.max(high - 3))
+        Figures::of_kind(low.max(high - (kind::UINT8 - kind::INT16)))
     }
 }
 

@@ -4,13 +4,13 @@
 pub mod laws;
 
 ghost use Rattle.std.specs.Prelude.{◌≡◌};
-ghost use Rattle.coercion.specs.Data as Data;
 ghost use Rattle.answers.specs.Call.{outcome};
 ghost use Rattle.answers.specs.Code.{reply_of, call_of};
 ghost use Rattle.pemzhulaq.specs.Number.{number_of, exported};
+ghost use Rattle.coercion.specs.declared.Question.{Question};
 
 use answers::{Answer, Refusal, ask_whole};
-use buffers::Question;
+use coercion::{Question, Rules};
 use refusals::header::Whole;
 
 // The number of an answer: 0 for none, 1 to 31 for a refusal, from 32 on the byte length of the one-type sheet.
@@ -34,14 +34,14 @@ fn number_whole(
     work: &mut [u8],
     question: Question,
 ) -> usize
-    ensures { record { number = result; output = output.new; work = work.new } ≡ exported (outcome (call_of question whole.entry.sheet.now mask output.old work.old)) }
+    ensures { record { number = result; output = output.new; work = work.new } ≡ exported (outcome (call_of (record { question = question; mask = mask }) whole.entry.sheet.now output.old work.old)) }
 {
-    number_of(ask_whole(question, whole, mask, output, work))
+    number_of(ask_whole(Rules { question, mask }, whole, output, work))
 }
 
 // The number of a call, whatever it asks.
 fn number(question: Question, sheet: &[u8], mask: u64, output: &mut [u8], work: &mut [u8]) -> usize
-    ensures { record { number = result; output = output.new; work = work.new } ≡ exported (outcome (call_of question sheet.now mask output.old work.old)) }
+    ensures { record { number = result; output = output.new; work = work.new } ≡ exported (outcome (call_of (record { question = question; mask = mask }) sheet.now output.old work.old)) }
 {
     let Some(whole) = Whole::of(sheet) else {
         return number_of(Err(Refusal::Sheet(sheet::Refusal::Torn)));
@@ -59,7 +59,7 @@ pub fn pemzhulaq_type_union_resolution(
     output: &mut [u8],
     work: &mut [u8],
 ) -> usize
-    ensures { record { number = result; output = output.new; work = work.new } ≡ exported (outcome (record { question = Data.list; sheet = sheet.now; mask = mask; output = output.old; work = work.old })) }
+    ensures { record { number = result; output = output.new; work = work.new } ≡ exported (outcome (record { question = Question.List; sheet = sheet.now; mask = mask; output = output.old; work = work.old })) }
 {
     number(Question::List, sheet, mask, output, work)
 }
@@ -72,7 +72,7 @@ pub fn pemzhulaq_type_union_coercion(
     output: &mut [u8],
     work: &mut [u8],
 ) -> usize
-    ensures { record { number = result; output = output.new; work = work.new } ≡ exported (outcome (record { question = Data.union; sheet = sheet.now; mask = mask; output = output.old; work = work.old })) }
+    ensures { record { number = result; output = output.new; work = work.new } ≡ exported (outcome (record { question = Question.Union; sheet = sheet.now; mask = mask; output = output.old; work = work.old })) }
 {
     number(Question::Union, sheet, mask, output, work)
 }
@@ -85,7 +85,7 @@ pub fn pemzhulaq_comparison_coercion(
     output: &mut [u8],
     work: &mut [u8],
 ) -> usize
-    ensures { record { number = result; output = output.new; work = work.new } ≡ exported (outcome (record { question = Data.compare; sheet = sheet.now; mask = mask; output = output.old; work = work.old })) }
+    ensures { record { number = result; output = output.new; work = work.new } ≡ exported (outcome (record { question = Question.Compare; sheet = sheet.now; mask = mask; output = output.old; work = work.old })) }
 {
     number(Question::Compare, sheet, mask, output, work)
 }

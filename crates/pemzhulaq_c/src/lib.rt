@@ -3,9 +3,9 @@
 #![tactic(auto)]
 
 ghost use Rattle.std.specs.Prelude.{◌≡◌};
-ghost use Rattle.coercion.specs.Data as Data;
 ghost use Rattle.answers.specs.Call.{outcome};
 ghost use Rattle.pemzhulaq.specs.Number.{exported};
+ghost use Rattle.coercion.specs.declared.Question.{Question};
 
 /// The common type of any number of listed types, as one number: 0 for none, 1 to 8 for a refusal, from 32 on the
 /// byte length of the one-type sheet at the front of the output.
@@ -20,7 +20,7 @@ pub extern "C" fn pemzhulaq_type_union_resolution(
     output: &mut [u8],
     work: &mut [u8],
 ) -> usize
-    ensures { record { number = result; output = output.new; work = work.new } ≡ exported (outcome (record { question = Data.list; sheet = sheet.now; mask = mask; output = output.old; work = work.old })) }
+    ensures { record { number = result; output = output.new; work = work.new } ≡ exported (outcome (record { question = Question.List; sheet = sheet.now; mask = mask; output = output.old; work = work.old })) }
 {
     pemzhulaq::pemzhulaq_type_union_resolution(sheet, mask, output, work)
 }
@@ -33,7 +33,7 @@ pub extern "C" fn pemzhulaq_type_union_coercion(
     output: &mut [u8],
     work: &mut [u8],
 ) -> usize
-    ensures { record { number = result; output = output.new; work = work.new } ≡ exported (outcome (record { question = Data.union; sheet = sheet.now; mask = mask; output = output.old; work = work.old })) }
+    ensures { record { number = result; output = output.new; work = work.new } ≡ exported (outcome (record { question = Question.Union; sheet = sheet.now; mask = mask; output = output.old; work = work.old })) }
 {
     pemzhulaq::pemzhulaq_type_union_coercion(sheet, mask, output, work)
 }
@@ -46,7 +46,7 @@ pub extern "C" fn pemzhulaq_comparison_coercion(
     output: &mut [u8],
     work: &mut [u8],
 ) -> usize
-    ensures { record { number = result; output = output.new; work = work.new } ≡ exported (outcome (record { question = Data.compare; sheet = sheet.now; mask = mask; output = output.old; work = work.old })) }
+    ensures { record { number = result; output = output.new; work = work.new } ≡ exported (outcome (record { question = Question.Compare; sheet = sheet.now; mask = mask; output = output.old; work = work.old })) }
 {
     pemzhulaq::pemzhulaq_comparison_coercion(sheet, mask, output, work)
 }

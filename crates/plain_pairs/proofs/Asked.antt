@@ -10,11 +10,11 @@ use lib.Bits.{bit_or}
 use lib.Count.{ones, ones_in}
 use lib.Dec.{eqb, ltb}
 use borrow.Author.Tests.{eqb-true, eq-eqb, ne_eqb, lt-leb}
-use Rattle.sheet.specs.Kind as Kind
+use Rattle.sheet.specs.declared.kind.TheConstants as Kind
 use Rattle.sheet.specs.Tests.{between}
 use Rattle.sheet.specs.Types.{end}
 use Rattle.sheet.proofs.Tests.{and_true}
-use Rattle.coercion.specs.Data.{DataType, list, union, compare, Rules, or_else, and_then, first_of}
+use Rattle.coercion.specs.Data.{DataType, or_else, and_then, first_of}
 use Rattle.coercion.specs.Times.{temporal_coercion_nonstrict_timezone}
 use Rattle.coercion.specs.Strings.{binary_coercion}
 use Rattle.coercion.specs.Same.{equal, same_fields, same_type}
@@ -25,6 +25,8 @@ use Rattle.coercion.specs.Answers.{of_kind_type, string_number, ask, coercion, C
 use Rattle.coercion.specs.Meaning.{category_bit, is_supported}
 use Rattle.coercion.proofs.Maybe.{cond_is}
 use Rattle.coercion.proofs.Fuel.{coercion_asks}
+use Rattle.coercion.specs.declared.Question.{Question}
+use Rattle.coercion.specs.declared.Rules.{Rules}
 use Rattle.plain_pairs.specs.Typed.{is_plain, type_in, plain_of, every_kind, equal_rule, number_rule, string_rule, common_rules, rules_of, answer_to}
 use Rattle.plain_pairs.specs.declared.plain.Plain.{Plain}
 use Rattle.plain_pairs.specs.Plain.{same_plain}
@@ -120,8 +122,8 @@ module _ (l r : Plain) (hl : is_plain l.kind ≡ true) (hr : is_plain r.kind ≡
   pair_asks rules x ex em e =
       let tl = type_in l in
       let tr = type_in r in
-      let dict = wrapper_none l r hl hr (coercion rules) Kind.dictionary in
-      let ree = wrapper_none l r hl hr (coercion rules) Kind.run_end_encoded in
+      let dict = wrapper_none l r hl hr (coercion rules) Kind.DICTIONARY in
+      let ree = wrapper_none l r hl hr (coercion rules) Kind.RUN_END_ENCODED in
       let lists = list_none l r hl hr (coercion rules) in
       let structs = struct_none l r hl hr (coercion rules) in
       let maps = map_none l r hl hr (coercion rules) in
@@ -149,20 +151,20 @@ module _ (l r : Plain) (hl : is_plain l.kind ≡ true) (hr : is_plain r.kind ≡
   pub compares : option_or
       (option_or (option_or (plain_of (first_of (common_rules (type_in l) (type_in r)))) (plain_of (string_numeric_coercion (type_in l) (type_in r)))) (plain_of (string_temporal_coercion (type_in l) (type_in r))))
       (plain_of (of_kind_type (binary_coercion l.kind r.kind)))
-      ≡ answer_to compare l r
+      ≡ answer_to Question.Compare l r
   compares =
       three (string_numeric_coercion (type_in l) (type_in r))
-      ∙ ap plain_of (pair_asks (rules_of compare) (string_numeric_coercion (type_in l) (type_in r)) refl refl refl)
+      ∙ ap plain_of (pair_asks (rules_of Question.Compare) (string_numeric_coercion (type_in l) (type_in r)) refl refl refl)
 
   pub unions : option_or
       (option_or (option_or (plain_of (first_of (common_rules (type_in l) (type_in r)))) (plain_of (string_numeric_union_coercion (type_in l) (type_in r)))) (plain_of (string_temporal_coercion (type_in l) (type_in r))))
       (plain_of (of_kind_type (binary_coercion l.kind r.kind)))
-      ≡ answer_to union l r
+      ≡ answer_to Question.Union l r
   unions =
       three (string_numeric_union_coercion (type_in l) (type_in r))
-      ∙ ap plain_of (pair_asks (rules_of union) (string_numeric_union_coercion (type_in l) (type_in r)) refl refl refl)
+      ∙ ap plain_of (pair_asks (rules_of Question.Union) (string_numeric_union_coercion (type_in l) (type_in r)) refl refl refl)
 
-  resolves : coercion (rules_of list) (type_in l) (type_in r) ≡ cond (equal (type_in l) (type_in r)) (Some (type_in l))
+  resolves : coercion (rules_of Question.List) (type_in l) (type_in r) ≡ cond (equal (type_in l) (type_in r)) (Some (type_in l))
       (first_of
       (number_rule (type_in l) (type_in r)
       ∷ None
@@ -175,7 +177,7 @@ module _ (l r : Plain) (hl : is_plain l.kind ≡ true) (hr : is_plain r.kind ≡
       ∷ []))
   unfolding type_in
   resolves =
-      let rules = rules_of list in
+      let rules = rules_of Question.List in
       let gl = low l.kind hl in
       let gr = low r.kind hr in
       let lists = list_none l r hl hr (coercion rules) in
@@ -203,7 +205,7 @@ module _ (l r : Plain) (hl : is_plain l.kind ≡ true) (hr : is_plain r.kind ≡
   pub steps : option_or
       (option_or (plain_of (first_of (common_rules (type_in l) (type_in r)))) (plain_of (string_numeric_coercion (type_in l) (type_in r))))
       (plain_of (of_kind_type (binary_coercion l.kind r.kind)))
-      ≡ plain_of (coercion (rules_of list) (type_in l) (type_in r))
+      ≡ plain_of (coercion (rules_of Question.List) (type_in l) (type_in r))
   steps =
       let tl = type_in l in
       let tr = type_in r in
@@ -359,27 +361,27 @@ module _ (rules : Rules) (l r : Plain) where
 -- the same of the code's tests and answers
 module _ (l r : Plain) where
   abbrev folded : Option Plain
-  folded = plain_of (fold_types (rules_of list) (type_in l ∷ type_in r ∷ []))
+  folded = plain_of (fold_types (rules_of Question.List) (type_in l ∷ type_in r ∷ []))
 
   pub nulls_folded : l.kind ≡ 1 → r.kind ≡ 1 → folded ≡ None
   unfolding plain_of
-  nulls_folded e f = ap plain_of (fold_nulls (rules_of list) l r (eq-eqb l.kind 1 e) (eq-eqb r.kind 1 f))
+  nulls_folded e f = ap plain_of (fold_nulls (rules_of Question.List) l r (eq-eqb l.kind 1 e) (eq-eqb r.kind 1 f))
 
   pub left_folded : l.kind ≡ 1 → ¬ (r.kind ≡ 1) → folded ≡ Some r
-  left_folded e f = ap plain_of (fold_left (rules_of list) l r (eq-eqb l.kind 1 e) (ne_eqb r.kind 1 f)) ∙ back r
+  left_folded e f = ap plain_of (fold_left (rules_of Question.List) l r (eq-eqb l.kind 1 e) (ne_eqb r.kind 1 f)) ∙ back r
 
   pub right_folded : ¬ (l.kind ≡ 1) → r.kind ≡ 1 → folded ≡ Some l
-  right_folded e f = ap plain_of (fold_right (rules_of list) l r (ne_eqb l.kind 1 e) (eq-eqb r.kind 1 f)) ∙ back l
+  right_folded e f = ap plain_of (fold_right (rules_of Question.List) l r (ne_eqb l.kind 1 e) (eq-eqb r.kind 1 f)) ∙ back l
 
-  pub both_folded : ¬ (l.kind ≡ 1) → ¬ (r.kind ≡ 1) → folded ≡ plain_of (coercion (rules_of list) (type_in r) (type_in l))
-  both_folded e f = ap plain_of (fold_both (rules_of list) l r (ne_eqb l.kind 1 e) (ne_eqb r.kind 1 f))
+  pub both_folded : ¬ (l.kind ≡ 1) → ¬ (r.kind ≡ 1) → folded ≡ plain_of (coercion (rules_of Question.List) (type_in r) (type_in l))
+  both_folded e f = ap plain_of (fold_both (rules_of Question.List) l r (ne_eqb l.kind 1 e) (ne_eqb r.kind 1 f))
 
-  pub same_listed : same_plain r l ≡ true → answer_to list l r ≡ Some l
-  same_listed e = ap plain_of (list_equal (rules_of list) l r (same_type_lem r l ∙ e)) ∙ back l
+  pub same_listed : same_plain r l ≡ true → answer_to Question.List l r ≡ Some l
+  same_listed e = ap plain_of (list_equal (rules_of Question.List) l r (same_type_lem r l ∙ e)) ∙ back l
 
-  pub mixed_listed : same_plain r l ≡ false → categories_fit (type_in l ∷ type_in r ∷ []) ≡ false → answer_to list l r ≡ None
+  pub mixed_listed : same_plain r l ≡ false → categories_fit (type_in l ∷ type_in r ∷ []) ≡ false → answer_to Question.List l r ≡ None
   unfolding plain_of
-  mixed_listed e f = ap plain_of (list_mixed (rules_of list) l r (same_type_lem r l ∙ e) f)
+  mixed_listed e f = ap plain_of (list_mixed (rules_of Question.List) l r (same_type_lem r l ∙ e) f)
 
-  pub folds_listed : same_plain r l ≡ false → categories_fit (type_in l ∷ type_in r ∷ []) ≡ true → answer_to list l r ≡ folded
-  folds_listed e f = ap plain_of (list_folds (rules_of list) l r (same_type_lem r l ∙ e) f)
+  pub folds_listed : same_plain r l ≡ false → categories_fit (type_in l ∷ type_in r ∷ []) ≡ true → answer_to Question.List l r ≡ folded
+  folds_listed e f = ap plain_of (list_folds (rules_of Question.List) l r (same_type_lem r l ∙ e) f)

@@ -15,7 +15,7 @@ use Rattle.sheet.specs.Types.{absent, present}
 use Rattle.sheet.specs.Names.{same_bytes}
 use Rattle.sheet.proofs.Tests.{and_fst, and_snd, and_true}
 use Rattle.coercion.specs.Data.{DataType, as_type, or_else}
-use Rattle.coercion.specs.Kinds.{is_string}
+use Rattle.sheet.specs.Kind.{is_string}
 use Rattle.coercion.specs.Same.{same_zone, same_shape, same_fields, same_type, equal}
 use Rattle.coercion.specs.Times.{zone_coercion, temporal_coercion, temporal_coercion_nonstrict_timezone}
 use Rattle.coercion.specs.Rules.{string_temporal_coercion}

@@ -1,23 +1,23 @@
 -- The type that four bytes stand for, the bytes of a type, and the answers on types that are such bytes.
 use Rattle.std.specs.Prelude.{ℕ, Bool, false, cond, ◌&&◌, List, [], ◌∷◌, eqb}
 use Rattle.std.specs.Prelude.{Option, None, Some}
-use Rattle.sheet.specs.Kind as Kind
+use Rattle.sheet.specs.declared.kind.TheConstants as Kind
 use Rattle.sheet.specs.Tests.{between}
 use Rattle.sheet.specs.Types.{Zone, absent, present, end}
-use Rattle.coercion.specs.Data as Data
-use Rattle.coercion.specs.Data.{DataType, list, union, compare, Rules, figures_of, as_type}
+use Rattle.coercion.specs.Data.{DataType, figures_of, as_type}
 use Rattle.coercion.specs.Same.{equal}
 use Rattle.coercion.specs.Numbers.{binary_numeric_coercion}
 use Rattle.coercion.specs.Times.{temporal_coercion_nonstrict_timezone}
 use Rattle.coercion.specs.Strings.{string_coercion}
 use Rattle.coercion.specs.Rules.{null_coercion}
 use Rattle.coercion.specs.Answers.{of_kind_type, answer_of}
+use Rattle.coercion.specs.declared.Question.{Question}
+use Rattle.coercion.specs.declared.Rules.{Rules}
 use Rattle.plain_pairs.specs.declared.plain.Plain.{Plain}
-use Rattle.buffers.specs.declared.Question.{Question}
 
 -- the kinds without parts, 1 to 31
 abbrev pub is_plain : ℕ → Bool
-is_plain k = between Kind.null Kind.fixed_size_binary k
+is_plain k = between Kind.NULL Kind.FIXED_SIZE_BINARY k
 
 -- 0 is no zone, another number is a zone of this one byte
 abbrev pub zone_in : ℕ → Zone
@@ -32,9 +32,9 @@ type_in p =
             kind = p.kind;
             figure = p.figure;
             scale = p.scale;
-            size = cond (eqb p.kind Kind.fixed_size_binary) p.zone 0;
+            size = cond (eqb p.kind Kind.FIXED_SIZE_BINARY) p.zone 0;
             sorted = false;
-            zone = cond (eqb p.kind Kind.fixed_size_binary) absent (zone_in p.zone);
+            zone = cond (eqb p.kind Kind.FIXED_SIZE_BINARY) absent (zone_in p.zone);
           };
       parts = end;
     }
@@ -53,7 +53,7 @@ plain_of (Some t) =
       kind = t.shape.kind;
       figure = t.shape.figure;
       scale = t.shape.scale;
-      zone = cond (eqb t.shape.kind Kind.fixed_size_binary) t.shape.size (zone_byte t.shape.zone);
+      zone = cond (eqb t.shape.kind Kind.FIXED_SIZE_BINARY) t.shape.size (zone_byte t.shape.zone);
     })
 
 -- Null may become every kind, 1 to 38
@@ -73,18 +73,13 @@ string_rule l r = of_kind_type (string_coercion l.shape.kind r.shape.kind)
 abbrev pub common_rules : DataType → DataType → List (Option DataType)
 common_rules l r = equal_rule l r ∷ number_rule l r ∷ temporal_coercion_nonstrict_timezone l r ∷ string_rule l r ∷ null_coercion every_kind l r ∷ []
 
-abbrev pub question_in : Question → Data.Question
-question_in Question.List = list
-question_in Question.Union = union
-question_in Question.Compare = compare
-
-abbrev pub rules_of : Data.Question → Rules
+abbrev pub rules_of : Question → Rules
 rules_of q = record { question = q; mask = every_kind }
 
 -- the answer of the coercion rules to a question on two types
-abbrev pub answer_to : Data.Question → Plain → Plain → Option Plain
+abbrev pub answer_to : Question → Plain → Plain → Option Plain
 answer_to q l r = plain_of (answer_of q (rules_of q) (type_in l ∷ type_in r ∷ []))
 
 -- and none where one has a kind with parts or no kind
 unfoldable pub answer_in : Question → Plain → Plain → Option Plain
-answer_in q l r = cond (is_plain l.kind && is_plain r.kind) (answer_to (question_in q) l r) None
+answer_in q l r = cond (is_plain l.kind && is_plain r.kind) (answer_to q l r) None

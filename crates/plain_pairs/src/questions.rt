@@ -1,16 +1,16 @@
 //! The three questions on two plain types.
 ghost use Rattle.std.specs.Prelude.{◌≡◌, true, [], ◌∷◌};
-ghost use Rattle.coercion.specs.Data.{list, union, compare};
 ghost use Rattle.coercion.specs.Rules.{string_numeric_coercion, string_numeric_union_coercion};
 ghost use Rattle.coercion.specs.Answers.{coercion, categories_fit, fold_types};
+ghost use Rattle.coercion.specs.declared.Question.{Question};
 ghost use Rattle.plain_pairs.specs.Typed.{is_plain, type_in, plain_of, rules_of, answer_to, answer_in};
 
 use crate::pairs::{binary, common, string_temporal};
 use crate::plain::{Plain, of_side};
-pub use buffers::Question;
+pub use coercion::Question;
 use rules::category::{is_mixed, is_supported, with_category};
 use rules::sides::{string_numeric_coercion, string_numeric_union_coercion};
-use sheet::figure::within;
+use sheet::kind::within;
 
 fn string_numeric(l: Plain, r: Plain) -> Option<Plain>
     ensures { result ≡ plain_of (string_numeric_coercion (type_in l) (type_in r)) }
@@ -26,7 +26,7 @@ fn string_numeric_union(l: Plain, r: Plain) -> Option<Plain>
 
 fn compare(l: Plain, r: Plain) -> Option<Plain>
     requires { (is_plain l.kind ≡ true) × (is_plain r.kind ≡ true) }
-    ensures { result ≡ answer_to compare l r }
+    ensures { result ≡ answer_to Question.Compare l r }
 {
     common(l, r)
         .or(string_numeric(l, r))
@@ -36,7 +36,7 @@ fn compare(l: Plain, r: Plain) -> Option<Plain>
 
 fn union_of(l: Plain, r: Plain) -> Option<Plain>
     requires { (is_plain l.kind ≡ true) × (is_plain r.kind ≡ true) }
-    ensures { result ≡ answer_to union l r }
+    ensures { result ≡ answer_to Question.Union l r }
 {
     common(l, r)
         .or(string_numeric_union(l, r))
@@ -47,7 +47,7 @@ fn union_of(l: Plain, r: Plain) -> Option<Plain>
 // A new type of a list and the candidate so far.
 fn step(new: Plain, candidate: Plain) -> Option<Plain>
     requires { (is_plain new.kind ≡ true) × (is_plain candidate.kind ≡ true) }
-    ensures { result ≡ plain_of (coercion (rules_of list) (type_in new) (type_in candidate)) }
+    ensures { result ≡ plain_of (coercion (rules_of Question.List) (type_in new) (type_in candidate)) }
 {
     common(new, candidate)
         .or(string_numeric(new, candidate))
@@ -69,7 +69,7 @@ fn fits(l: Plain, r: Plain) -> bool
 #[tactic(auto, using(crate::proofs::Asked::nulls_folded, crate::proofs::Asked::left_folded, crate::proofs::Asked::right_folded, crate::proofs::Asked::both_folded))]
 fn fold(first: Plain, second: Plain) -> Option<Plain>
     requires { (is_plain first.kind ≡ true) × (is_plain second.kind ≡ true) }
-    ensures { result ≡ plain_of (fold_types (rules_of list) (type_in first ∷ type_in second ∷ [])) }
+    ensures { result ≡ plain_of (fold_types (rules_of Question.List) (type_in first ∷ type_in second ∷ [])) }
 {
     match (first.kind, second.kind) {
         (1, 1) => None,
@@ -82,7 +82,7 @@ fn fold(first: Plain, second: Plain) -> Option<Plain>
 #[tactic(auto, using(crate::proofs::Asked::same_listed, crate::proofs::Asked::mixed_listed, crate::proofs::Asked::folds_listed))]
 fn list(first: Plain, second: Plain) -> Option<Plain>
     requires { (is_plain first.kind ≡ true) × (is_plain second.kind ≡ true) }
-    ensures { result ≡ answer_to list first second }
+    ensures { result ≡ answer_to Question.List first second }
 {
     if second == first {
         Some(first)

@@ -8,7 +8,7 @@ use native.Mathlib.Omega.{arith}
 use lib.Dec.{eqb, ltb}
 use mir.Val.{bool_byte as from_bool}
 use borrow.Author.Tests.{eq-eqb, ne_eqb, eqb-true}
-use Rattle.sheet.specs.Kind as Kind
+use Rattle.sheet.specs.declared.kind.TheConstants as Kind
 use Rattle.sheet.specs.Kind.{is_kind}
 use Rattle.sheet.specs.Types.{Fields, end, field, count}
 use Rattle.sheet.specs.Head.{head_at, labelled}
@@ -98,7 +98,7 @@ pub few_differ : (t : Fields) → count t ≤ 2 → names_differ t ≡ true
 unfolding count names_differ
 few_differ end h = refl
 few_differ (field name nullable shape parts rest) h =
-    all_cons _ (not_and (eqb shape.kind Kind.struct) (one_part parts (omega arith)))
+    all_cons _ (not_and (eqb shape.kind Kind.STRUCT) (one_part parts (omega arith)))
     (all_cons _ (few_differ parts (omega arith)) (all_cons _ (few_differ rest (omega arith)) all_nil))
 
 -- the walk over the whole sheet

@@ -6,7 +6,7 @@ ghost use Rattle.sheet.specs.Holds.{Plain};
 ghost use Rattle.sheet.specs.Refusals.{all_zero, any_from, torn};
 
 use crate::records::Records;
-use sheet::figure::is_kind;
+use sheet::kind::is_kind;
 use sheet::record::{quad_at, word_at};
 
 // Whether the bytes of a header behind n and m are zero.

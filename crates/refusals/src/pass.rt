@@ -7,9 +7,8 @@ ghost use Rattle.sheet.specs.declared.Head as Declared;
 ghost use Rattle.refusals.specs.Packed.{light, Stamped, Passes, Passed};
 
 use sheet::Head;
-use sheet::figure::{
-    figure_right, is_decimal, label_bytes, label_right, names_parts, record_right,
-};
+use sheet::figure::{figure_right, label_bytes, label_right, names_parts, record_right};
+use sheet::kind::is_decimal;
 use sheet::record::{head_from, quad_at};
 
 // Whether a record has no flag but the first, no size, and right figures, by its first two numbers of 32 bits.

@@ -2,9 +2,9 @@
 use Rattle.std.specs.Prelude.{ℕ, cond, List, eqb, ltb, get_or, take, drop, Option, None, Some, Result, Ok, Err}
 use Rattle.std.specs.Int.{w32, w64, from_le_bytes}
 use Rattle.replay.specs.declared.stored.Broken.{Broken}
-use Rattle.buffers.specs.declared.Question.{Question}
 use Rattle.replay.specs.declared.stored.Reply.{Reply}
 use Rattle.replay.specs.declared.stored.Vector.{Vector}
+use Rattle.coercion.specs.declared.Question.{Question}
 
 -- a file that is not in that form
 abbrev pub broken : Broken

@@ -2,7 +2,7 @@
 ghost use Rattle.std.specs.Prelude.{◌≡◌, ◌+◌, ◌≤◌, take, drop};
 ghost use Rattle.replay.specs.Stored.{question_in, length_in, expected_in, number_at, entry_in};
 
-pub use buffers::Question;
+pub use coercion::Question;
 use std::{fmt, io};
 
 // The number that stands for a type that is expected.

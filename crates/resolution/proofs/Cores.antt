@@ -12,8 +12,9 @@ use Rattle.sheet.specs.Types.{Fields, end, count, zone_bytes, own_labels, labels
 use Rattle.sheet.specs.Head.{head_at, nullable_in, labelled}
 use Rattle.sheet.specs.declared.Head.{Head}
 use Rattle.sheet.proofs.Spans.{span_left}
-use Rattle.coercion.specs.Data.{DataType, Rules, size, single, and_then}
+use Rattle.coercion.specs.Data.{DataType, size, single, and_then}
 use Rattle.coercion.specs.Answers.{coercion}
+use Rattle.coercion.specs.declared.Rules.{Rules}
 use Rattle.buffers.specs.Region.{Room, region, Kept, Inside, Named}
 use Rattle.buffers.specs.Goal.{letters, Means}
 use Rattle.buffers.specs.Typed.{Typed, Merges}

@@ -18,19 +18,19 @@ use Rattle.sheet.specs.Read.{start}
 use Rattle.sheet.specs.declared.Head.{Head}
 use Rattle.sheet.proofs.Spans.{span_nil}
 use Rattle.sheet.proofs.Tests.{never}
-use Rattle.coercion.specs.Data.{DataType, Rules, size, single, types_of, and_then}
+use Rattle.coercion.specs.Data.{DataType, size, single, types_of, and_then, for_list, is_list_question}
 use Rattle.coercion.specs.Rules.{is_null}
 use Rattle.coercion.specs.Same.{equal}
 use Rattle.coercion.specs.Answers.{coercion, fold_from, fold_types, type_union_resolution, pair_answer, answer_of, all_equal, has_category, categories_in, categories_fit, notSupported}
 use Rattle.coercion.proofs.AnswersRight.{TypeRight, coercion_right}
 use Rattle.coercion.proofs.Sameness.{equal_same, equal_self}
 use Rattle.coercion.proofs.Shorter.{coercion_smaller, coercion_shorter}
+use Rattle.coercion.specs.declared.Question.{Question}
+use Rattle.coercion.specs.declared.Rules.{Rules}
 use Rattle.buffers.specs.Region.{Room, Kept, Inside, Passes, Wrote}
 use Rattle.buffers.specs.Goal.{letters, type_of, Means}
-use Rattle.buffers.specs.Plain.{asked, rules_of, is_list_question}
 use Rattle.buffers.specs.Differ.{DifferTypes}
 use Rattle.buffers.specs.Typed.{Chain, Typed, ChainIs, CopiedField}
-use Rattle.buffers.specs.declared.Question.{Question}
 use Rattle.buffers.specs.declared.Space.{Space}
 use Rattle.buffers.specs.declared.Spot.{Spot}
 use Rattle.buffers.specs.declared.Goal.{Goal}
@@ -82,21 +82,21 @@ pub not_compared : {named : Bool} {space : Space} {Is : DataType → Type 0} {s 
 not_compared {named} = record { is = λ x c a k. nothing_known named _ x c }
 
 -- a merge, by what it is asked with
-pub merged : {m : Merger} {space : Space} {question : Question} {mask left : ℕ} {known : Option ℕ} {l r : ℕ} {swap : Bool} {sheet : Bor (List ℕ)} {w v : List ℕ} {g : Goal} {o : Out}
-    → m ≡ record { sheet = sheet; space = space; question = question; mask = mask }
-    → MergesKnown known (is_list_question (asked m.question)) (coercion (rules_of m.question m.mask)) m.space left swap m.sheet.now w v l r g o
-    → MergesKnown known (is_list_question (asked question)) (coercion (rules_of question mask)) space left swap sheet.now w v l r g o
+pub merged : {m : Merger} {space : Space} {rules : Rules} {left : ℕ} {known : Option ℕ} {l r : ℕ} {swap : Bool} {sheet : Bor (List ℕ)} {w v : List ℕ} {g : Goal} {o : Out}
+    → m ≡ record { sheet = sheet; space = space; rules = rules }
+    → MergesKnown known (is_list_question m.rules.question) (coercion m.rules) m.space left swap m.sheet.now w v l r g o
+    → MergesKnown known (is_list_question rules.question) (coercion rules) space left swap sheet.now w v l r g o
 merged {left = left} {known} {l} {r} {swap} {w = w} {v} {g} {o} e =
-    subst (λ (m : Merger). MergesKnown known (is_list_question (asked m.question)) (coercion (rules_of m.question m.mask)) m.space left swap m.sheet.now w v l r g o) e
+    subst (λ (m : Merger). MergesKnown known (is_list_question m.rules.question) (coercion m.rules) m.space left swap m.sheet.now w v l r g o) e
 
 -- the candidate was moved, then merged
-pub stepped : (space : Space) {sheet : Bor (List ℕ)} {w v u : List ℕ} {mask link : ℕ} {known : Option ℕ} {d : Spot} (o : Out) → Room w space → Inside space d
-    → Compared known true space (Candidate space w d) sheet.now link → Shifted space w v d → {k : Merger} → k ≡ record { sheet = sheet; space = space; question = Question.List; mask = mask }
-    → MergesKnown known (is_list_question (asked k.question)) (coercion (rules_of k.question k.mask)) k.space (2 * space.n) false k.sheet.now v u link 1 foremost o
-    → Steps (coercion (rules_of Question.List mask)) space (Candidate space w d) sheet.now w u link o
-stepped space {w = w} {v} {u} {mask} {d = d} o room inside i a e told =
+pub stepped : (rules : Rules) (space : Space) {sheet : Bor (List ℕ)} {w v u : List ℕ} {link : ℕ} {known : Option ℕ} {d : Spot} (o : Out) → Room w space → Inside space d
+    → Compared known true space (Candidate space w d) sheet.now link → Shifted space w v d → {k : Merger} → k ≡ record { sheet = sheet; space = space; rules = for_list rules }
+    → MergesKnown known (is_list_question k.rules.question) (coercion k.rules) k.space (2 * space.n) false k.sheet.now v u link 1 foremost o
+    → Steps (coercion (for_list rules)) space (Candidate space w d) sheet.now w u link o
+stepped rules space {w = w} {v} {u} {d = d} o room inside i a e told =
     let m = merged e told in
-    let A = coercion (rules_of Question.List mask) in
+    let A = coercion (for_list rules) in
     record {
       within = shifted_within room a m.writes.kept;
       inside = enclosed space foremost o m.writes.passes;
@@ -107,14 +107,14 @@ stepped space {w = w} {v} {u} {mask} {d = d} o room inside i a e told =
     }
 
 -- the sheet was laid in the first half, then two of its types were merged
-pub met : (space : Space) {sheet : Bor (List ℕ)} {w v u : List ℕ} {question : Question} {mask link other : ℕ} {known : Option ℕ} (o : Out) → Room w space
-    → Compared known (is_list_question (asked question)) space (Typed space sheet.now other) sheet.now link → Mirrored space sheet.now w v
-    → {k : Merger} → k ≡ record { sheet = sheet; space = space; question = question; mask = mask }
-    → MergesKnown known (is_list_question (asked k.question)) (coercion (rules_of k.question k.mask)) k.space (2 * space.n) false k.sheet.now v u link other foremost o
-    → Steps (coercion (rules_of question mask)) space (Typed space sheet.now other) sheet.now w u link o
-met space {sheet} {w} {v} {u} {question} {mask} o room i a e told =
+pub met : (space : Space) {sheet : Bor (List ℕ)} {w v u : List ℕ} {rules : Rules} {link other : ℕ} {known : Option ℕ} (o : Out) → Room w space
+    → Compared known (is_list_question rules.question) space (Typed space sheet.now other) sheet.now link → Mirrored space sheet.now w v
+    → {k : Merger} → k ≡ record { sheet = sheet; space = space; rules = rules }
+    → MergesKnown known (is_list_question k.rules.question) (coercion k.rules) k.space (2 * space.n) false k.sheet.now v u link other foremost o
+    → Steps (coercion rules) space (Typed space sheet.now other) sheet.now w u link o
+met space {sheet} {w} {v} {u} {rules} o room i a e told =
     let m = merged e told in
-    let A = coercion (rules_of question mask) in
+    let A = coercion rules in
     let s = sheet.now in
     record {
       within =
@@ -369,25 +369,25 @@ module _ (rules : Rules) {space : Space} {s w v : List ℕ} {first floor link : 
       }
 
 -- a type that is the same as the first changes nothing
-behind_again : (mask : ℕ) (t : DataType) (ts : List DataType) → fold_behind (rules_of Question.List mask) t (t ∷ ts) ≡ fold_behind (rules_of Question.List mask) t ts
+behind_again : (rules : Rules) (t : DataType) (ts : List DataType) → fold_behind (for_list rules) t (t ∷ ts) ≡ fold_behind (for_list rules) t ts
 unfolding fold_behind fold_types fold_from
-behind_again mask t ts = by_test (is_null t) (λ n. rw n refl) (λ n. rw (n, equal_kept mask t t (equal_self t)) refl)
+behind_again rules t ts = by_test (is_null t) (λ n. rw n refl) (λ n. rw (n, equal_kept rules t t (equal_self t)) refl)
 
-pub folds_same : (mask : ℕ) {space : Space} {s w v : List ℕ} {first floor link : ℕ} → floor < link → (h : Head) → h ≡ head_at s link → {b : Bool}
+pub folds_same : (rules : Rules) {space : Space} {s w v : List ℕ} {first floor link : ℕ} → floor < link → (h : Head) → h ≡ head_at s link → {b : Bool}
     → ((u t : DataType) → Typed space s link u → Typed space s first t → b ≡ equal u t) → b ≡ true → (o : Out)
-    → Folds (fold_behind (rules_of Question.List mask)) space (Entry space s first) s w v link h.next o
-    → Folds (fold_behind (rules_of Question.List mask)) space (Entry space s first) s w v floor link o
-folds_same mask {space} {s} {first = first} past h e same z o m =
-    folds_past (rules_of Question.List mask) space (Entry space s first) past h e o
+    → Folds (fold_behind (for_list rules)) space (Entry space s first) s w v link h.next o
+    → Folds (fold_behind (for_list rules)) space (Entry space s first) s w v floor link o
+folds_same rules {space} {s} {first = first} past h e same z o m =
+    folds_past (for_list rules) space (Entry space s first) past h e o
     (λ x c a k ts.
-    ap (λ (u : DataType). fold_behind (rules_of Question.List mask) c (u ∷ ts)) (equal_same x c (sym (same x c a (entry_typed c k)) ∙ z)) ∙ behind_again mask c ts)
+    ap (λ (u : DataType). fold_behind (for_list rules) c (u ∷ ts)) (equal_same x c (sym (same x c a (entry_typed c k)) ∙ z)) ∙ behind_again rules c ts)
     m
 
 -- the types up to one are the same as the first: those that are left tell whether all are, and what the fold is
-abbrev pub SameUpTo : ℕ → Space → List ℕ → List ℕ → ℕ → ℕ → ℕ → ℕ → Type 0
-SameUpTo mask space s w first next last at =
+abbrev pub SameUpTo : Rules → Space → List ℕ → List ℕ → ℕ → ℕ → ℕ → ℕ → Type 0
+SameUpTo rules space s w first next last at =
     ((t : DataType) → Typed space s first t → Onward (all_equal t) (all_equal t) space s first next last at)
-    × FoldsOn (fold_behind (rules_of Question.List mask)) space s (Entry space s first) w first next (Entry space s first) w last at
+    × FoldsOn (fold_behind (for_list rules)) space s (Entry space s first) w first next (Entry space s first) w last at
 
 -- a listed type with no type behind it is the answer
 pub folds_alone : (rules : Rules) (space : Space) {s w v : List ℕ} {first floor link : ℕ} (o : Out) → Room w space → link ≤ floor → CopiedField space s w v first front o
@@ -511,11 +511,11 @@ module _ (rules : Rules) (space : Space) {s : List ℕ} {link : ℕ} (past : 0 <
     union_none q = nothing_reached space (λ types a f. sym (told types a ∙ ap (λ (b : Bool). cond b (fold_types rules (types_of types)) None) q))
 
 -- no types are listed in a sheet of one record
-pub none_listed : (q : Question) (mask : ℕ) (space : Space) {s w : List ℕ} → space.n ≤ 1 → Reached (answer_of (asked q) (rules_of q mask)) space s w w 0 (start space.n) (Err NoType)
+pub none_listed : (rules : Rules) (space : Space) {s w : List ℕ} → space.n ≤ 1 → Reached (answer_of rules.question rules) space s w w 0 (start space.n) (Err NoType)
 unfolding type_union_resolution
-none_listed q mask space {s} {w} h = rw (le-ltb 1 space.n h) (reached_empty space (none q) (omega arith))
+none_listed rules space {s} {w} h = rw (le-ltb 1 space.n h) (reached_empty space (none rules.question) (omega arith))
   where
-    none : (q : Question) → None ≡ answer_of (asked q) (rules_of q mask) []
+    none : (q : Question) → None ≡ answer_of q rules []
     none Question.List = refl
     none Question.Union = refl
     none Question.Compare = refl

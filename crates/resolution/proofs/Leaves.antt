@@ -14,9 +14,10 @@ use Rattle.sheet.specs.Head.{head_at}
 use Rattle.sheet.specs.declared.Head.{Head}
 use Rattle.sheet.proofs.Spans.{span_nil}
 use Rattle.sheet.proofs.Tests.{and_fst, and_snd, or_fst, never}
-use Rattle.coercion.specs.Data.{DataType, Rules, size, single, types_of, and_then, may_become}
+use Rattle.coercion.specs.Data.{DataType, size, single, types_of, and_then, may_become}
 use Rattle.coercion.specs.Answers.{coercion, fold_from}
 use Rattle.coercion.proofs.AnswersRight.{TypeRight}
+use Rattle.coercion.specs.declared.Rules.{Rules}
 use Rattle.buffers.specs.Region.{Room, Wrote}
 use Rattle.buffers.specs.Goal.{letters, type_of, Laid}
 use Rattle.buffers.specs.Typed.{Typed}

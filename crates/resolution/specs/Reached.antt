@@ -5,9 +5,10 @@ use Rattle.std.specs.Int.Bits.{bit_or}
 use Rattle.sheet.specs.Types.{Fields, field, count, labels}
 use Rattle.sheet.specs.Names.{names_differ}
 use Rattle.sheet.specs.Carried.{FieldsRight}
-use Rattle.coercion.specs.Data.{DataType, Rules, size, single, types_of}
+use Rattle.coercion.specs.Data.{DataType, size, single, types_of}
 use Rattle.coercion.specs.Answers.{fold_types, category_of, has_category, notSupported}
 use Rattle.coercion.specs.Meaning.{category_bit}
+use Rattle.coercion.specs.declared.Rules.{Rules}
 use Rattle.buffers.specs.Region.{Held, Inside, Wrote}
 use Rattle.buffers.specs.Typed.{Typed}
 use Rattle.buffers.specs.Goal.{letters}

@@ -2,8 +2,8 @@
 
 ghost use Rattle.std.specs.Prelude.{◌≡◌, Some, true, ◌<◌};
 ghost use Rattle.coercion.specs.Answers.{coercion, fold_from, fold_types, type_union_resolution, pair_answer};
+ghost use Rattle.coercion.specs.Data.{for_list, is_list_question};
 ghost use Rattle.buffers.specs.Region.{Room, region, Inside};
-ghost use Rattle.buffers.specs.Plain.{asked, rules_of, is_list_question};
 ghost use Rattle.buffers.specs.Typed.{Typed};
 ghost use Rattle.resolution.specs.Reached.{Reached, Candidate, Entry, Compared, Steps, Folds, fold_behind};
 ghost use Rattle.values.specs.Value.{Valued};
@@ -13,8 +13,10 @@ use crate::front::{FRONT, UNNAMED};
 use crate::resolver::Resolver;
 use buffers::alike::{differ_heads, differ_type};
 use buffers::field::copy_field;
-use buffers::{Failure, Out, Question, Spot};
+use buffers::{Failure, Out, Spot};
+use coercion::Rules;
 use merge::Merger;
+use sheet::kind;
 use sheet::record::head_at;
 use values::keep::{bottom_of, is_core_alone, keeps};
 use values::taken::{is_taken, taken_kinds};
@@ -22,14 +24,13 @@ use values::value::{Leaf, common_type, is_plain, leaf_of};
 
 impl<'a> Resolver<'a> {
     /// What a merge of two types shares.
-    pub(crate) fn merger(&self, question: Question) -> Merger<'a>
-        ensures { result ≡ record { sheet = self.now.sheet; space = self.now.space; question = question; mask = self.now.mask } }
+    pub(crate) fn merger(&self, rules: Rules) -> Merger<'a>
+        ensures { result ≡ record { sheet = self.now.sheet; space = self.now.space; rules = rules } }
     {
         Merger {
             sheet: self.sheet,
             space: self.space,
-            question,
-            mask: self.mask,
+            rules,
         }
     }
 
@@ -38,10 +39,10 @@ impl<'a> Resolver<'a> {
     fn step(&self, work: &mut [u8], known: usize, at: usize, d: Spot) -> Out
         requires room { Room work.old self.now.space × Inside self.now.space d }
         requires compared { Compared (Some known) true self.now.space (Candidate self.now.space work.old d) self.now.sheet.now at }
-        ensures { Steps (coercion (rules_of Question.List self.now.mask)) self.now.space (Candidate self.now.space work.old d) self.now.sheet.now work.old work.new at result }
+        ensures { Steps (coercion (for_list self.now.rules)) self.now.space (Candidate self.now.space work.old d) self.now.sheet.now work.old work.new at result }
     {
         self.shift(work, d);
-        let merger = self.merger(Question::List);
+        let merger = self.merger(self.rules.for_list());
         let left = 2 * self.space.n;
         merger.coerce(work, left, false, Some(known), at, 1, UNNAMED)
     }
@@ -51,10 +52,10 @@ impl<'a> Resolver<'a> {
     fn step_list(&self, work: &mut [u8], core: usize, link: usize, d: Spot) -> Out
         requires room { Room work.old self.now.space × Inside self.now.space d }
         requires core_at { CoreAt self.now.space (region self.now.space work.old) 1 core }
-        ensures { Steps (coercion (rules_of Question.List self.now.mask)) self.now.space (Candidate self.now.space work.old d) self.now.sheet.now work.old work.new link result }
+        ensures { Steps (coercion (for_list self.now.rules)) self.now.space (Candidate self.now.space work.old d) self.now.sheet.now work.old work.new link result }
     {
         let second = &work[self.space.half..];
-        if is_core_alone(self.sheet, second, self.space, self.mask, link, core) {
+        if is_core_alone(self.sheet, second, self.space, self.rules, link, core) {
             return self.step_core(work, link, d);
         }
         self.step_whole(work, link, d)
@@ -63,7 +64,7 @@ impl<'a> Resolver<'a> {
     // The same, whatever the candidate's core is. A type that is the candidate itself leaves it.
     fn step_whole(&self, work: &mut [u8], link: usize, d: Spot) -> Out
         requires room { Room work.old self.now.space × Inside self.now.space d }
-        ensures { Steps (coercion (rules_of Question.List self.now.mask)) self.now.space (Candidate self.now.space work.old d) self.now.sheet.now work.old work.new link result }
+        ensures { Steps (coercion (for_list self.now.rules)) self.now.space (Candidate self.now.space work.old d) self.now.sheet.now work.old work.new link result }
     {
         let n = self.space.n;
         let second = &work[self.space.half..];
@@ -79,17 +80,17 @@ impl<'a> Resolver<'a> {
     fn meet(
         &self,
         work: &mut [u8],
-        question: Question,
+        rules: Rules,
         known: Option<usize>,
         link: usize,
         other: usize,
     ) -> Out
         requires room { Room work.old self.now.space }
-        requires compared { Compared known (is_list_question (asked question)) self.now.space (Typed self.now.space self.now.sheet.now other) self.now.sheet.now link }
-        ensures { Steps (coercion (rules_of question self.now.mask)) self.now.space (Typed self.now.space self.now.sheet.now other) self.now.sheet.now work.old work.new link result }
+        requires compared { Compared known (is_list_question rules.question) self.now.space (Typed self.now.space self.now.sheet.now other) self.now.sheet.now link }
+        ensures { Steps (coercion rules) self.now.space (Typed self.now.space self.now.sheet.now other) self.now.sheet.now work.old work.new link result }
     {
         self.mirror(work);
-        let merger = self.merger(question);
+        let merger = self.merger(rules);
         merger.coerce(work, 2 * self.space.n, false, known, link, other, UNNAMED)
     }
 
@@ -97,7 +98,7 @@ impl<'a> Resolver<'a> {
     // For a type with parts the candidate's core is not looked for.
     fn fold_from(&self, work: &mut [u8], floor: usize, link: usize, d: Spot) -> Out
         requires { Room work.old self.now.space × Inside self.now.space d }
-        ensures { Folds (fold_from (rules_of Question.List self.now.mask)) self.now.space (Candidate self.now.space work.old d) self.now.sheet.now work.old work.new floor link result }
+        ensures { Folds (fold_from (for_list self.now.rules)) self.now.space (Candidate self.now.space work.old d) self.now.sheet.now work.old work.new floor link result }
     {
         let mut last = floor;
         let mut at = link;
@@ -108,13 +109,13 @@ impl<'a> Resolver<'a> {
                 return Err(Failure::NoType);
             }
             let h = head_at(self.sheet, at);
-            if 32 <= h.kind {
+            if kind::LIST <= h.kind {
                 end = self.step_whole(work, at, end)?;
                 known = None;
-            } else if h.kind != 1 {
+            } else if h.kind != kind::NULL {
                 let second = &work[self.space.half..];
                 let bottom = bottom_of(second, self.space, known);
-                if keeps(self.sheet, second, self.space, self.mask, at, bottom) {
+                if keeps(self.sheet, second, self.space, self.rules, at, bottom) {
                     known = Some(bottom);
                 } else {
                     end = self.step_list(work, bottom.core, at, end)?;
@@ -139,7 +140,7 @@ impl<'a> Resolver<'a> {
     ) -> Out
         requires room { Room work.old self.now.space }
         requires compared { Compared known true self.now.space (Typed self.now.space self.now.sheet.now first) self.now.sheet.now link }
-        ensures { Folds (fold_from (rules_of Question.List self.now.mask)) self.now.space (Entry self.now.space self.now.sheet.now first) self.now.sheet.now work.old work.new floor link result }
+        ensures { Folds (fold_from (for_list self.now.rules)) self.now.space (Entry self.now.space self.now.sheet.now first) self.now.sheet.now work.old work.new floor link result }
     {
         let mut last = floor;
         let mut at = link;
@@ -148,8 +149,8 @@ impl<'a> Resolver<'a> {
                 return Err(Failure::NoType);
             }
             let h = head_at(self.sheet, at);
-            if h.kind != 1 {
-                let d = self.meet(work, Question::List, known, at, first)?;
+            if h.kind != kind::NULL {
+                let d = self.meet(work, self.rules.for_list(), known, at, first)?;
                 return self.fold_from(work, at, h.next, d);
             }
             known = None;
@@ -162,7 +163,7 @@ impl<'a> Resolver<'a> {
     // A type without parts, written as a candidate and folded with the types at a link past floor.
     fn fold_written(&self, work: &mut [u8], x: Leaf, floor: usize, link: usize) -> Out
         requires { Room work.old self.now.space × (x.size < 4294967296) }
-        ensures { Folds (fold_from (rules_of Question.List self.now.mask)) self.now.space (Valued x) self.now.sheet.now work.old work.new floor link result }
+        ensures { Folds (fold_from (for_list self.now.rules)) self.now.space (Valued x) self.now.sheet.now work.old work.new floor link result }
     {
         let d = self.lay_front(work, x);
         self.fold_from(work, floor, link, d)
@@ -172,7 +173,7 @@ impl<'a> Resolver<'a> {
     // to the first type with parts, a zone or an order. Nulls are skipped.
     fn fold_plain(&self, work: &mut [u8], first: Leaf, floor: usize, link: usize) -> Out
         requires { Room work.old self.now.space × (first.size < 4294967296) }
-        ensures { Folds (fold_from (rules_of Question.List self.now.mask)) self.now.space (Valued first) self.now.sheet.now work.old work.new floor link result }
+        ensures { Folds (fold_from (for_list self.now.rules)) self.now.space (Valued first) self.now.sheet.now work.old work.new floor link result }
     {
         let mut last = floor;
         let mut at = link;
@@ -188,7 +189,7 @@ impl<'a> Resolver<'a> {
             }
             let x = leaf_of(h);
             if !is_taken(kinds, x) {
-                let Some(next) = common_type(Question::List, self.mask, x, candidate) else {
+                let Some(next) = common_type(self.rules.for_list(), x, candidate) else {
                     return Err(Failure::NoType);
                 };
                 kinds = taken_kinds(kinds, x, candidate, next);
@@ -212,7 +213,7 @@ impl<'a> Resolver<'a> {
     ) -> Out
         requires room { Room work.old self.now.space }
         requires compared { Compared known true self.now.space (Typed self.now.space self.now.sheet.now first) self.now.sheet.now link }
-        ensures { Folds (fold_from (rules_of Question.List self.now.mask)) self.now.space (Entry self.now.space self.now.sheet.now first) self.now.sheet.now work.old work.new floor link result }
+        ensures { Folds (fold_from (for_list self.now.rules)) self.now.space (Entry self.now.space self.now.sheet.now first) self.now.sheet.now work.old work.new floor link result }
     {
         let h = head_at(self.sheet, first);
         if is_plain(h) {
@@ -224,7 +225,7 @@ impl<'a> Resolver<'a> {
     // The first type at a link past floor that is not Null, folded with those behind it.
     fn fold_types(&self, work: &mut [u8], floor: usize, link: usize) -> Out
         requires { Room work.old self.now.space }
-        ensures { Reached (fold_types (rules_of Question.List self.now.mask)) self.now.space self.now.sheet.now work.old work.new floor link result }
+        ensures { Reached (fold_types (for_list self.now.rules)) self.now.space self.now.sheet.now work.old work.new floor link result }
     {
         let mut last = floor;
         let mut at = link;
@@ -233,7 +234,7 @@ impl<'a> Resolver<'a> {
                 return Err(Failure::NoType);
             }
             let h = head_at(self.sheet, at);
-            if h.kind != 1 {
+            if h.kind != kind::NULL {
                 return self.fold_entry(work, None, at, at, h.next);
             }
             last = at;
@@ -254,9 +255,9 @@ impl<'a> Resolver<'a> {
     ) -> Out
         requires room { Room work.old self.now.space }
         requires compared { Compared known true self.now.space (Typed self.now.space self.now.sheet.now first) self.now.sheet.now link }
-        ensures { Folds (fold_behind (rules_of Question.List self.now.mask)) self.now.space (Entry self.now.space self.now.sheet.now first) self.now.sheet.now work.old work.new floor link result }
+        ensures { Folds (fold_behind (for_list self.now.rules)) self.now.space (Entry self.now.space self.now.sheet.now first) self.now.sheet.now work.old work.new floor link result }
     {
-        if head_at(self.sheet, first).kind == 1 {
+        if head_at(self.sheet, first).kind == kind::NULL {
             return self.fold_types(work, floor, link);
         }
         self.fold_entry(work, known, first, floor, link)
@@ -266,7 +267,7 @@ impl<'a> Resolver<'a> {
     /// it as it is: the fold begins at the first that is another.
     pub(crate) fn type_union_resolution(&self, work: &mut [u8], link: usize) -> Out
         requires { Room work.old self.now.space × (0 < link) }
-        ensures { Reached (type_union_resolution (rules_of Question.List self.now.mask)) self.now.space self.now.sheet.now work.old work.new 0 link result }
+        ensures { Reached (type_union_resolution (for_list self.now.rules)) self.now.space self.now.sheet.now work.old work.new 0 link result }
     {
         let n = self.space.n;
         let first = head_at(self.sheet, link);
@@ -291,9 +292,9 @@ impl<'a> Resolver<'a> {
     }
 
     /// The common type of the two types at a link, where there are two.
-    pub(crate) fn pair(&self, work: &mut [u8], question: Question, link: usize) -> Out
+    pub(crate) fn pair(&self, work: &mut [u8], link: usize) -> Out
         requires { Room work.old self.now.space × (0 < link) }
-        ensures { Reached (pair_answer (rules_of question self.now.mask)) self.now.space self.now.sheet.now work.old work.new 0 link result }
+        ensures { Reached (pair_answer self.now.rules) self.now.space self.now.sheet.now work.old work.new 0 link result }
     {
         let x = head_at(self.sheet, link);
         let next = x.next;
@@ -305,9 +306,9 @@ impl<'a> Resolver<'a> {
             return Err(Failure::NoType);
         }
         if is_plain(x) && is_plain(y) {
-            let joint = common_type(question, self.mask, leaf_of(x), leaf_of(y));
+            let joint = common_type(self.rules, leaf_of(x), leaf_of(y));
             return self.lay_joint(work, joint);
         }
-        self.meet(work, question, None, link, next)
+        self.meet(work, self.rules, None, link, next)
     }
 }

@@ -13,27 +13,30 @@ mod wrapped;
 ghost use Rattle.sheet.specs.Read.{start};
 ghost use Rattle.coercion.specs.Answers.{answer_of};
 ghost use Rattle.buffers.specs.Region.{Room};
-ghost use Rattle.buffers.specs.Plain.{asked, rules_of};
 ghost use Rattle.resolution.specs.Reached.{Reached};
 
-use buffers::plain::is_list_question;
-use buffers::{Failure, Out, Question, Space};
+use buffers::{Failure, Out, Space};
+use coercion::Rules;
 use resolver::Resolver;
 
 /// The answer to a question on the listed types of a sheet: `type_union_resolution` in a list, else
 /// the common type of the two types. It is written at the front of the second half of the work
 /// space, its first record at number 1; `NoType` where there is none. What else stands in the two
 /// halves afterwards is left free.
-pub fn answer(sheet: &[u8], work: &mut [u8], space: Space, question: Question, mask: u64) -> Out
+pub fn answer(sheet: &[u8], work: &mut [u8], space: Space, rules: Rules) -> Out
     requires { Room work.old space }
-    ensures { Reached (answer_of (asked question) (rules_of question mask)) space sheet.now work.old work.new 0 (start space.n) result }
+    ensures { Reached (answer_of rules.question rules) space sheet.now work.old work.new 0 (start space.n) result }
 {
     if space.n <= 1 {
         return Err(Failure::NoType);
     }
-    let resolver = Resolver { sheet, space, mask };
-    if is_list_question(question) {
+    let resolver = Resolver {
+        sheet,
+        space,
+        rules,
+    };
+    if rules.is_list_question() {
         return resolver.type_union_resolution(work, 1);
     }
-    resolver.pair(work, question, 1)
+    resolver.pair(work, 1)
 }

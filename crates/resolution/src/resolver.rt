@@ -3,12 +3,13 @@
 ghost use Rattle.std.specs.Prelude.{◌<◌};
 
 use buffers::Space;
+use coercion::Rules;
 
-/// The sheet and its sizes, and the mask of the kinds that Null may become. The sheet lists a type.
+/// The sheet and its sizes, and the rules. The sheet lists a type.
 #[derive(Clone, Copy)]
 pub(crate) struct Resolver<'a> {
     pub sheet: &'a [u8],
     pub space: Space,
-    pub mask: u64,
+    pub rules: Rules,
     ghost listed: { 1 < space.n },
 }

@@ -1,12 +1,12 @@
 //! A candidate that is wrappers around a type without parts.
 
 ghost use Rattle.coercion.specs.Answers.{coercion};
+ghost use Rattle.coercion.specs.Data.{for_list};
 ghost use Rattle.buffers.specs.Region.{Room, Inside};
-ghost use Rattle.buffers.specs.Plain.{rules_of};
 ghost use Rattle.resolution.specs.Reached.{Candidate, Cored, Steps};
 
 use crate::resolver::Resolver;
-use buffers::{Failure, Goal, Out, Question, Spot};
+use buffers::{Failure, Goal, Out, Spot};
 use sheet::figure::label_bytes;
 use sheet::record::head_at;
 
@@ -16,8 +16,8 @@ impl Resolver<'_> {
     /// the wrappers stay.
     pub(crate) fn step_core(&self, work: &mut [u8], link: usize, d: Spot) -> Out
         requires room { Room work.old self.now.space × Inside self.now.space d }
-        requires cored { Cored (rules_of Question.List self.now.mask) self.now.space self.now.sheet.now work.old link d }
-        ensures { Steps (coercion (rules_of Question.List self.now.mask)) self.now.space (Candidate self.now.space work.old d) self.now.sheet.now work.old work.new link result }
+        requires cored { Cored (for_list self.now.rules) self.now.space self.now.sheet.now work.old link d }
+        ensures { Steps (coercion (for_list self.now.rules)) self.now.space (Candidate self.now.space work.old d) self.now.sheet.now work.old work.new link result }
     {
         if d.at < 2 {
             return Err(Failure::NoType);
@@ -35,7 +35,7 @@ impl Resolver<'_> {
             nullable: h.nullable(),
         };
         self.shift(work, d);
-        let merger = self.merger(Question::List);
+        let merger = self.merger(self.rules.for_list());
         merger.coerce(work, 2 * self.space.n, true, None, at, link, g)
     }
 }

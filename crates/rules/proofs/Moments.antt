@@ -11,7 +11,7 @@ use lib.Dec.{leb}
 use borrow.Author.Tests.{leb-true, lt-leb, ne_eqb}
 use Rattle.sheet.specs.Tests.{between}
 use Rattle.sheet.proofs.Tests.{and_fst}
-use Rattle.coercion.specs.Kinds.{is_string}
+use Rattle.sheet.specs.Kind.{is_string}
 use Rattle.coercion.specs.Data.{DataType, or_else}
 use Rattle.coercion.specs.Rules.{time_of_string, string_temporal_coercion}
 

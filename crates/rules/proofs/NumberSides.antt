@@ -2,7 +2,7 @@
 use mathlib.Core.Path.{◌≡◌, refl}
 use mathlib.Core.Bool.{Bool, true, false, cond, ◌&&◌}
 use Rattle.std.specs.Prelude.{None, Some}
-use Rattle.coercion.specs.Kinds.{is_numeric, is_string}
+use Rattle.sheet.specs.Kind.{is_numeric, is_string}
 use Rattle.coercion.specs.Data.{DataType}
 use Rattle.coercion.specs.Rules.{string_numeric_coercion, string_numeric_union_coercion}
 use Rattle.coercion.specs.Meaning.{side_of}

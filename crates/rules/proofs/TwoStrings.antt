@@ -8,7 +8,7 @@ use lib.Dec.{eqb, leb}
 use borrow.Author.Tests.{eqb-true, le-leb}
 use Rattle.sheet.specs.Tests.{between}
 use Rattle.sheet.proofs.Tests.{never}
-use Rattle.coercion.specs.Kinds.{is_string}
+use Rattle.sheet.specs.Kind.{is_string}
 use Rattle.coercion.specs.Strings.{string_coercion}
 use Rattle.coercion.proofs.Ranked.{kind_from}
 use Rattle.coercion.proofs.Tables.{below2, at2}

@@ -1,6 +1,6 @@
 -- Which of two kinds is the number, where the other is a string.
 use Rattle.std.specs.Prelude.{ℕ, cond, ◌&&◌, Option, None, Some}
-use Rattle.coercion.specs.Kinds.{is_numeric, is_string}
+use Rattle.sheet.specs.Kind.{is_numeric, is_string}
 use Rattle.coercion.specs.declared.Side.{Side}
 
 abbrev pub number_side : ℕ → ℕ → Option Side

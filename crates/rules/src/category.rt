@@ -9,7 +9,7 @@ ghost use Rattle.coercion.specs.Answers.{own_category};
 ghost use Rattle.coercion.specs.Meaning.{category_bit, is_supported, value_category};
 ghost use Rattle.rules.specs.Wrapped.{Found};
 
-use kinds::tests::{is_string, is_wrapper};
+use sheet::kind::{self, is_string, is_wrapper};
 use sheet::record::head_at;
 
 /// The bit of the category of a kind that is no wrapper, 0 where the category is Unknown or there is none.
@@ -18,11 +18,11 @@ pub fn category_bit(k: u8) -> u8
     ensures { result ≡ category_bit (own_category k) }
 {
     match k {
-        2 => 2,
-        3..=17 => 4,
-        18..=24 => 8,
-        32..=34 => 1,
-        35 | 36 => 16,
+        kind::BOOLEAN => 2,
+        kind::INT8..=kind::DECIMAL256 => 4,
+        kind::DATE32..=kind::DURATION => 8,
+        kind::LIST..=kind::FIXED_SIZE_LIST => 1,
+        kind::STRUCT | kind::MAP => 16,
         _ => 0,
     }
 }
@@ -32,7 +32,7 @@ pub fn category_bit(k: u8) -> u8
 pub fn is_supported(k: u8) -> bool
     ensures { result ≡ is_supported (own_category k) }
 {
-    category_bit(k) != 0 || is_string(k) || k == 1
+    category_bit(k) != 0 || is_string(k) || k == kind::NULL
 }
 
 /// The bits with the category of one more kind.

@@ -7,7 +7,7 @@ ghost use Rattle.rules.specs.Sides.{number_side};
 
 use crate::times::is_time_with_valid_unit;
 use coercion::{Moment, Side};
-use kinds::tests::{is_date, is_numeric, is_string, is_time};
+use sheet::kind::{self, is_date, is_numeric, is_string, is_time};
 
 /// Whether Null may become a kind: a bit of the mask.
 pub fn may_become(mask: u64, k: u8) -> bool
@@ -23,9 +23,9 @@ pub fn null_coercion(mask: u64, k: u8, j: u8) -> Option<Side>
     requires { (k < 64) × (j < 64) }
     ensures { (l r : DataType) → l.shape.kind ≡ k → r.shape.kind ≡ j → side_of result l r ≡ null_coercion mask l r }
 {
-    if k == 1 {
+    if k == kind::NULL {
         may_become(mask, j).then_some(Side::Right)
-    } else if j == 1 {
+    } else if j == kind::NULL {
         may_become(mask, k).then_some(Side::Left)
     } else {
         None
@@ -70,7 +70,7 @@ fn time_of_string(k: u8, unit: u8) -> Option<Moment>
         Some(Moment::Left)
     } else if is_time(k) {
         is_time_with_valid_unit(k, unit).then_some(Moment::Left)
-    } else if k == 22 {
+    } else if k == kind::TIMESTAMP {
         Some(Moment::LeftNanoseconds)
     } else {
         None

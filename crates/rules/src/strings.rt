@@ -3,7 +3,7 @@ ghost use Rattle.std.specs.Prelude.{◌≡◌};
 ghost use Rattle.coercion.specs.Strings.{string_coercion, binary_coercion};
 ghost use Rattle.rules.specs.Ordered.{ordered_binary};
 
-use kinds::tests::is_string;
+use sheet::kind::{self, is_string};
 
 /// `string_coercion` of the source, on kinds: the greater kind, as Utf8View comes last and Utf8 first.
 #[tactic(auto, using(crate::proofs::TwoStrings::string_max, crate::proofs::TwoStrings::no_strings))]
@@ -19,9 +19,10 @@ fn ordered_binary(k: u8, j: u8) -> Option<u8>
     ensures { result ≡ ordered_binary k j }
 {
     match (k, j) {
-        (28, 25 | 28 | 31) => Some(28),
-        (28, 26 | 27) | (29, 25..=29) => Some(29),
-        (30, 25..=31) => Some(30),
+        (kind::BINARY, kind::UTF8 | kind::BINARY | kind::FIXED_SIZE_BINARY) => Some(kind::BINARY),
+        (kind::BINARY, kind::LARGE_UTF8 | kind::UTF8_VIEW)
+        | (kind::LARGE_BINARY, kind::UTF8..=kind::LARGE_BINARY) => Some(kind::LARGE_BINARY),
+        (kind::BINARY_VIEW, kind::UTF8..=kind::FIXED_SIZE_BINARY) => Some(kind::BINARY_VIEW),
         _ => None,
     }
 }

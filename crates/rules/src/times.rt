@@ -4,7 +4,7 @@ ghost use Rattle.coercion.specs.Times.{timeunit_coercion, temporal_coercion, is_
 ghost use Rattle.rules.specs.Ordered.{ordered_temporal};
 
 use coercion::Figures;
-use sheet::figure::within;
+use sheet::kind::{self, within};
 
 /// `timeunit_coercion` of the source: the finer unit, which has the greater number.
 pub fn timeunit_coercion(u: u8, v: u8) -> u8
@@ -13,16 +13,28 @@ pub fn timeunit_coercion(u: u8, v: u8) -> u8
     u.max(v)
 }
 
+/// The finest unit of a time or a Timestamp.
+pub const NANOSECOND: u8 = 3;
+
+/// The unit of an Interval that counts months, days and nanoseconds.
+pub const MONTH_DAY_NANO: u8 = 2;
+
 // The rules of `temporal_coercion` for two kinds in one order: two spans; a date with an integer, Date64 with Date32,
 // and a date with a time or a Timestamp.
 fn ordered_temporal(k: u8, j: u8) -> Option<Figures>
     ensures { result ≡ ordered_temporal k j }
 {
     match (k, j) {
-        (23 | 24, 23 | 24) => Some(Figures::of_unit(23, 2)),
-        (18, 3..=10) => Some(Figures::of_kind(18)),
-        (19, 3..=10 | 18) => Some(Figures::of_kind(19)),
-        (18 | 19, 20..=22) => Some(Figures::of_unit(22, 3)),
+        (kind::INTERVAL | kind::DURATION, kind::INTERVAL | kind::DURATION) => {
+            Some(Figures::of_unit(kind::INTERVAL, MONTH_DAY_NANO))
+        }
+        (kind::DATE32, kind::INT8..=kind::UINT64) => Some(Figures::of_kind(kind::DATE32)),
+        (kind::DATE64, kind::INT8..=kind::UINT64 | kind::DATE32) => {
+            Some(Figures::of_kind(kind::DATE64))
+        }
+        (kind::DATE32 | kind::DATE64, kind::TIME32..=kind::TIMESTAMP) => {
+            Some(Figures::of_unit(kind::TIMESTAMP, NANOSECOND))
+        }
         _ => None,
     }
 }
@@ -40,5 +52,5 @@ pub fn temporal_coercion(k: u8, j: u8) -> Option<Figures>
 pub fn is_time_with_valid_unit(k: u8, unit: u8) -> bool
     ensures { result ≡ is_time_with_valid_unit k unit }
 {
-    k == 20 && unit <= 1 || k == 21 && within(2, 3, unit)
+    k == kind::TIME32 && unit <= 1 || k == kind::TIME64 && within(2, NANOSECOND, unit)
 }

@@ -1,7 +1,7 @@
 -- Names: byte strings that are equal or not. "The fields of one Struct have names that differ."
 use Rattle.std.specs.Prelude.{ℕ, ◌+◌, ◌*◌, ◌/◌, ◌%◌, Bool, true, false, not, ◌&&◌, ◌||◌, List, [], ◌∷◌, eqb}
 use Rattle.sheet.specs.Tests.{all_of}
-use Rattle.sheet.specs.Kind as Kind
+use Rattle.sheet.specs.declared.kind.TheConstants as Kind
 use Rattle.sheet.specs.Types.{Fields, end, field}
 
 unfoldable pub same_bytes : List ℕ → List ℕ → Bool
@@ -24,7 +24,7 @@ repeats (field name nullable shape parts rest) = has_name name rest || repeats r
 unfoldable pub names_differ : Fields → Bool
 names_differ end = true
 names_differ (field name nullable shape parts rest) =
-    all_of (not (eqb shape.kind Kind.struct && repeats parts) ∷ names_differ parts ∷ names_differ rest ∷ [])
+    all_of (not (eqb shape.kind Kind.STRUCT && repeats parts) ∷ names_differ parts ∷ names_differ rest ∷ [])
 
 -- a number of 32 bits that goes by the bytes of a name: its halves change places and bytes are added, four at once
 -- while there are four, before it is multiplied by an odd number, so that each byte moves the upper bits

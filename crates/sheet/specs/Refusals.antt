@@ -1,7 +1,7 @@
 -- The refusals 1 to 5. "Each condition is stated over any bytes, and by itself."
 use Rattle.std.specs.Prelude.{ℕ, zero, suc, ◌+◌, ◌*◌, ◌-◌, ◌%◌, Bool, true, false, cond, not, ◌&&◌, ◌||◌, List, [], ◌∷◌, ◌++◌, length, take, drop, leb, ltb, eqb, Result, Ok, Err}
 use Rattle.sheet.specs.Tests.{all_of, one_of, implies}
-use Rattle.sheet.specs.Kind as Kind
+use Rattle.sheet.specs.declared.kind.TheConstants as Kind
 use Rattle.sheet.specs.Kind.{is_kind, is_decimal, cap, sized, last_unit, parts_right, names_parts}
 use Rattle.sheet.specs.Types.{Fields, end, field, arity, count}
 use Rattle.sheet.specs.Head.{head_at, nullable_in, sorted_in, zoned_in, size_in, zone_at, zone_len, labelled}
@@ -89,7 +89,7 @@ size_right k size = cond (sized k) (ltb size 2147483648) (eqb size 0)
 -- "Only a Map may be sorted." "Only a Timestamp may have a zone."
 unfoldable pub figures_right : ℕ → ℕ → ℕ → ℕ → Bool → Bool → Bool
 figures_right k figure scale size sorted zoned =
-    all_of (figure_right k figure scale ∷ size_right k size ∷ implies sorted (eqb k Kind.map) ∷ implies zoned (eqb k Kind.timestamp) ∷ [])
+    all_of (figure_right k figure scale ∷ size_right k size ∷ implies sorted (eqb k Kind.MAP) ∷ implies zoned (eqb k Kind.TIMESTAMP) ∷ [])
 
 -- a record's figures, its flags and its unused bits and bytes: "Bytes 12 to 14 always belong to 5, and byte 15 to 4."
 unfoldable pub record_right : Head → ℕ → Bool

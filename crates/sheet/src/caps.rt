@@ -3,6 +3,8 @@ ghost use Rattle.std.specs.Prelude.{◌≡◌, ◌≤◌};
 ghost use Rattle.sheet.specs.Kind.{cap};
 ghost use Rattle.sheet.specs.Caps.{cap_of, width_of};
 
+use crate::kind;
+
 /// A decimal's width, by its bits.
 #[derive(Clone, Copy)]
 pub enum Width {
@@ -46,9 +48,9 @@ impl Width {
         ensures { result ≡ width_of k }
     {
         match k {
-            14 => Width::W32,
-            15 => Width::W64,
-            16 => Width::W128,
+            kind::DECIMAL32 => Width::W32,
+            kind::DECIMAL64 => Width::W64,
+            kind::DECIMAL128 => Width::W128,
             _ => Width::W256,
         }
     }

@@ -1,42 +1,21 @@
-//! The tests of one record: its kind, its figures, its number of parts and the places of its labels.
-#![tactic(auto, using(std::proofs::lemmas::Bool::Decides::nat_tests), unfolding(crate::specs::Tests::between, crate::specs::Tests::all_of, crate::specs::Kind::is_kind, crate::specs::Kind::is_decimal, crate::specs::Kind::names_parts, crate::specs::Kind::parts_right, crate::specs::Kind::last_unit, crate::specs::Kind::sized, crate::specs::Refusals::decimal_right, crate::specs::Refusals::figure_right, crate::specs::Refusals::size_right, crate::specs::Refusals::figures_right, crate::specs::Refusals::record_right, crate::specs::Refusals::label_right))]
+//! The tests of one record: its figures, its number of parts and the places of its labels.
+#![tactic(auto, using(std::proofs::lemmas::Bool::Decides::nat_tests), unfolding(crate::specs::Tests::between, crate::specs::Tests::all_of, crate::specs::Kind::is_decimal, crate::specs::Kind::names_parts, crate::specs::Kind::parts_right, crate::specs::Kind::last_unit, crate::specs::Kind::sized, crate::specs::Refusals::decimal_right, crate::specs::Refusals::figure_right, crate::specs::Refusals::size_right, crate::specs::Refusals::figures_right, crate::specs::Refusals::record_right, crate::specs::Refusals::label_right))]
 
 ghost use Rattle.std.specs.Prelude.{◌≡◌, ◌<◌, ◌≤◌, cond};
-ghost use Rattle.sheet.specs.Tests.{between};
-ghost use Rattle.sheet.specs.Kind.{is_kind, is_decimal, last_unit, parts_right, names_parts};
+ghost use Rattle.sheet.specs.Kind.{last_unit, parts_right, names_parts};
 ghost use Rattle.sheet.specs.Head.{labelled};
 ghost use Rattle.sheet.specs.Refusals.{biased, decimal_right, figure_right, size_right, figures_right, record_right, placed, label_right};
 ghost use Rattle.sheet.specs.Bounds.{Bounded};
 
 use crate::Head;
 use crate::caps::precision_cap;
-
-/// Whether k is one of lo to hi, both included.
-pub fn within(lo: u8, hi: u8, k: u8) -> bool
-    ensures { result ≡ between lo hi k }
-{
-    (lo..=hi).contains(&k)
-}
-
-/// Whether a byte is a kind, 1 to 38.
-pub fn is_kind(k: u8) -> bool
-    ensures { result ≡ is_kind k }
-{
-    within(1, 38, k)
-}
-
-/// Whether a kind is a decimal's, 14 to 17.
-pub fn is_decimal(k: u8) -> bool
-    ensures { result ≡ is_decimal k }
-{
-    within(14, 17, k)
-}
+use crate::kind::{self, is_decimal, within};
 
 /// Whether the parts of a record of kind k may have names and be nullable.
 pub fn names_parts(k: u8) -> bool
     ensures { result ≡ names_parts k }
 {
-    within(32, 36, k) || k == 38
+    within(kind::LIST, kind::MAP, k) || k == kind::RUN_END_ENCODED
 }
 
 /// Whether a record of kind k may have n parts.
@@ -44,9 +23,9 @@ pub fn parts_right(k: u8, n: usize) -> bool
     ensures { result ≡ parts_right k n }
 {
     match k {
-        32..=34 | 36 => n == 1,
-        35 => true,
-        37 | 38 => n == 2,
+        kind::LIST..=kind::FIXED_SIZE_LIST | kind::MAP => n == 1,
+        kind::STRUCT => true,
+        kind::DICTIONARY | kind::RUN_END_ENCODED => n == 2,
         _ => n == 0,
     }
 }
@@ -56,8 +35,8 @@ fn last_unit(k: u8) -> u8
     ensures { result ≡ last_unit k }
 {
     match k {
-        20..=22 | 24 => 3,
-        23 => 2,
+        kind::TIME32..=kind::TIMESTAMP | kind::DURATION => 3,
+        kind::INTERVAL => 2,
         _ => 0,
     }
 }
@@ -94,7 +73,7 @@ fn size_right(k: u8, size: usize) -> bool
     ensures { result ≡ size_right k size }
 {
     match k {
-        31 | 34 => size < 2147483648,
+        kind::FIXED_SIZE_BINARY | kind::FIXED_SIZE_LIST => size < 2147483648,
         _ => size == 0,
     }
 }
@@ -105,8 +84,8 @@ fn figures_right(k: u8, figure: u8, scale: u8, size: usize, sorted: bool, zoned:
 {
     figure_right(k, figure, scale)
         && size_right(k, size)
-        && (!sorted || k == 36)
-        && (!zoned || k == 22)
+        && (!sorted || k == kind::MAP)
+        && (!zoned || k == kind::TIMESTAMP)
 }
 
 /// The size that bytes 4 to 7 hold; 0 where they hold the place of a zone, as a Timestamp has no size.

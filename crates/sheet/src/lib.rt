@@ -7,8 +7,10 @@ ghost use Rattle.sheet.specs.Refusals.{number_of};
 
 /// The four widths of a decimal and their precision caps.
 pub mod caps;
-/// The tests of one record: its kind, its figures, its number of parts and the places of its labels.
+/// The tests of one record: its figures, its number of parts and the places of its labels.
 pub mod figure;
+/// The kinds of a record, and what belongs together among them.
+pub mod kind;
 /// Labels as parts of a sheet, and whether two are the same bytes.
 pub mod label;
 /// What is proved of the definitions of the format.

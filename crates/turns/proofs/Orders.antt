@@ -9,12 +9,12 @@ use Prim.Native.Nat.{ℕ, ◌<◌, ◌≤◌}
 use native.Mathlib.Omega.{arith}
 use lib.Dec.{eqb}
 use borrow.Author.Tests.{eqb-true, ne_eqb, lt-leb}
-use Rattle.sheet.specs.Kind as Kind
+use Rattle.sheet.specs.declared.kind.TheConstants as Kind
 use Rattle.sheet.specs.Tests.{between}
 use Rattle.sheet.specs.Types.{arity}
 use Rattle.sheet.proofs.Tests.{never, and_fst, and_snd}
-use Rattle.coercion.specs.Data.{DataType, Question, list, union, compare, Rules, or_else, first_of, figures_of, as_type}
-use Rattle.coercion.specs.Kinds.{is_numeric, is_string, is_list}
+use Rattle.coercion.specs.Data.{DataType, or_else, first_of, figures_of, as_type, is_list_question, for_list, for_question}
+use Rattle.sheet.specs.Kind.{is_numeric, is_string, is_list}
 use Rattle.coercion.specs.Same.{same_type, equal, alike}
 use Rattle.coercion.specs.Strings.{string_coercion, binary_coercion}
 use Rattle.coercion.specs.Times.{temporal_coercion, temporal_coercion_nonstrict_timezone}
@@ -25,9 +25,10 @@ use Rattle.coercion.specs.Nested.{list_coercion, struct_coercion, map_coercion}
 use Rattle.coercion.specs.Answers.{of_kind_type, string_number, list_struct, list_rules, resolution_coercion, pair_rules, ask}
 use Rattle.coercion.proofs.Ranked.{kind_from}
 use Rattle.rules.proofs.Moments.{above}
-use Rattle.coercion.specs.Columns.{rules_for}
 use Rattle.coercion.proofs.Words.{or_none}
-use Rattle.buffers.specs.Plain.{is_list_question, string_time, plain_rules}
+use Rattle.coercion.specs.declared.Question.{Question}
+use Rattle.coercion.specs.declared.Rules.{Rules}
+use Rattle.buffers.specs.Plain.{string_time, plain_rules}
 use Rattle.wrappers.proofs.Unwrapping.{wrapper_none}
 use Rattle.turns.specs.Turns.{struct_rule, map_rule, nested_of, either_wrapped, resolved, unwrapped, turns_for, turns_of}
 
@@ -89,9 +90,9 @@ quiet l r h g =
     }
   where
     asked : is_numeric l.shape.kind ≡ false → is_string l.shape.kind ≡ false → (q : Question) → string_number q l r ≡ None
-    asked n s list = rw (n, s)
-    asked n s union = rw (s, n)
-    asked n s compare = rw (n, s)
+    asked n s Question.List = rw (n, s)
+    asked n s Question.Union = rw (s, n)
+    asked n s Question.Compare = rw (n, s)
 
 -- two types that have parts of one sort
 abbrev both_lists : DataType → DataType → Bool
@@ -101,15 +102,15 @@ abbrev both : ℕ → DataType → DataType → Bool
 both k l r = is_of k l && is_of k r
 
 data Sort (l r : DataType) : Type 0 where
-  lists : both_lists l r ≡ true → both Kind.struct l r ≡ false → both Kind.map l r ≡ false → Quiet l r → Sort l r
-  structs : both_lists l r ≡ false → both Kind.struct l r ≡ true → both Kind.map l r ≡ false → Quiet l r → Sort l r
-  maps : both_lists l r ≡ false → both Kind.struct l r ≡ false → both Kind.map l r ≡ true → Quiet l r → Sort l r
-  others : both_lists l r ≡ false → both Kind.struct l r ≡ false → both Kind.map l r ≡ false → Sort l r
+  lists : both_lists l r ≡ true → both Kind.STRUCT l r ≡ false → both Kind.MAP l r ≡ false → Quiet l r → Sort l r
+  structs : both_lists l r ≡ false → both Kind.STRUCT l r ≡ true → both Kind.MAP l r ≡ false → Quiet l r → Sort l r
+  maps : both_lists l r ≡ false → both Kind.STRUCT l r ≡ false → both Kind.MAP l r ≡ true → Quiet l r → Sort l r
+  others : both_lists l r ≡ false → both Kind.STRUCT l r ≡ false → both Kind.MAP l r ≡ false → Sort l r
 
 sort : (l r : DataType) → Sort l r
-sort l r = go (both_lists l r) refl (both Kind.struct l r) refl (both Kind.map l r) refl
+sort l r = go (both_lists l r) refl (both Kind.STRUCT l r) refl (both Kind.MAP l r) refl
   where
-    go : (a : Bool) → both_lists l r ≡ a → (b : Bool) → both Kind.struct l r ≡ b → (m : Bool) → both Kind.map l r ≡ m → Sort l r
+    go : (a : Bool) → both_lists l r ≡ a → (b : Bool) → both Kind.STRUCT l r ≡ b → (m : Bool) → both Kind.MAP l r ≡ m → Sort l r
     go true x b y m z =
         let p = kind_from 32 34 l.shape.kind (and_fst _ _ x) in
         let q = kind_from 32 34 r.shape.kind (and_snd (is_list l.shape.kind) (is_list r.shape.kind) x) in
@@ -125,13 +126,13 @@ sort l r = go (both_lists l r) refl (both Kind.struct l r) refl (both Kind.map l
     go false x false y false z = others x y z
 
 -- the rules of a union or a comparison for types that are no wrappers
-abbrev bare_rules : Question → ℕ → (DataType → DataType → Option DataType) → DataType → DataType → List (Option DataType)
-bare_rules q mask c l r =
+abbrev bare_rules : Question → Rules → (DataType → DataType → Option DataType) → DataType → DataType → List (Option DataType)
+bare_rules q rules c l r =
     as_type (binary_numeric_coercion (figures_of l) (figures_of r))
     ∷ temporal_coercion_nonstrict_timezone l r
     ∷ of_kind_type (string_coercion l.shape.kind r.shape.kind)
     ∷ list_coercion c l r
-    ∷ null_coercion mask l r
+    ∷ null_coercion rules.mask l r
     ∷ string_number q l r
     ∷ string_temporal_coercion l r
     ∷ of_kind_type (binary_coercion l.shape.kind r.shape.kind)
@@ -144,36 +145,36 @@ module _ (c : DataType → DataType → Option DataType) (l r : DataType) where
   unfolding list_coercion
   list_none h = rw h
 
-  struct_none : both Kind.struct l r ≡ false → struct_coercion c l r ≡ None
+  struct_none : both Kind.STRUCT l r ≡ false → struct_coercion c l r ≡ None
   unfolding struct_coercion
-  struct_none h = go (is_of Kind.struct l) (is_of Kind.struct r) (eqb (arity l.parts) (arity r.parts)) _ h
+  struct_none h = go (is_of Kind.STRUCT l) (is_of Kind.STRUCT r) (eqb (arity l.parts) (arity r.parts)) _ h
     where
       go : (a b e : Bool) (o : Option DataType) → a && b ≡ false → cond (a && (b && e)) o None ≡ None
       go true true e o h = never (sym h)
       go true false e o h = refl
       go false b e o h = refl
 
-  map_none : both Kind.map l r ≡ false → map_coercion c l r ≡ None
+  map_none : both Kind.MAP l r ≡ false → map_coercion c l r ≡ None
   unfolding map_coercion
   map_none h = rw h
 
   -- a list's types that are no wrappers
-  list_nested : (mask : ℕ)
-      → cond (both Kind.struct l r) (list_struct c l r) (first_of (list_rules (rules_for list mask) c l r)) ≡ nested_of (rules_for list mask) c l r
+  list_nested : (rules : Rules)
+      → cond (both Kind.STRUCT l r) (list_struct c l r) (first_of (list_rules (for_list rules) c l r)) ≡ nested_of (for_list rules) c l r
   unfolding nested_of plain_rules
-  list_nested mask = go (sort l r)
+  list_nested rules = go (sort l r)
     where
       rest : Quiet l r
           → Among []
           (temporal_coercion_nonstrict_timezone l r
           ∷ of_kind_type (string_coercion l.shape.kind r.shape.kind)
-          ∷ null_coercion mask l r
-          ∷ string_number list l r
+          ∷ null_coercion rules.mask l r
+          ∷ string_number Question.List l r
           ∷ of_kind_type (binary_coercion l.shape.kind r.shape.kind)
           ∷ [])
-      rest n = skip n.temporal (skip n.string (skip (n.null mask) (skip (n.number list) (skip n.binary done))))
+      rest n = skip n.temporal (skip n.string (skip (n.null rules.mask) (skip (n.number Question.List) (skip n.binary done))))
 
-      go : Sort l r → cond (both Kind.struct l r) (list_struct c l r) (first_of (list_rules (rules_for list mask) c l r)) ≡ nested_of (rules_for list mask) c l r
+      go : Sort l r → cond (both Kind.STRUCT l r) (list_struct c l r) (first_of (list_rules (for_list rules) c l r)) ≡ nested_of (for_list rules) c l r
       go (lists x y z n) = rw (x, y) (only (skip n.numeric (keep (skip (map_none z) (rest n)))))
       go (structs x y z n) = rw (x, y)
       go (maps x y z n) = rw (x, y, z) (only (skip n.numeric (skip (list_none x) (keep (rest n)))))
@@ -183,10 +184,10 @@ module _ (c : DataType → DataType → Option DataType) (l r : DataType) where
           ∙ sym (first_among (keep (keep (keep (keep (keep (skip refl (keep done)))))))))
 
   -- the other questions' types that are no wrappers
-  pair_nested : (q : Question) (mask : ℕ) → string_time q l r ≡ string_temporal_coercion l r → struct_rule q c l r ≡ struct_coercion c l r
-      → first_of (bare_rules q mask c l r) ≡ nested_of (rules_for q mask) c l r
+  pair_nested : (q : Question) (rules : Rules) → string_time q l r ≡ string_temporal_coercion l r → struct_rule q c l r ≡ struct_coercion c l r
+      → first_of (bare_rules q rules c l r) ≡ nested_of (for_question q rules) c l r
   unfolding nested_of plain_rules
-  pair_nested q mask t s = go (sort l r)
+  pair_nested q rules t s = go (sort l r)
     where
       front : {os ps : List (Option DataType)} → Quiet l r → Among os ps
           → Among os
@@ -198,14 +199,14 @@ module _ (c : DataType → DataType → Option DataType) (l r : DataType) where
 
       middle : {os ps : List (Option DataType)} → Quiet l r → Among os ps
           → Among os
-          (null_coercion mask l r
+          (null_coercion rules.mask l r
           ∷ string_number q l r
           ∷ string_temporal_coercion l r
           ∷ of_kind_type (binary_coercion l.shape.kind r.shape.kind)
           ∷ ps)
-      middle n a = skip (n.null mask) (skip (n.number q) (skip n.time (skip n.binary a)))
+      middle n a = skip (n.null rules.mask) (skip (n.number q) (skip n.time (skip n.binary a)))
 
-      go : Sort l r → first_of (bare_rules q mask c l r) ≡ nested_of (rules_for q mask) c l r
+      go : Sort l r → first_of (bare_rules q rules c l r) ≡ nested_of (for_question q rules) c l r
       go (lists x y z n) = rw x (only (front n (keep (middle n (skip (struct_none y) (skip (map_none z) done))))))
       go (structs x y z n) = rw (x, y) (only (front n (skip (list_none x) (middle n (keep (skip (map_none z) done))))) ∙ sym s)
       go (maps x y z n) = rw (x, y, z) (only (front n (skip (list_none x) (middle n (skip (struct_none y) (keep done))))))
@@ -231,24 +232,24 @@ module _ (c : DataType → DataType → Option DataType) (l r : DataType) where
       go true h = inr (numbers_bare h 37 (omega arith), numbers_bare h 38 (omega arith))
       go false h = inl (rw h)
 
-  pair_turns : (q : Question) (mask : ℕ) → string_time q l r ≡ string_temporal_coercion l r → struct_rule q c l r ≡ struct_coercion c l r
-      → first_of (pair_rules (rules_for q mask) c l r) ≡ cond (alike l r) (Some l) (unwrapped (rules_for q mask) c l r)
+  pair_turns : (q : Question) (rules : Rules) → string_time q l r ≡ string_temporal_coercion l r → struct_rule q c l r ≡ struct_coercion c l r
+      → first_of (pair_rules (for_question q rules) c l r) ≡ cond (alike l r) (Some l) (unwrapped (for_question q rules) c l r)
   unfolding first_of unwrapped
-  pair_turns q mask t s =
+  pair_turns q rules t s =
       ap (or_else (cond (alike l r) (Some l) None))
-      (later _ numbers_apart ∙ ap (λ o. or_else (wrapper_coercion 37 c l r) (or_else (wrapper_coercion 38 c l r) o)) (pair_nested q mask t s))
-      ∙ go (alike l r) (unwrapped (rules_for q mask) c l r)
+      (later _ numbers_apart ∙ ap (λ o. or_else (wrapper_coercion 37 c l r) (or_else (wrapper_coercion 38 c l r) o)) (pair_nested q rules t s))
+      ∙ go (alike l r) (unwrapped (for_question q rules) c l r)
     where
       go : (b : Bool) (o : Option DataType) → or_else (cond b (Some l) None) o ≡ cond b (Some l) o
       go true o = refl
       go false o = refl
 
-  list_turns : (mask : ℕ) → resolution_coercion (rules_for list mask) c l r ≡ cond (equal l r) (Some l) (resolved (rules_for list mask) c l r)
+  list_turns : (rules : Rules) → resolution_coercion (for_list rules) c l r ≡ cond (equal l r) (Some l) (resolved (for_list rules) c l r)
   unfolding resolved either_wrapped
-  list_turns mask =
+  list_turns rules =
       ap (cond (equal l r) (Some l))
       (either (is_of 37 l) (is_of 37 r) _ _ _ _
-      ∙ ap (cond (is_of 37 l || is_of 37 r) _) (either (is_of 38 l) (is_of 38 r) _ _ _ _ ∙ ap (cond (is_of 38 l || is_of 38 r) _) (list_nested mask)))
+      ∙ ap (cond (is_of 37 l || is_of 37 r) _) (either (is_of 38 l) (is_of 38 r) _ _ _ _ ∙ ap (cond (is_of 38 l || is_of 38 r) _) (list_nested rules)))
     where
       either : (a b : Bool) (x y z w : Option DataType)
           → cond (a && b) x (cond a y (cond b z w)) ≡ cond (a || b) (cond a (cond b x y) (cond b z None)) w
@@ -257,16 +258,16 @@ module _ (c : DataType → DataType → Option DataType) (l r : DataType) where
       either false true x y z w = refl
       either false false x y z w = refl
 
-  turns_for_lem : (q : Question) (mask : ℕ)
-      → ask q (rules_for q mask) c l r ≡ cond (same_type (is_list_question q) l r) (Some l) (turns_for q (rules_for q mask) c l r)
-  turns_for_lem list mask = list_turns mask
-  turns_for_lem union mask = pair_turns union mask refl refl
-  turns_for_lem compare mask = pair_turns compare mask refl refl
+  turns_for_lem : (q : Question) (rules : Rules)
+      → ask q (for_question q rules) c l r ≡ cond (same_type (is_list_question q) l r) (Some l) (turns_for q (for_question q rules) c l r)
+  turns_for_lem Question.List rules = list_turns rules
+  turns_for_lem Question.Union rules = pair_turns Question.Union rules refl refl
+  turns_for_lem Question.Compare rules = pair_turns Question.Compare rules refl refl
 
 -- what a question asks, in the merge's order
 pub ask_turns : (rules : Rules) (c : DataType → DataType → Option DataType) (l r : DataType)
     → ask rules.question rules c l r ≡ cond (same_type (is_list_question rules.question) l r) (Some l) (turns_of rules c l r)
-ask_turns rules c l r = turns_for_lem c l r rules.question rules.mask
+ask_turns rules c l r = turns_for_lem c l r rules.question rules
 
 -- two types that are no wrappers
 module _ (rules : Rules) (c : DataType → DataType → Option DataType) (l r : DataType) (h : l.shape.kind < 37) (g : r.shape.kind < 37) where
@@ -282,9 +283,9 @@ module _ (rules : Rules) (c : DataType → DataType → Option DataType) (l r : 
   bare_unwrapped = rw (other 37 (omega arith) l h, other 37 (omega arith) r g, other 38 (omega arith) l h, other 38 (omega arith) r g)
 
   bare_for : (q : Question) → nested_of rules c l r ≡ turns_for q rules c l r
-  bare_for list = bare_resolved
-  bare_for union = bare_unwrapped
-  bare_for compare = bare_unwrapped
+  bare_for Question.List = bare_resolved
+  bare_for Question.Union = bare_unwrapped
+  bare_for Question.Compare = bare_unwrapped
 
   pub bare_turns : nested_of rules c l r ≡ turns_of rules c l r
   bare_turns = bare_for rules.question
@@ -299,6 +300,6 @@ module _ (rules : Rules) (c : DataType → DataType → Option DataType) (l r : 
   plain_turns = plain_nested ∙ bare_turns rules c l r (omega arith) (omega arith)
 
 -- two maps, by their entries
-pub map_turns : (c : DataType → DataType → Option DataType) (l r : DataType) → (is_of Kind.map l && is_of Kind.map r) ≡ true → map_rule c l r ≡ map_coercion c l r
+pub map_turns : (c : DataType → DataType → Option DataType) (l r : DataType) → (is_of Kind.MAP l && is_of Kind.MAP r) ≡ true → map_rule c l r ≡ map_coercion c l r
 unfolding map_coercion
 map_turns c l r e = rw e refl

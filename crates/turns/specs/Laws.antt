@@ -1,12 +1,12 @@
 -- The law of the order of the rules, which the function of src/laws.rt promises.
 use Rattle.std.specs.Prelude.{◌≡◌, true, cond, ◌&&◌, Option, Some}
-use Rattle.sheet.specs.Kind as Kind
-use Rattle.coercion.specs.Data.{DataType, Rules}
+use Rattle.sheet.specs.declared.kind.TheConstants as Kind
+use Rattle.coercion.specs.Data.{DataType, is_list_question}
 use Rattle.coercion.specs.Same.{same_type}
 use Rattle.coercion.specs.Wrappers.{is_of}
 use Rattle.coercion.specs.Nested.{map_coercion}
 use Rattle.coercion.specs.Answers.{ask}
-use Rattle.buffers.specs.Plain.{is_list_question}
+use Rattle.coercion.specs.declared.Rules.{Rules}
 use Rattle.turns.specs.Turns.{map_rule, turns_of}
 
 -- What a question asks of two types is, where they are not equal (list) or alike (union and compare), what the merge's
@@ -19,5 +19,5 @@ SameAnswers =
 -- and the rule for two maps, by their entries, is the source's
 abbrev pub SameMaps : Type 0
 SameMaps =
-    (coerce : DataType → DataType → Option DataType) (l r : DataType) → (is_of Kind.map l && is_of Kind.map r) ≡ true
+    (coerce : DataType → DataType → Option DataType) (l r : DataType) → (is_of Kind.MAP l && is_of Kind.MAP r) ≡ true
     → map_rule coerce l r ≡ map_coercion coerce l r

@@ -2,28 +2,29 @@
 -- answers. `coerce` is the source's `coerce_fn`.
 use Rattle.std.specs.Prelude.{ℕ, cond, ◌&&◌, ◌||◌, eqb}
 use Rattle.std.specs.Prelude.{Option, None, Some}
-use Rattle.sheet.specs.Kind as Kind
-use Rattle.coercion.specs.Data.{DataType, Rules, or_else, and_then}
-use Rattle.coercion.specs.Data as Data
-use Rattle.coercion.specs.Kinds.{is_list}
+use Rattle.sheet.specs.declared.kind.TheConstants as Kind
+use Rattle.coercion.specs.Data.{DataType, or_else, and_then}
+use Rattle.sheet.specs.Kind.{is_list}
 use Rattle.coercion.specs.Wrappers.{is_of, wrapper_coercion}
 use Rattle.coercion.specs.Nested.{join_fields, list_shape, list_of, list_coercion, struct_coercion, map_coercion, entry_type, entry_of, map_shape}
 use Rattle.coercion.specs.Answers.{keep_dictionary, both_parts, run_ends_of, wrapped, list_struct}
+use Rattle.coercion.specs.declared.Question.{Question}
+use Rattle.coercion.specs.declared.Rules.{Rules}
 use Rattle.buffers.specs.Plain.{plain_rules}
 use Rattle.wrappers.specs.Walks.{way_of}
 
 -- the rule for two Structs
-abbrev pub struct_rule : Data.Question → (DataType → DataType → Option DataType) → DataType → DataType → Option DataType
-struct_rule Data.list coerce l r = list_struct coerce l r
-struct_rule Data.union coerce l r = struct_coercion coerce l r
-struct_rule Data.compare coerce l r = struct_coercion coerce l r
+abbrev pub struct_rule : Question → (DataType → DataType → Option DataType) → DataType → DataType → Option DataType
+struct_rule Question.List coerce l r = list_struct coerce l r
+struct_rule Question.Union coerce l r = struct_coercion coerce l r
+struct_rule Question.Compare coerce l r = struct_coercion coerce l r
 
 -- two types that are no wrappers
 unfoldable pub nested_of : Rules → (DataType → DataType → Option DataType) → DataType → DataType → Option DataType
 nested_of rules coerce l r =
     cond (is_list l.shape.kind && is_list r.shape.kind) (list_coercion coerce l r)
-    (cond (is_of Kind.struct l && is_of Kind.struct r) (struct_rule rules.question coerce l r)
-    (cond (is_of Kind.map l && is_of Kind.map r) (map_coercion coerce l r) (plain_rules rules l r)))
+    (cond (is_of Kind.STRUCT l && is_of Kind.STRUCT r) (struct_rule rules.question coerce l r)
+    (cond (is_of Kind.MAP l && is_of Kind.MAP r) (map_coercion coerce l r) (plain_rules rules l r)))
 
 -- two lists, and two maps
 abbrev pub list_rule : (DataType → DataType → Option DataType) → DataType → DataType → Option DataType
@@ -38,7 +39,7 @@ map_rule coerce l r =
 
 -- a wrapper of a kind about another value
 abbrev pub rewrap : ℕ → DataType → DataType → Option DataType
-rewrap k d t = cond (eqb k Kind.dictionary) (keep_dictionary d t) (run_ends_of d d.parts t)
+rewrap k d t = cond (eqb k Kind.DICTIONARY) (keep_dictionary d t) (run_ends_of d d.parts t)
 
 -- two wrappers, part by part, under the left's names and nullability
 abbrev pub both_wrapped : (DataType → DataType → Option DataType) → DataType → DataType → Option DataType
@@ -57,8 +58,8 @@ either_wrapped k coerce l r =
 -- a list's types that are not the same
 unfoldable pub resolved : Rules → (DataType → DataType → Option DataType) → DataType → DataType → Option DataType
 resolved rules coerce l r =
-    cond (is_of Kind.dictionary l || is_of Kind.dictionary r) (either_wrapped Kind.dictionary coerce l r)
-    (cond (is_of Kind.run_end_encoded l || is_of Kind.run_end_encoded r) (either_wrapped Kind.run_end_encoded coerce l r) (nested_of rules coerce l r))
+    cond (is_of Kind.DICTIONARY l || is_of Kind.DICTIONARY r) (either_wrapped Kind.DICTIONARY coerce l r)
+    (cond (is_of Kind.RUN_END_ENCODED l || is_of Kind.RUN_END_ENCODED r) (either_wrapped Kind.RUN_END_ENCODED coerce l r) (nested_of rules coerce l r))
 
 -- the one of the two rules for wrappers that is asked
 abbrev pub wrapper_rule : Rules → (DataType → DataType → Option DataType) → DataType → DataType → Option DataType
@@ -67,13 +68,13 @@ wrapper_rule rules coerce l r = wrapper_coercion (way_of rules.mask l r) coerce 
 -- two types of a union or a comparison that are not alike
 unfoldable pub unwrapped : Rules → (DataType → DataType → Option DataType) → DataType → DataType → Option DataType
 unwrapped rules coerce l r =
-    or_else (wrapper_coercion Kind.dictionary coerce l r) (or_else (wrapper_coercion Kind.run_end_encoded coerce l r) (nested_of rules coerce l r))
+    or_else (wrapper_coercion Kind.DICTIONARY coerce l r) (or_else (wrapper_coercion Kind.RUN_END_ENCODED coerce l r) (nested_of rules coerce l r))
 
 -- the turns of a question
-abbrev pub turns_for : Data.Question → Rules → (DataType → DataType → Option DataType) → DataType → DataType → Option DataType
-turns_for Data.list rules coerce l r = resolved rules coerce l r
-turns_for Data.union rules coerce l r = unwrapped rules coerce l r
-turns_for Data.compare rules coerce l r = unwrapped rules coerce l r
+abbrev pub turns_for : Question → Rules → (DataType → DataType → Option DataType) → DataType → DataType → Option DataType
+turns_for Question.List rules coerce l r = resolved rules coerce l r
+turns_for Question.Union rules coerce l r = unwrapped rules coerce l r
+turns_for Question.Compare rules coerce l r = unwrapped rules coerce l r
 
 abbrev pub turns_of : Rules → (DataType → DataType → Option DataType) → DataType → DataType → Option DataType
 turns_of rules coerce l r = turns_for rules.question rules coerce l r

@@ -15,7 +15,7 @@ use Rattle.buffers.specs.Region.{Held}
 use Rattle.buffers.specs.declared.Space.{Space}
 use Rattle.buffers.proofs.Frames.{Agree, span_frame, head_frame, holds_frame}
 use Rattle.buffers.proofs.Chained.{labels_sum, held_first, held_next}
-use Rattle.wrappers.specs.Ways.{is_wrapper}
+use Rattle.sheet.specs.Kind.{is_wrapper}
 use Rattle.wrappers.proofs.Cores.{two_parts}
 use Rattle.values.specs.Keeps.{core_of, with_core}
 use Rattle.values.proofs.Keeping.{by_test, core_bare, core_wrap, with_bare, with_wrap}

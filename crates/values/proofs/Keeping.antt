@@ -11,7 +11,7 @@ use native.Mathlib.Omega.{arith}
 use borrow.Author.Tests.{not-true, eq-eqb, ne_eqb, eqb-true}
 use lib.Dec.{eqb}
 use Rattle.std.proofs.lemmas.Bool.Decides.{nat_tests}
-use Rattle.sheet.specs.Kind.{is_kind, is_decimal, sized, last_unit, names_parts}
+use Rattle.sheet.specs.Kind.{is_kind, is_decimal, sized, last_unit, names_parts, is_wrapper}
 use Rattle.sheet.specs.Tests.{between}
 use Rattle.sheet.specs.Types.{Zone, present, Shape, Fields, end, field, arity}
 use Rattle.sheet.specs.Refusals.{figure_right, size_right, figures_right}
@@ -20,20 +20,20 @@ use Rattle.sheet.specs.Read.{label_at, zone_of}
 use Rattle.sheet.specs.Head.{head_at, zoned_in, zone_at, zone_len}
 use Rattle.sheet.specs.declared.Head.{Head}
 use Rattle.sheet.proofs.Tests.{never, and_fst, and_snd, all_at}
-use Rattle.coercion.specs.Data.{DataType, Rules, and_then, figures_of, of_unit, zoned}
-use Rattle.coercion.specs.Data as Data
+use Rattle.coercion.specs.Data.{DataType, and_then, figures_of, of_unit, zoned, for_list}
 use Rattle.coercion.specs.Same.{equal}
 use Rattle.coercion.specs.Times.{timeunit_coercion, zone_coercion, temporal_coercion_nonstrict_timezone}
 use Rattle.coercion.specs.Wrappers.{value_in}
 use Rattle.coercion.specs.Answers.{coercion, ask, wrapped, keep_dictionary, run_ends_of}
 use Rattle.coercion.proofs.Fuel.{coercion_asks}
 use Rattle.coercion.proofs.Sameness.{equal_same}
+use Rattle.coercion.specs.declared.Question.{Question}
+use Rattle.coercion.specs.declared.Rules.{Rules}
 use Rattle.buffers.specs.Goal.{type_of}
 use Rattle.buffers.specs.Region.{Held}
-use Rattle.buffers.specs.Plain.{rules_of, plain_rules}
+use Rattle.buffers.specs.Plain.{plain_rules}
 use Rattle.buffers.specs.Steps.{Figured, Reads, step_of}
 use Rattle.buffers.specs.Typed.{Typed}
-use Rattle.buffers.specs.declared.Question.TheVariants as Question
 use Rattle.buffers.specs.declared.Space.{Space}
 use Rattle.buffers.specs.declared.Step.{Step}
 use Rattle.buffers.proofs.Sources.{link_inside, read_shape}
@@ -41,7 +41,7 @@ use Rattle.buffers.proofs.Chained.{held_first, held_next}
 use Rattle.buffers.proofs.Fielding.{typed_reads}
 use Rattle.buffers.specs.Laws.{picked}
 use Rattle.buffers.proofs.Turns.{spoken}
-use Rattle.wrappers.specs.Ways.{is_wrapper, wrappers_of}
+use Rattle.wrappers.specs.Ways.{wrappers_of}
 use Rattle.wrappers.proofs.Cores.{missing, wrapper_is, two_parts, bare_wrappers, wrap_wrappers}
 use Rattle.wrappers.proofs.Values.{Two, typed_two, value_of}
 use Rattle.values.specs.declared.keep.Bottom.{Bottom}
@@ -203,9 +203,9 @@ step_view None l r u false h n m q e = missing q
 abbrev NoView : Option ℕ → Option DataType → Type 0
 NoView kind m = kind ≡ Some 37 → (t : DataType) → m ≡ Some t → t.shape.kind ≡ 27 → ⊥
 
-module _ (mask : ℕ) where
+module _ (given : Rules) where
   abbrev rules : Rules
-  rules = rules_of Question.List mask
+  rules = for_list given
 
   -- a type that is the candidate itself
   pub equal_kept : (t c : DataType) → equal t c ≡ true → coercion rules t c ≡ Some c
@@ -227,8 +227,8 @@ module _ (mask : ℕ) where
         go true h = absurd (n (ap (λ (t : DataType). t.shape.kind) (equal_same l r h)))
         go false h = refl
 
-    both_orders : (d : DataType) (m : Option DataType) → 32 ≤ d.shape.kind → ask Data.list rules (coercion rules) d x ≡ cond (equal d x) (Some d) m
-        → ask Data.list rules (coercion rules) x d ≡ cond (equal x d) (Some x) m → Both d m
+    both_orders : (d : DataType) (m : Option DataType) → 32 ≤ d.shape.kind → ask Question.List rules (coercion rules) d x ≡ cond (equal d x) (Some d) m
+        → ask Question.List rules (coercion rules) x d ≡ cond (equal x d) (Some x) m → Both d m
     unfolding Both
     both_orders d m h p q = (coercion_asks rules d x ∙ p ∙ unequal d x m (λ e. omega arith), coercion_asks rules x d ∙ q ∙ unequal x d m (λ e. omega arith))
 

@@ -4,11 +4,10 @@ use Rattle.std.specs.Prelude.{Option, None, Some}
 use Prim.Native.Nat.{ℕ, ◌+◌, ◌<◌, max}
 use native.Mathlib.Omega.{arith}
 use lib.Dec.{eqb, leb}
-use Rattle.sheet.specs.Kind as Kind
-use Rattle.sheet.specs.Kind.{is_decimal, cap}
+use Rattle.sheet.specs.declared.kind.TheConstants as Kind
+use Rattle.sheet.specs.Kind.{is_decimal, cap, is_numeric, is_integer, is_signed, is_string, is_date, is_time, is_span, one_is, with_kind}
 use Rattle.sheet.specs.Tests.{between}
-use Rattle.coercion.specs.Data.{DataType, Rules, Question, list, union, compare, may_become, figures_of, as_type, and_then}
-use Rattle.coercion.specs.Kinds.{is_numeric, is_integer, is_signed, is_string, is_date, is_time, is_span, one_is, with_kind}
+use Rattle.coercion.specs.Data.{DataType, may_become, figures_of, as_type, and_then}
 use Rattle.coercion.specs.Numbers.{decimal, digits_of, fraction_of, takes, wider_precision, same_figures, get_wider_decimal_type, get_wider_decimal_type_cross_variant, coerce_numeric_type_to_decimal, get_common_decimal_type, decimal_coercion, float_coercion, integer_coercion, numerical_coercion, binary_numeric_coercion}
 use Rattle.coercion.specs.Times.{is_time_with_valid_unit, temporal_coercion, temporal_coercion_nonstrict_timezone}
 use Rattle.coercion.specs.Strings.{is_long_string, is_binary_or_string, string_coercion, binary_coercion}
@@ -16,6 +15,8 @@ use Rattle.coercion.specs.Rules.{is_null, null_coercion, string_numeric_coercion
 use Rattle.coercion.specs.Answers.{of_kind_type, string_number}
 use Rattle.coercion.specs.declared.Figures.{Figures}
 use Rattle.coercion.proofs.Maybe.{If, ◌also◌, done, if_first, if_else, cond_is}
+use Rattle.coercion.specs.declared.Question.{Question}
+use Rattle.coercion.specs.declared.Rules.{Rules}
 use Rattle.buffers.specs.Plain.{plain_rules, string_time}
 
 abbrev pub Low : DataType → Type 0
@@ -56,16 +57,16 @@ unfolding numerical_coercion
 numerical_low k j =
     let P = If LowFigures in
     if_else LowFigures (float_coercion k j) (integer_coercion k j)
-    (cond_is P (one_is Kind.float64 k j) _ _ (omega arith)
-    (cond_is P (one_is Kind.float32 k j) _ _ (omega arith) (cond_is P (one_is Kind.float16 k j) _ _ (omega arith) tt)))
-    (cond_is P (with_kind Kind.uint64 is_signed k j) _ _ (omega arith)
-    (cond_is P (one_is Kind.uint64 k j) _ _ (omega arith)
-    (cond_is P (one_is Kind.int64 k j || with_kind Kind.uint32 (between Kind.int8 Kind.int32) k j) _ _ (omega arith)
-    (cond_is P (one_is Kind.uint32 k j) _ _ (omega arith)
-    (cond_is P (one_is Kind.int32 k j || with_kind Kind.uint16 (between Kind.int8 Kind.int16) k j) _ _ (omega arith)
-    (cond_is P (one_is Kind.uint16 k j) _ _ (omega arith)
-    (cond_is P (one_is Kind.int16 k j || with_kind Kind.uint8 (λ i. eqb i Kind.int8) k j) _ _ (omega arith)
-    (cond_is P (one_is Kind.int8 k j) _ _ (omega arith) (cond_is P (one_is Kind.uint8 k j) _ _ (omega arith) tt)))))))))
+    (cond_is P (one_is Kind.FLOAT64 k j) _ _ (omega arith)
+    (cond_is P (one_is Kind.FLOAT32 k j) _ _ (omega arith) (cond_is P (one_is Kind.FLOAT16 k j) _ _ (omega arith) tt)))
+    (cond_is P (with_kind Kind.UINT64 is_signed k j) _ _ (omega arith)
+    (cond_is P (one_is Kind.UINT64 k j) _ _ (omega arith)
+    (cond_is P (one_is Kind.INT64 k j || with_kind Kind.UINT32 (between Kind.INT8 Kind.INT32) k j) _ _ (omega arith)
+    (cond_is P (one_is Kind.UINT32 k j) _ _ (omega arith)
+    (cond_is P (one_is Kind.INT32 k j || with_kind Kind.UINT16 (between Kind.INT8 Kind.INT16) k j) _ _ (omega arith)
+    (cond_is P (one_is Kind.UINT16 k j) _ _ (omega arith)
+    (cond_is P (one_is Kind.INT16 k j || with_kind Kind.UINT8 (λ i. eqb i Kind.INT8) k j) _ _ (omega arith)
+    (cond_is P (one_is Kind.INT8 k j) _ _ (omega arith) (cond_is P (one_is Kind.UINT8 k j) _ _ (omega arith) tt)))))))))
 
 numeric_low : (l r : Figures) → LowFigures l → LowFigures r → If LowFigures (binary_numeric_coercion l r)
 unfolding binary_numeric_coercion
@@ -80,38 +81,38 @@ unfolding temporal_coercion
 times_low k j =
     let P = If LowFigures in
     cond_is P (is_span k && is_span j) _ _ (omega arith)
-    (cond_is P (with_kind Kind.date32 is_integer k j) _ _ (omega arith)
-    (cond_is P (with_kind Kind.date64 is_integer k j) _ _ (omega arith)
-    (cond_is P (with_kind Kind.date64 (λ i. eqb i Kind.date32) k j) _ _ (omega arith)
-    (cond_is P (with_kind Kind.date32 is_time k j || with_kind Kind.date64 is_time k j) _ _ (omega arith)
-    (cond_is P (with_kind Kind.timestamp is_date k j) _ _ (omega arith) tt)))))
+    (cond_is P (with_kind Kind.DATE32 is_integer k j) _ _ (omega arith)
+    (cond_is P (with_kind Kind.DATE64 is_integer k j) _ _ (omega arith)
+    (cond_is P (with_kind Kind.DATE64 (λ i. eqb i Kind.DATE32) k j) _ _ (omega arith)
+    (cond_is P (with_kind Kind.DATE32 is_time k j || with_kind Kind.DATE64 is_time k j) _ _ (omega arith)
+    (cond_is P (with_kind Kind.TIMESTAMP is_date k j) _ _ (omega arith) tt)))))
 
 string_low : (k j : ℕ) → If LowKind (string_coercion k j)
 unfolding string_coercion
 string_low k j =
     let P = If LowKind in
     cond_is P (is_string k && is_string j) _ _
-    (cond_is P (one_is Kind.utf8_view k j) _ _ (omega arith) (cond_is P (one_is Kind.large_utf8 k j) _ _ (omega arith) (omega arith))) tt
+    (cond_is P (one_is Kind.UTF8_VIEW k j) _ _ (omega arith) (cond_is P (one_is Kind.LARGE_UTF8 k j) _ _ (omega arith) (omega arith))) tt
 
 binary_low : (k j : ℕ) → If LowKind (binary_coercion k j)
 unfolding binary_coercion
 binary_low k j =
     let P = If LowKind in
-    cond_is P (eqb k Kind.binary && eqb j Kind.binary) _ _ (omega arith)
-    (cond_is P (eqb k Kind.large_binary && eqb j Kind.large_binary) _ _ (omega arith)
-    (cond_is P (eqb k Kind.binary_view && eqb j Kind.binary_view) _ _ (omega arith)
-    (cond_is P (with_kind Kind.binary_view (λ i. eqb i Kind.large_binary || is_binary_or_string i) k j) _ _ (omega arith)
-    (cond_is P (with_kind Kind.large_binary is_binary_or_string k j) _ _ (omega arith)
-    (cond_is P (with_kind Kind.binary is_long_string k j) _ _ (omega arith)
-    (cond_is P (with_kind Kind.binary (λ i. eqb i Kind.utf8) k j) _ _ (omega arith)
-    (cond_is P (with_kind Kind.binary (λ i. eqb i Kind.fixed_size_binary) k j) _ _ (omega arith)
-    (cond_is P (with_kind Kind.binary_view (λ i. eqb i Kind.fixed_size_binary) k j) _ _ (omega arith) tt))))))))
+    cond_is P (eqb k Kind.BINARY && eqb j Kind.BINARY) _ _ (omega arith)
+    (cond_is P (eqb k Kind.LARGE_BINARY && eqb j Kind.LARGE_BINARY) _ _ (omega arith)
+    (cond_is P (eqb k Kind.BINARY_VIEW && eqb j Kind.BINARY_VIEW) _ _ (omega arith)
+    (cond_is P (with_kind Kind.BINARY_VIEW (λ i. eqb i Kind.LARGE_BINARY || is_binary_or_string i) k j) _ _ (omega arith)
+    (cond_is P (with_kind Kind.LARGE_BINARY is_binary_or_string k j) _ _ (omega arith)
+    (cond_is P (with_kind Kind.BINARY is_long_string k j) _ _ (omega arith)
+    (cond_is P (with_kind Kind.BINARY (λ i. eqb i Kind.UTF8) k j) _ _ (omega arith)
+    (cond_is P (with_kind Kind.BINARY (λ i. eqb i Kind.FIXED_SIZE_BINARY) k j) _ _ (omega arith)
+    (cond_is P (with_kind Kind.BINARY_VIEW (λ i. eqb i Kind.FIXED_SIZE_BINARY) k j) _ _ (omega arith) tt))))))))
 
 module _ (l r : DataType) (h : Low l) (g : Low r) where
   temporal_low : If Low (temporal_coercion_nonstrict_timezone l r)
   unfolding temporal_coercion_nonstrict_timezone
   temporal_low =
-      cond_is (If Low) (eqb l.shape.kind Kind.timestamp && eqb r.shape.kind Kind.timestamp) _ (as_type (temporal_coercion l.shape.kind r.shape.kind)) (omega arith)
+      cond_is (If Low) (eqb l.shape.kind Kind.TIMESTAMP && eqb r.shape.kind Kind.TIMESTAMP) _ (as_type (temporal_coercion l.shape.kind r.shape.kind)) (omega arith)
       (as_low (temporal_coercion l.shape.kind r.shape.kind) (times_low l.shape.kind r.shape.kind))
 
   null_low : (mask : ℕ) → If Low (null_coercion mask l r)
@@ -125,16 +126,16 @@ module _ (l r : DataType) (h : Low l) (g : Low r) where
 
   number_low : (q : Question) → If Low (string_number q l r)
   unfolding string_numeric_coercion string_numeric_union_coercion
-  number_low list = either_low (is_numeric l.shape.kind && is_string r.shape.kind) (is_string l.shape.kind && is_numeric r.shape.kind)
-  number_low union = either_low (is_string l.shape.kind && is_numeric r.shape.kind) (is_numeric l.shape.kind && is_string r.shape.kind)
-  number_low compare = either_low (is_numeric l.shape.kind && is_string r.shape.kind) (is_string l.shape.kind && is_numeric r.shape.kind)
+  number_low Question.List = either_low (is_numeric l.shape.kind && is_string r.shape.kind) (is_string l.shape.kind && is_numeric r.shape.kind)
+  number_low Question.Union = either_low (is_string l.shape.kind && is_numeric r.shape.kind) (is_numeric l.shape.kind && is_string r.shape.kind)
+  number_low Question.Compare = either_low (is_numeric l.shape.kind && is_string r.shape.kind) (is_string l.shape.kind && is_numeric r.shape.kind)
 
 time_low : (t : DataType) → Low t → If Low (time_of_string t)
 time_low t h =
     let P = If Low in
     cond_is P (is_date t.shape.kind) _ _ h
     (cond_is P (is_time t.shape.kind) _ _ (cond_is P (is_time_with_valid_unit t.shape.kind t.shape.figure) _ _ h tt)
-    (cond_is P (eqb t.shape.kind Kind.timestamp) _ _ (omega arith) tt))
+    (cond_is P (eqb t.shape.kind Kind.TIMESTAMP) _ _ (omega arith) tt))
 
 string_temporal_low : (l r : DataType) → Low l → Low r → If Low (string_temporal_coercion l r)
 unfolding string_temporal_coercion
@@ -143,9 +144,9 @@ string_temporal_low l r h g =
     (cond_is (If Low) (is_string r.shape.kind) _ _ (time_low l h) tt)
 
 string_time_low : (q : Question) (l r : DataType) → Low l → Low r → If Low (string_time q l r)
-string_time_low list l r h g = tt
-string_time_low union l r h g = string_temporal_low l r h g
-string_time_low compare l r h g = string_temporal_low l r h g
+string_time_low Question.List l r h g = tt
+string_time_low Question.Union l r h g = string_temporal_low l r h g
+string_time_low Question.Compare l r h g = string_temporal_low l r h g
 
 pub plain_low : (rules : Rules) (l r : DataType) → Low l → Low r → If Low (plain_rules rules l r)
 unfolding plain_rules

@@ -12,10 +12,11 @@ use lib.Bits.{bit_or, or_shr, or_step}
 use lib.Dec.{eqb}
 use borrow.Author.Tests.{eq-eqb, ne_eqb, eqb-true}
 use Rattle.sheet.proofs.Tests.{and_fst, and_snd}
-use Rattle.coercion.specs.Data.{Rules, may_become}
+use Rattle.coercion.specs.Data.{may_become}
 use Rattle.coercion.specs.Same.{same_type}
 use Rattle.coercion.specs.Answers.{coercion}
 use Rattle.coercion.proofs.Tables.{at2}
+use Rattle.coercion.specs.declared.Rules.{Rules}
 use Rattle.values.specs.declared.value.Leaf.{Leaf}
 use Rattle.values.specs.Value.{leaf_type, Joins}
 use Rattle.values.specs.Taken.{is_bare, taken_kinds}

@@ -16,7 +16,7 @@ use Rattle.sheet.specs.Read.{shape_of}
 use Rattle.sheet.specs.Carried.{FieldsRight}
 use Rattle.sheet.specs.declared.Head.{Head}
 use Rattle.sheet.proofs.Tests.{and_fst, and_snd}
-use Rattle.coercion.specs.Data.{DataType, Rules, single}
+use Rattle.coercion.specs.Data.{DataType, single, is_list_question}
 use Rattle.coercion.specs.Same.{same_zone, same_shape, same_fields, same_type}
 use Rattle.coercion.specs.Answers.{coercion}
 use Rattle.coercion.specs.declared.Figures.{Figures}
@@ -24,7 +24,8 @@ use Rattle.coercion.proofs.Fuel.{coercion_asks}
 use Rattle.coercion.proofs.Maybe.{if_some}
 use Rattle.coercion.proofs.AnswersRight.{TypeRight, sound_right, coercion_right}
 use Rattle.coercion.proofs.PlainRight.{own_right}
-use Rattle.buffers.specs.Plain.{plain_rules, is_list_question}
+use Rattle.coercion.specs.declared.Rules.{Rules}
+use Rattle.buffers.specs.Plain.{plain_rules}
 use Rattle.buffers.specs.Steps.{Figured, step_of}
 use Rattle.buffers.specs.Typed.{Typed}
 use Rattle.buffers.specs.declared.Space.{Space}

@@ -2,18 +2,20 @@
 use Rattle.std.specs.Prelude.{◌≡◌, ℕ, ◌<◌, Bool, false, cond, ◌&&◌, List, eqb}
 use Rattle.std.specs.Prelude.{Option, None, Some}
 use Rattle.std.specs.List.{last_or}
-use Rattle.sheet.specs.Kind as Kind
+use Rattle.sheet.specs.declared.kind.TheConstants as Kind
 use Rattle.sheet.specs.Types.{Shape, Fields, end, field}
 use Rattle.sheet.specs.Head.{zoned_in}
 use Rattle.sheet.specs.declared.Head.{Head}
-use Rattle.coercion.specs.Data.{DataType, Rules, and_then}
+use Rattle.coercion.specs.Data.{DataType, and_then}
 use Rattle.coercion.specs.Answers.{coercion}
 use Rattle.coercion.specs.Times.{timeunit_coercion}
+use Rattle.coercion.specs.declared.Rules.{Rules}
 use Rattle.buffers.specs.Goal.{type_of}
 use Rattle.buffers.specs.Typed.{Typed}
 use Rattle.buffers.specs.declared.Space.{Space}
 use Rattle.buffers.specs.declared.Step.{Step}
-use Rattle.wrappers.specs.Ways.{is_wrapper, wrappers_of}
+use Rattle.sheet.specs.Kind.{is_wrapper}
+use Rattle.wrappers.specs.Ways.{wrappers_of}
 use Rattle.values.specs.declared.keep.Bottom.{Bottom}
 
 -- the core of a type: the value below all its wrappers
@@ -37,7 +39,7 @@ pub record CoreAlone (rules : Rules) (x c : DataType) : Type 0 where
 
 -- whether a step lays Utf8View
 abbrev pub lays_view : Option Step → Bool
-lays_view (Some (Step.Lay f)) = eqb f.kind Kind.utf8_view
+lays_view (Some (Step.Lay f)) = eqb f.kind Kind.UTF8_VIEW
 lays_view (Some (Step.Stamp unit)) = false
 lays_view (Some Step.Left) = false
 lays_view (Some Step.Right) = false
@@ -64,8 +66,8 @@ BottomIf space s None = Unit
 -- whether a core of kind k, in a wrapper of kind w if there is one, is Utf8View in a Dictionary
 abbrev pub gives_way : ℕ → Option ℕ → Bool
 gives_way k None = false
-gives_way k (Some w) = eqb k Kind.utf8_view && eqb w Kind.dictionary
+gives_way k (Some w) = eqb k Kind.UTF8_VIEW && eqb w Kind.DICTIONARY
 
 -- whether a Timestamp with a zone stays as it is to the left of a Timestamp
 abbrev pub stays_zoned : Head → Head → Bool
-stays_zoned x y = (eqb x.kind Kind.timestamp && zoned_in x) && (eqb y.kind Kind.timestamp && eqb (timeunit_coercion x.figure y.figure) x.figure)
+stays_zoned x y = (eqb x.kind Kind.TIMESTAMP && zoned_in x) && (eqb y.kind Kind.TIMESTAMP && eqb (timeunit_coercion x.figure y.figure) x.figure)

@@ -1,7 +1,7 @@
 -- The types that are known to leave a candidate as it is, by kind.
 use Rattle.std.specs.Prelude.{ℕ, ◌^◌, Bool, true, cond, ◌&&◌, ◌||◌, eqb}
 use Rattle.std.specs.Int.Bits.{bit_or}
-use Rattle.sheet.specs.Kind as Kind
+use Rattle.sheet.specs.declared.kind.TheConstants as Kind
 use Rattle.coercion.specs.Data.{may_become}
 use Rattle.coercion.specs.Same.{same_type}
 use Rattle.values.specs.declared.value.Leaf.{Leaf}
@@ -13,7 +13,7 @@ is_bare x = eqb x.figure 0 && (eqb x.scale 0 && eqb x.size 0)
 
 -- Null is skipped; another such type is known by its kind, one of the bits of a set
 abbrev pub is_taken : ℕ → Leaf → Bool
-is_taken kinds x = eqb x.kind Kind.null || (is_bare x && may_become kinds x.kind)
+is_taken kinds x = eqb x.kind Kind.NULL || (is_bare x && may_become kinds x.kind)
 
 -- the set, after a type was joined with the last candidate to the next
 abbrev pub taken_kinds : ℕ → Leaf → Leaf → Leaf → ℕ

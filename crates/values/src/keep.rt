@@ -2,19 +2,19 @@
 //! its core alone.
 
 ghost use Rattle.std.specs.Prelude.{◌≡◌, true, Some, ◌<◌};
-ghost use Rattle.coercion.specs.Data.{DataType};
+ghost use Rattle.coercion.specs.Data.{DataType, for_list};
 ghost use Rattle.coercion.specs.Answers.{coercion};
-ghost use Rattle.buffers.specs.Plain.{rules_of};
 ghost use Rattle.buffers.specs.Typed.{Typed};
 ghost use Rattle.values.specs.Value.{Valued};
 ghost use Rattle.values.specs.Keeps.{CoreAt, BottomAt, BottomIf, gives_way, stays_zoned, CoreAlone, lays_view};
 
 use crate::value::{Leaf, common_type, is_plain, leaf_of};
 use buffers::plain::plain;
-use buffers::{Question, Space, Step};
+use buffers::{Space, Step};
+use coercion::Rules;
 use rules::times::timeunit_coercion;
-use sheet::Head;
 use sheet::record::head_at;
+use sheet::{Head, kind};
 
 /// Where the walk down a type's wrappers ends: at the record of its core. The wrapper is the one
 /// directly around that, by its kind, if there is one.
@@ -32,7 +32,7 @@ fn bottom_at(s: &[u8], space: Space, r: usize) -> Bottom
     let mut wrapper = None;
     while core < space.n {
         let h = head_at(s, core);
-        if h.kind < 37 {
+        if h.kind < kind::DICTIONARY {
             return Bottom { core, wrapper };
         }
         let value = head_at(s, h.first).next;
@@ -57,15 +57,15 @@ pub fn bottom_of(second: &[u8], space: Space, known: Option<Bottom>) -> Bottom
 fn gives_way(v: Head, bottom: Bottom) -> bool
     ensures { result ≡ gives_way v.kind bottom.wrapper }
 {
-    v.kind == 27 && bottom.wrapper == Some(37)
+    v.kind == kind::UTF8_VIEW && bottom.wrapper == Some(kind::DICTIONARY)
 }
 
 // Whether the common type of two types without parts, in a list, is a third.
-fn is_common(mask: u64, x: Leaf, y: Leaf, z: Leaf) -> bool
+fn is_common(rules: Rules, x: Leaf, y: Leaf, z: Leaf) -> bool
     requires { (x.size < 4294967296) × (y.size < 4294967296) }
-    ensures { result ≡ true → (l r t : DataType) → Valued x l → Valued y r → Valued z t → coercion (rules_of Question.List mask) l r ≡ Some t }
+    ensures { result ≡ true → (l r t : DataType) → Valued x l → Valued y r → Valued z t → coercion (for_list rules) l r ≡ Some t }
 {
-    common_type(Question::List, mask, x, y) == Some(z)
+    common_type(rules.for_list(), x, y) == Some(z)
 }
 
 // Whether a Timestamp with a zone stays as it is to the left of a Timestamp: the zone is the
@@ -73,7 +73,10 @@ fn is_common(mask: u64, x: Leaf, y: Leaf, z: Leaf) -> bool
 fn stays_zoned(x: Head, y: Head) -> bool
     ensures { result ≡ stays_zoned x y }
 {
-    x.kind == 22 && x.zoned() && y.kind == 22 && timeunit_coercion(x.figure, y.figure) == x.figure
+    x.kind == kind::TIMESTAMP
+        && x.zoned()
+        && y.kind == kind::TIMESTAMP
+        && timeunit_coercion(x.figure, y.figure) == x.figure
 }
 
 /// Whether the candidate at record 1 of the second half, with this bottom, is known to stay as it
@@ -84,22 +87,22 @@ pub fn keeps(
     sheet: &[u8],
     second: &[u8],
     space: Space,
-    mask: u64,
+    rules: Rules,
     link: usize,
     bottom: Bottom,
 ) -> bool
-    ensures { result ≡ true → BottomAt space second.now 1 bottom → (x c : DataType) → Typed space sheet.now link x → Typed space second.now 1 c → coercion (rules_of Question.List mask) x c ≡ Some c }
+    ensures { result ≡ true → BottomAt space second.now 1 bottom → (x c : DataType) → Typed space sheet.now link x → Typed space second.now 1 c → coercion (for_list rules) x c ≡ Some c }
 {
     let x = head_at(sheet, link);
     let v = head_at(second, bottom.core);
-    let wrapped = 32 <= head_at(second, 1).kind;
+    let wrapped = kind::LIST <= head_at(second, 1).kind;
     if is_plain(x) && is_plain(v) {
         let new = leaf_of(x);
         let old = leaf_of(v);
         if wrapped {
-            !gives_way(v, bottom) && is_common(mask, old, new, old)
+            !gives_way(v, bottom) && is_common(rules, old, new, old)
         } else {
-            is_common(mask, new, old, old)
+            is_common(rules, new, old, old)
         }
     } else {
         wrapped && stays_zoned(v, x)
@@ -110,7 +113,7 @@ pub fn keeps(
 fn lays_view(step: Option<Step>) -> bool
     ensures { result ≡ lays_view step }
 {
-    matches!(step, Some(Step::Lay(f)) if f.kind == 27)
+    matches!(step, Some(Step::Lay(f)) if f.kind == kind::UTF8_VIEW)
 }
 
 /// Whether the candidate at record 1 of the second half, whose core is at record `core`, is known
@@ -121,18 +124,18 @@ pub fn is_core_alone(
     sheet: &[u8],
     second: &[u8],
     space: Space,
-    mask: u64,
+    rules: Rules,
     link: usize,
     core: usize,
 ) -> bool
-    ensures { result ≡ true → CoreAt space second.now 1 core → (x c : DataType) → Typed space sheet.now link x → Typed space second.now 1 c → CoreAlone (rules_of Question.List mask) x c }
+    ensures { result ≡ true → CoreAt space second.now 1 core → (x c : DataType) → Typed space sheet.now link x → Typed space second.now 1 c → CoreAlone (for_list rules) x c }
 {
     let x = head_at(sheet, link);
     let y = head_at(second, core);
-    32 <= head_at(second, 1).kind
-        && x.kind < 32
-        && y.kind < 32
-        && x.kind != 27
-        && y.kind != 27
-        && !lays_view(plain(Question::List, mask, y, x))
+    kind::LIST <= head_at(second, 1).kind
+        && x.kind < kind::LIST
+        && y.kind < kind::LIST
+        && x.kind != kind::UTF8_VIEW
+        && y.kind != kind::UTF8_VIEW
+        && !lays_view(plain(rules.for_list(), y, x))
 }

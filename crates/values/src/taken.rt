@@ -6,6 +6,7 @@ ghost use Rattle.values.specs.Taken.{is_bare, is_taken, taken_kinds};
 
 use crate::value::Leaf;
 use rules::sides::may_become;
+use sheet::kind;
 
 // Whether a type is wholly its kind.
 fn is_bare(x: Leaf) -> bool
@@ -20,7 +21,7 @@ pub fn is_taken(kinds: u64, x: Leaf) -> bool
     requires { x.kind < 32 }
     ensures { result ≡ is_taken kinds x }
 {
-    x.kind == 1 || is_bare(x) && may_become(kinds, x.kind)
+    x.kind == kind::NULL || is_bare(x) && may_become(kinds, x.kind)
 }
 
 /// The kinds that are known to leave the next candidate as it is, after type `x` was joined with

@@ -3,13 +3,12 @@
 ghost use Rattle.std.specs.Prelude.{◌≡◌, ◌<◌, Some, false};
 ghost use Rattle.sheet.specs.Bounds.{Bounded};
 ghost use Rattle.coercion.specs.Answers.{coercion};
-ghost use Rattle.buffers.specs.Plain.{rules_of};
 ghost use Rattle.values.specs.Value.{is_plain, leaf_of, figures_in, Says, Joins};
 
 use buffers::plain::plain_step;
-use buffers::{Question, Shape, Step};
-use coercion::Figures;
-use sheet::Head;
+use buffers::{Shape, Step};
+use coercion::{Figures, Rules};
+use sheet::{Head, kind};
 
 /// A type without parts, zone or order: figures, and bytes 4 to 7 of its record, which are the size
 /// of a FixedSizeBinary, and 0 elsewhere.
@@ -67,7 +66,7 @@ impl From<Leaf> for Shape {
 pub fn is_plain(h: Head) -> bool
     ensures { result ≡ is_plain h }
 {
-    h.kind < 32 && h.flags < 2
+    h.kind < kind::LIST && h.flags < 2
 }
 
 /// The type of such a head.
@@ -90,20 +89,20 @@ fn said_by(step: Step, x: Leaf, y: Leaf) -> Leaf
 {
     match step {
         Step::Lay(f) => Leaf::from(f),
-        Step::Stamp(unit) => Leaf::from(Figures::of_unit(22, unit)),
+        Step::Stamp(unit) => Leaf::from(Figures::of_unit(kind::TIMESTAMP, unit)),
         Step::Left => x,
         Step::Right => y,
     }
 }
 
 /// The common type of two such types, left then right: what `merge::Merger::coerce` writes of them.
-pub fn common_type(question: Question, mask: u64, x: Leaf, y: Leaf) -> Option<Leaf>
+pub fn common_type(rules: Rules, x: Leaf, y: Leaf) -> Option<Leaf>
     requires { (x.size < 4294967296) × (y.size < 4294967296) }
-    ensures { Joins (coercion (rules_of question mask)) x y result }
+    ensures { Joins (coercion rules) x y result }
 {
     if x == y {
         return Some(x);
     }
-    let step = plain_step(question, mask, Figures::from(x), Figures::from(y))?;
+    let step = plain_step(rules, Figures::from(x), Figures::from(y))?;
     Some(said_by(step, x, y))
 }

@@ -8,11 +8,11 @@ use Prim.Native.Nat.{ℕ}
 use native.Mathlib.Omega.{arith}
 use borrow.Author.Tests.{eqb-true}
 use Rattle.sheet.proofs.Tests.{or_fst, or_snd}
-use Rattle.coercion.specs.Data.{DataType, Rules, or_else}
+use Rattle.coercion.specs.Data.{DataType, or_else, is_list_question}
 use Rattle.coercion.specs.Same.{alike}
 use Rattle.coercion.specs.Wrappers.{is_of, wrapper_coercion}
 use Rattle.coercion.specs.Answers.{coercion}
-use Rattle.buffers.specs.Plain.{is_list_question}
+use Rattle.coercion.specs.declared.Rules.{Rules}
 use Rattle.buffers.specs.Typed.{Typed}
 use Rattle.buffers.specs.declared.Space.{Space}
 use Rattle.wrappers.specs.Ways.{may_merge, dictionary_may}

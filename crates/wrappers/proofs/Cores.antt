@@ -9,8 +9,8 @@ use Prim.Native.Nat.{ℕ, ◌+◌}
 use native.Mathlib.Omega.{arith}
 use lib.Dec.{eqb, leb}
 use borrow.Author.Tests.{eqb-true, leb-true}
-use Rattle.sheet.specs.Kind as Kind
-use Rattle.sheet.specs.Kind.{parts_right}
+use Rattle.sheet.specs.declared.kind.TheConstants as Kind
+use Rattle.sheet.specs.Kind.{parts_right, is_decimal, last_unit, sized, is_wrapper}
 use Rattle.sheet.specs.Tests.{between, all_of, implies}
 use Rattle.sheet.specs.Types.{Zone, absent, present, Shape, Fields, end, field, arity}
 use Rattle.sheet.specs.Refusals.{figure_right, size_right, figures_right}
@@ -20,7 +20,7 @@ use Rattle.coercion.specs.Data.{DataType, of_kind, plain}
 use Rattle.coercion.specs.Same.{same_shape, same_fields, same_type, alike}
 use Rattle.coercion.specs.Wrappers.{value_in}
 use Rattle.buffers.specs.Goal.{type_of}
-use Rattle.wrappers.specs.Ways.{is_wrapper, wrappers_of, core_kind}
+use Rattle.wrappers.specs.Ways.{wrappers_of, core_kind}
 
 pub missing : {A : Type 0} {t : DataType} → None ≡ Some t → A
 missing {t} e = absurd (none-some t e)
@@ -36,7 +36,7 @@ absent_is (present z) e = never (sym e)
 
 -- each wrapper on the way down has a value, and a Null at the end is the one that a sheet may carry
 pub data Whole : Shape → Fields → Type 0 where
-  bare : {s : Shape} {p : Fields} → is_wrapper s.kind ≡ false → (s.kind ≡ Kind.null → type_of s p ≡ plain (of_kind Kind.null)) → Whole s p
+  bare : {s : Shape} {p : Fields} → is_wrapper s.kind ≡ false → (s.kind ≡ Kind.NULL → type_of s p ≡ plain (of_kind Kind.NULL)) → Whole s p
   wrap : {s : Shape} {p : Fields} (v : DataType) → is_wrapper s.kind ≡ true → value_in p ≡ Some v → Whole v.shape v.parts → Whole s p
 
 -- the core
@@ -45,14 +45,14 @@ core_in {s} {p} (bare w e) = type_of s p
 core_in (wrap v w e h) = core_in h
 
 -- one of the two kinds
-pub wrapper_is : (k : ℕ) → is_wrapper k ≡ true → (k ≡ Kind.dictionary) ⊎ (k ≡ Kind.run_end_encoded)
+pub wrapper_is : (k : ℕ) → is_wrapper k ≡ true → (k ≡ Kind.DICTIONARY) ⊎ (k ≡ Kind.RUN_END_ENCODED)
 wrapper_is k h = go (eqb k 37) refl
   where
     go : (b : Bool) → eqb k 37 ≡ b → (k ≡ 37) ⊎ (k ≡ 38)
     go true e = inl (eqb-true k 37 e)
     go false e = inr (eqb-true k 38 (rw e at h))
 
-pub one_of_two : (b : Bool) → is_wrapper (cond b Kind.dictionary Kind.run_end_encoded) ≡ true
+pub one_of_two : (b : Bool) → is_wrapper (cond b Kind.DICTIONARY Kind.RUN_END_ENCODED) ≡ true
 one_of_two true = refl
 one_of_two false = refl
 
@@ -70,7 +70,7 @@ bare_core s (field n b s₁ p₁ end) h = refl
 bare_core s (field n b s₁ p₁ (field n₂ b₂ s₂ p₂ q)) h = rw h
 
 -- a Null that a sheet may carry
-module _ (s : Shape) (e : s.kind ≡ Kind.null) (p : Fields) (filled : parts_right s.kind (arity p) ≡ true)
+module _ (s : Shape) (e : s.kind ≡ Kind.NULL) (p : Fields) (filled : parts_right s.kind (arity p) ≡ true)
     (figures : figures_right s.kind s.figure s.scale s.size s.sorted (is_zoned s.zone) ≡ true)
   where
     no_parts : p ≡ end
@@ -84,8 +84,8 @@ module _ (s : Shape) (e : s.kind ≡ Kind.null) (p : Fields) (filled : parts_rig
     null_figures : figures_right 1 s.figure s.scale s.size s.sorted (is_zoned s.zone) ≡ true
     null_figures = subst (λ (k : ℕ). figures_right k s.figure s.scale s.size s.sorted (is_zoned s.zone) ≡ true) e figures
 
-    pub null_plain : type_of s p ≡ plain (of_kind Kind.null)
-    unfolding figures_right figure_right size_right between all_of Kind.is_decimal Kind.last_unit Kind.sized
+    pub null_plain : type_of s p ≡ plain (of_kind Kind.NULL)
+    unfolding figures_right figure_right size_right between all_of is_decimal last_unit sized
     null_plain =
         let tests = figure_right 1 s.figure s.scale ∷ size_right 1 s.size ∷ implies s.sorted false ∷ implies (is_zoned s.zone) false ∷ [] in
         let own = leb s.figure 0 ∷ eqb s.scale 0 ∷ [] in

@@ -6,12 +6,12 @@ use mathlib.Core.Logic.{◌⊎◌, inl, inr, ⊎_swap}
 use Rattle.std.specs.Prelude.{Option, None, Some}
 use Prim.Native.Nat.{ℕ}
 use lib.Dec.{eqb}
-use Rattle.sheet.specs.Kind as Kind
+use Rattle.sheet.specs.declared.kind.TheConstants as Kind
 use Rattle.sheet.specs.Tests.{between}
 use Rattle.sheet.specs.Types.{arity}
 use Rattle.sheet.proofs.Tests.{never, or_fst, or_snd}
-use Rattle.coercion.specs.Data.{DataType, Question, list, union, compare, Rules, or_else, first_of, figures_of, as_type}
-use Rattle.coercion.specs.Kinds.{is_numeric, is_integer, is_string, is_date, is_time, is_span, is_list, with_kind}
+use Rattle.coercion.specs.Data.{DataType, or_else, first_of, figures_of, as_type, is_list_question}
+use Rattle.sheet.specs.Kind.{is_numeric, is_integer, is_string, is_date, is_time, is_span, is_list, with_kind}
 use Rattle.coercion.specs.Same.{alike}
 use Rattle.coercion.specs.Strings.{is_long_string, is_binary_or_string, string_coercion, binary_coercion}
 use Rattle.coercion.specs.Times.{temporal_coercion, temporal_coercion_nonstrict_timezone}
@@ -22,14 +22,15 @@ use Rattle.coercion.specs.Nested.{list_coercion, struct_coercion, map_coercion}
 use Rattle.coercion.specs.Answers.{of_kind_type, string_number, pair_rules, ask, coercion}
 use Rattle.coercion.proofs.Fuel.{coercion_asks}
 use Rattle.coercion.proofs.Words.{or_none}
-use Rattle.buffers.specs.Plain.{is_list_question}
+use Rattle.coercion.specs.declared.Question.{Question}
+use Rattle.coercion.specs.declared.Rules.{Rules}
 
 abbrev pub Foreign : ℕ → Type 0
-Foreign k = (k ≡ Kind.null) ⊎ ((k ≡ Kind.dictionary) ⊎ (k ≡ Kind.run_end_encoded))
+Foreign k = (k ≡ Kind.NULL) ⊎ ((k ≡ Kind.DICTIONARY) ⊎ (k ≡ Kind.RUN_END_ENCODED))
 
 -- a test of kinds that holds for none of them
 abbrev Blind : (ℕ → Bool) → Type 0
-Blind f = f Kind.null || (f Kind.dictionary || f Kind.run_end_encoded) ≡ false
+Blind f = f Kind.NULL || (f Kind.DICTIONARY || f Kind.RUN_END_ENCODED) ≡ false
 
 blind_at : (f : ℕ → Bool) → Blind f → (k : ℕ) → Foreign k → f k ≡ false
 blind_at f b k (inl e) = ap f e ∙ or_fst (f 1) _ b
@@ -85,9 +86,9 @@ module _ (l r : DataType) (one : Foreign l.shape.kind ⊎ Foreign r.shape.kind) 
   number q = go q (both_fail k j one is_numeric is_string refl refl) (both_fail k j one is_string is_numeric refl refl)
     where
       go : (q : Question) → is_numeric k && is_string j ≡ false → is_string k && is_numeric j ≡ false → string_number q l r ≡ None
-      go list n s = rw (n, s)
-      go union n s = rw (s, n)
-      go compare n s = rw (n, s)
+      go Question.List n s = rw (n, s)
+      go Question.Union n s = rw (s, n)
+      go Question.Compare n s = rw (n, s)
 
   binary : of_kind_type (binary_coercion k j) ≡ None
   unfolding binary_coercion between
@@ -133,15 +134,15 @@ time l r one = rw (match_none l r one) (match_none r l (⊎_swap one))
 pub foreign_asks : (rules : Rules) → is_list_question rules.question ≡ false → (l r : DataType) → Foreign l.shape.kind ⊎ Foreign r.shape.kind
     → coercion rules l r
     ≡ or_else (cond (alike l r) (Some l) None)
-    (or_else (wrapper_coercion Kind.dictionary (coercion rules) l r)
-    (or_else (wrapper_coercion Kind.run_end_encoded (coercion rules) l r) (null_coercion rules.mask l r)))
+    (or_else (wrapper_coercion Kind.DICTIONARY (coercion rules) l r)
+    (or_else (wrapper_coercion Kind.RUN_END_ENCODED (coercion rules) l r) (null_coercion rules.mask l r)))
 unfolding first_of
 foreign_asks rules pairs l r one = coercion_asks rules l r ∙ asked rules.question pairs ∙ left
   where
     asked : (q : Question) → is_list_question q ≡ false → ask q rules (coercion rules) l r ≡ first_of (pair_rules rules (coercion rules) l r)
-    asked list h = never (sym h)
-    asked union h = refl
-    asked compare h = refl
+    asked Question.List h = never (sym h)
+    asked Question.Union h = refl
+    asked Question.Compare h = refl
 
     left : first_of (pair_rules rules (coercion rules) l r)
         ≡ or_else (cond (alike l r) (Some l) None)

@@ -7,10 +7,11 @@ use Prim.Native.Nat.{ℕ}
 use native.Mathlib.Omega.{arith}
 use lib.Dec.{eqb}
 use borrow.Author.Tests.{eqb-true, eqb-false, eq-eqb, ne_eqb}
-use Rattle.sheet.specs.Kind as Kind
+use Rattle.sheet.specs.declared.kind.TheConstants as Kind
 use Rattle.coercion.specs.Data.{DataType, may_become}
 use Rattle.coercion.specs.Wrappers.{value_in, is_of}
-use Rattle.wrappers.specs.Ways.{is_wrapper, wrappers_of, core_kind, is_null_core, meets, may_merge, dictionary_may, hint_of, wrappers_may, Hint, value_else, without}
+use Rattle.sheet.specs.Kind.{is_wrapper}
+use Rattle.wrappers.specs.Ways.{wrappers_of, core_kind, is_null_core, meets, may_merge, dictionary_may, hint_of, wrappers_may, Hint, value_else, without}
 use Rattle.wrappers.specs.Walks.{crosses, way_of}
 use Rattle.wrappers.proofs.Meeting.{meets_off, judged, judged_turned, judged_same, judged_cross}
 use Rattle.wrappers.proofs.Cores.{one_of_two, wrap_wrappers, wrap_core}
@@ -135,18 +136,18 @@ hint_off : (mask hint : ℕ) (l r : DataType) (k : ℕ) → is_wrapper k ≡ tru
     → (hint ≡ hint_of mask (core (without k l)) (core (without k r))) × (may_merge mask (without k l) (without k r) ≡ true)
 hint_off mask hint l r k w e h = (e ∙ ap₂ (hint_of mask) (sym (without_core k w l)) (sym (without_core k w r)), h)
 
-dictionary_wraps : (t : DataType) → is_of Kind.dictionary t ≡ true → is_wrapper t.shape.kind ≡ true
+dictionary_wraps : (t : DataType) → is_of Kind.DICTIONARY t ≡ true → is_wrapper t.shape.kind ≡ true
 dictionary_wraps t e = rw e
 
-runs_wrap : (t : DataType) → is_of Kind.run_end_encoded t ≡ true → is_wrapper t.shape.kind ≡ true
+runs_wrap : (t : DataType) → is_of Kind.RUN_END_ENCODED t ≡ true → is_wrapper t.shape.kind ≡ true
 runs_wrap t e = rw (runs_only t e) e
 
-crossed_apart : (l r : DataType) → is_of Kind.dictionary l ≡ true → is_of Kind.run_end_encoded r ≡ true → eqb l.shape.kind r.shape.kind ≡ false
+crossed_apart : (l r : DataType) → is_of Kind.DICTIONARY l ≡ true → is_of Kind.RUN_END_ENCODED r ≡ true → eqb l.shape.kind r.shape.kind ≡ false
 crossed_apart l r el er = rw (eqb-true l.shape.kind 37 el, eqb-true r.shape.kind 38 er) refl
 
 -- the wrapper that comes off where a Dictionary on the left meets run ends
-off_may : (mask : ℕ) (l r v w : DataType) → is_of Kind.dictionary l ≡ true → is_of Kind.run_end_encoded r ≡ true → value_in l.parts ≡ Some v → value_in r.parts ≡ Some w → (b : Bool)
-    → b ≡ may_merge mask v r → may_merge mask l r ≡ true → may_merge mask (without (cond b Kind.dictionary Kind.run_end_encoded) l) (without (cond b Kind.dictionary Kind.run_end_encoded) r) ≡ true
+off_may : (mask : ℕ) (l r v w : DataType) → is_of Kind.DICTIONARY l ≡ true → is_of Kind.RUN_END_ENCODED r ≡ true → value_in l.parts ≡ Some v → value_in r.parts ≡ Some w → (b : Bool)
+    → b ≡ may_merge mask v r → may_merge mask l r ≡ true → may_merge mask (without (cond b Kind.DICTIONARY Kind.RUN_END_ENCODED) l) (without (cond b Kind.DICTIONARY Kind.RUN_END_ENCODED) r) ≡ true
 off_may mask l r v w el er ev ew true e h = rw (el, ev, runs_only r er) (sym e)
 off_may mask l r v w el er ev ew false e h =
     rw (dictionary_only l el, er, ew)
@@ -157,7 +158,7 @@ off_may mask l r v w el er ev ew false e h =
 pub record Crossing (mask : ℕ) (l r : DataType) (b : Bool) : Type 0 where
   pub both : crosses l r ≡ true
   pub is : may_merge mask l r ≡ true → b ≡ dictionary_may mask l r
-  pub on : may_merge mask l r ≡ true → may_merge mask (without (cond b Kind.dictionary Kind.run_end_encoded) l) (without (cond b Kind.dictionary Kind.run_end_encoded) r) ≡ true
+  pub on : may_merge mask l r ≡ true → may_merge mask (without (cond b Kind.DICTIONARY Kind.RUN_END_ENCODED) l) (without (cond b Kind.DICTIONARY Kind.RUN_END_ENCODED) r) ≡ true
 
 -- a Dictionary and run ends, by what their cores leave to be asked
 module _ (mask : ℕ) (l r : DataType) {h : ℕ} (eh : h ≡ cond (may_merge mask l r) (hint_of mask (core l) (core r)) 0) where
@@ -167,7 +168,7 @@ module _ (mask : ℕ) (l r : DataType) {h : ℕ} (eh : h ≡ cond (may_merge mas
   -- either the Dictionary comes off, or the run ends do
   module _ {b : Bool} (c : Crossing mask l r b) where
     abbrev kind : ℕ
-    kind = cond (eqb h 0) 0 (cond b Kind.dictionary Kind.run_end_encoded)
+    kind = cond (eqb h 0) 0 (cond b Kind.DICTIONARY Kind.RUN_END_ENCODED)
 
     pub cross_is : kind ≡ way_of mask l r
     unfolding way_of
@@ -186,7 +187,7 @@ module _ (mask : ℕ) (l r : DataType) {h : ℕ} (eh : h ≡ cond (may_merge mas
 
   module _ (v w : DataType) (ev : value_in l.parts ≡ Some v) (ew : value_in r.parts ≡ Some w) {b : Bool} where
     -- a Dictionary on the left
-    pub left_crossing : is_of Kind.dictionary l ≡ true → is_of Kind.run_end_encoded r ≡ true → b ≡ cond (eqb h 2) (met mask v r) true → Crossing mask l r b
+    pub left_crossing : is_of Kind.DICTIONARY l ≡ true → is_of Kind.RUN_END_ENCODED r ≡ true → b ≡ cond (eqb h 2) (met mask v r) true → Crossing mask l r b
     unfolding dictionary_may
     left_crossing el er eb = record { both = rw (el, er); is = λ m. is m ∙ rw (el, ev) refl; on = λ m. off_may mask l r v w el er ev ew b (is m) m }
       where
@@ -196,7 +197,7 @@ module _ (mask : ℕ) (l r : DataType) {h : ℕ} (eh : h ≡ cond (may_merge mas
             ∙ sym (left_may mask l r v w (dictionary_wraps l el) (runs_wrap r er) ev ew (crossed_apart l r el er) m)
 
     -- a Dictionary on the right
-    pub right_crossing : is_of Kind.run_end_encoded l ≡ true → is_of Kind.dictionary r ≡ true → b ≡ cond (eqb h 3) (met mask w l) true → Crossing mask l r b
+    pub right_crossing : is_of Kind.RUN_END_ENCODED l ≡ true → is_of Kind.DICTIONARY r ≡ true → b ≡ cond (eqb h 3) (met mask w l) true → Crossing mask l r b
     unfolding dictionary_may
     right_crossing el er eb =
         record {

@@ -6,7 +6,7 @@ use mathlib.Core.List.{List, [], ◌∷◌}
 use Prim.Native.Nat.{ℕ}
 use lib.Dec.{eqb}
 use borrow.Author.Tests.{eq-eqb, ne_eqb, eqb-false}
-use Rattle.sheet.specs.Kind as Kind
+use Rattle.sheet.specs.declared.kind.TheConstants as Kind
 use Rattle.sheet.proofs.Tests.{never}
 use Rattle.coercion.specs.Data.{may_become}
 use Rattle.coercion.proofs.Maybe.{cond_when}
@@ -58,13 +58,13 @@ module _ (mask : ℕ) where
   -- what the kinds of two cores and the wrappers about them tell, where neither is Null the answer for the cores
   unfoldable pub judged : Bool → ℕ → List ℕ → ℕ → List ℕ → Bool
   judged answer a ks b ns =
-      cond (eqb a Kind.null) (cond (eqb b Kind.null) true (may_become mask b || meets mask ns ks))
-      (cond (eqb b Kind.null) (may_become mask a || meets mask ks ns) answer)
+      cond (eqb a Kind.NULL) (cond (eqb b Kind.NULL) true (may_become mask b || meets mask ns ks))
+      (cond (eqb b Kind.NULL) (may_become mask a || meets mask ks ns) answer)
 
   module _ (answer : Bool) (a : ℕ) (ks : List ℕ) (b : ℕ) (ns : List ℕ) where
     pub judged_turned : judged answer a ks b ns ≡ judged answer b ns a ks
     unfolding judged
-    judged_turned = go (eqb a Kind.null) (eqb b Kind.null) _ _ _
+    judged_turned = go (eqb a Kind.NULL) (eqb b Kind.NULL) _ _ _
       where
         go : (p q x y z : Bool) → cond p (cond q true x) (cond q y z) ≡ cond q (cond p true y) (cond p x z)
         go true true x y z = refl
@@ -80,7 +80,7 @@ module _ (mask : ℕ) where
     unfolding judged
     judged_cross k n e =
         rw (meets_cross k n ks ns e, meets_cross n k ns ks (ne_eqb n k (λ q. eqb-false k n e (sym q))))
-        (go (eqb a Kind.null) (eqb b Kind.null) (may_become mask a) (may_become mask b) (meets mask ns (k ∷ ks)) (meets mask (n ∷ ns) ks) (meets mask ks (n ∷ ns)) _ answer)
+        (go (eqb a Kind.NULL) (eqb b Kind.NULL) (may_become mask a) (may_become mask b) (meets mask ns (k ∷ ks)) (meets mask (n ∷ ns) ks) (meets mask ks (n ∷ ns)) _ answer)
       where
         twice : (u x y : Bool) → u || (x || y) ≡ (u || x) || (u || y)
         twice true x y = refl
@@ -103,9 +103,9 @@ module _ (mask : ℕ) where
         go false false u v x y z w false = refl
 
     -- a wrapper less, where the other is its core
-    pub judged_bare : (k : ℕ) → judged answer a (k ∷ ks) b [] ≡ judged answer a ks b [] || (eqb b Kind.null && may_become mask k)
+    pub judged_bare : (k : ℕ) → judged answer a (k ∷ ks) b [] ≡ judged answer a ks b [] || (eqb b Kind.NULL && may_become mask k)
     unfolding judged meets
-    judged_bare k = rw (none_met ks) (go (eqb a Kind.null) (eqb b Kind.null) (may_become mask a) (may_become mask b) (may_become mask k) (allows mask ks) answer)
+    judged_bare k = rw (none_met ks) (go (eqb a Kind.NULL) (eqb b Kind.NULL) (may_become mask a) (may_become mask b) (may_become mask k) (allows mask ks) answer)
       where
         go : (p q u v x y h : Bool)
             → cond p (cond q true (v || false)) (cond q (u || (x || y)) h) ≡ cond p (cond q true (v || false)) (cond q (u || y) h) || (q && x)
@@ -120,16 +120,16 @@ module _ (mask : ℕ) where
         go false false u v x y true = refl
         go false false u v x y false = refl
 
-  pub judged_core : (answer : Bool) (a b : ℕ) (ns : List ℕ) (k : ℕ) → judged answer a [] b (k ∷ ns) ≡ judged answer a [] b ns || (eqb a Kind.null && may_become mask k)
+  pub judged_core : (answer : Bool) (a b : ℕ) (ns : List ℕ) (k : ℕ) → judged answer a [] b (k ∷ ns) ≡ judged answer a [] b ns || (eqb a Kind.NULL && may_become mask k)
   judged_core answer a b ns k =
       judged_turned answer a [] b (k ∷ ns) ∙ judged_bare answer b ns a [] k
-      ∙ ap (λ (t : Bool). t || (eqb a Kind.null && may_become mask k)) (judged_turned answer b ns a [])
+      ∙ ap (λ (t : Bool). t || (eqb a Kind.NULL && may_become mask k)) (judged_turned answer b ns a [])
 
   -- what wrappers and Nulls rule out, no answer for the cores brings back
   module _ (answer : Bool) (a : ℕ) (ks : List ℕ) (b : ℕ) (ns : List ℕ) where
     pub judged_refused : judged true a ks b ns ≡ false → judged answer a ks b ns ≡ false
     unfolding judged
-    judged_refused = go (eqb a Kind.null) (eqb b Kind.null) _ _
+    judged_refused = go (eqb a Kind.NULL) (eqb b Kind.NULL) _ _
       where
         go : (p q x y : Bool) → cond p (cond q true x) (cond q y true) ≡ false → cond p (cond q true x) (cond q y answer) ≡ false
         go true true x y h = h
@@ -140,7 +140,7 @@ module _ (mask : ℕ) where
     -- and where they rule out nothing, the cores have none, whatever stands about them
     pub judged_spent : (is js : List ℕ) → judged true a ks b ns ≡ true → judged answer a ks b ns ≡ false → judged answer a is b js ≡ false
     unfolding judged
-    judged_spent is js = go (eqb a Kind.null) (eqb b Kind.null) _ _ _ _
+    judged_spent is js = go (eqb a Kind.NULL) (eqb b Kind.NULL) _ _ _ _
       where
         go : (p q x y z w : Bool) → cond p (cond q true x) (cond q y true) ≡ true → cond p (cond q true x) (cond q y answer) ≡ false
             → cond p (cond q true z) (cond q w answer) ≡ false

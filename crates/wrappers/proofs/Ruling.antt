@@ -8,9 +8,10 @@ use Prim.Native.Nat.{ℕ}
 use lib.Dec.{eqb}
 use Rattle.sheet.specs.Types.{end}
 use Rattle.sheet.specs.Carried.{FieldsRight}
-use Rattle.coercion.specs.Data.{DataType, single, Rules, or_else}
+use Rattle.coercion.specs.Data.{DataType, single, or_else}
 use Rattle.coercion.specs.Wrappers.{is_of, wrapper_coercion}
 use Rattle.coercion.specs.Answers.{coercion}
+use Rattle.coercion.specs.declared.Rules.{Rules}
 use Rattle.wrappers.specs.Ways.{is_null_core, may_merge, dictionary_may}
 use Rattle.wrappers.specs.Laws.{OneWay, DictionaryFirst}
 use Rattle.wrappers.proofs.Cores.{Whole, whole, core_kind_lem, inner}

@@ -7,9 +7,9 @@ use Rattle.std.specs.Prelude.{Option, None, Some}
 use Prim.Native.Nat.{ℕ}
 use lib.Dec.{eqb}
 use borrow.Author.Tests.{eqb-true, eqb-false, eq-eqb}
-use Rattle.sheet.specs.Kind as Kind
+use Rattle.sheet.specs.declared.kind.TheConstants as Kind
 use Rattle.sheet.proofs.Tests.{never, or_fst, or_snd}
-use Rattle.coercion.specs.Data.{DataType, Question, list, union, compare, Rules, may_become, or_else}
+use Rattle.coercion.specs.Data.{DataType, may_become, or_else, is_list_question}
 use Rattle.coercion.specs.Same.{equal, alike}
 use Rattle.coercion.specs.Rules.{is_null, null_coercion}
 use Rattle.coercion.specs.Wrappers.{value_in, is_of, wrapper_coercion}
@@ -17,8 +17,9 @@ use Rattle.coercion.specs.Answers.{coercion}
 use Rattle.coercion.proofs.Sameness.{equal_same, equal_self, alike_nameless}
 use Rattle.coercion.specs.Columns.{Pairs, of_union, of_compare}
 use Rattle.coercion.proofs.Words.{alike_left, equal_left}
-use Rattle.buffers.specs.Plain.{is_list_question}
-use Rattle.wrappers.specs.Ways.{is_wrapper}
+use Rattle.coercion.specs.declared.Question.{Question}
+use Rattle.coercion.specs.declared.Rules.{Rules}
+use Rattle.sheet.specs.Kind.{is_wrapper}
 use Rattle.wrappers.proofs.Cores.{alike_values}
 use Rattle.wrappers.proofs.Foreign.{Foreign, foreign_asks}
 
@@ -75,8 +76,8 @@ alike_apart l r n = go (alike l r) refl
 
 -- the two kinds of wrappers, either first
 pub data Kinds : ℕ → ℕ → Type 0 where
-  dictionary_first : Kinds Kind.dictionary Kind.run_end_encoded
-  run_ends_first : Kinds Kind.run_end_encoded Kind.dictionary
+  dictionary_first : Kinds Kind.DICTIONARY Kind.RUN_END_ENCODED
+  run_ends_first : Kinds Kind.RUN_END_ENCODED Kind.DICTIONARY
 
 kinds_foreign : {k j : ℕ} → Kinds k j → Foreign k
 kinds_foreign dictionary_first = inr (inl refl)
@@ -90,7 +91,7 @@ kinds_turned : {k j : ℕ} → Kinds k j → Kinds j k
 kinds_turned dictionary_first = run_ends_first
 kinds_turned run_ends_first = dictionary_first
 
-no_null : {k j : ℕ} → Kinds k j → eqb k Kind.null ≡ false
+no_null : {k j : ℕ} → Kinds k j → eqb k Kind.NULL ≡ false
 no_null dictionary_first = refl
 no_null run_ends_first = refl
 
@@ -100,9 +101,9 @@ kinds_bare dictionary_first i h = or_fst (eqb i 37) _ h
 kinds_bare run_ends_first i h = or_snd (eqb i 37) (eqb i 38) h
 
 pairs_of : (q : Question) → is_list_question q ≡ false → Pairs q
-pairs_of list h = never (sym h)
-pairs_of union h = of_union
-pairs_of compare h = of_compare
+pairs_of Question.List h = never (sym h)
+pairs_of Question.Union h = of_union
+pairs_of Question.Compare h = of_compare
 
 module _ (rules : Rules) (pairs : is_list_question rules.question ≡ false) where
   -- whether two types have a common type

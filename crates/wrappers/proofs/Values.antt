@@ -7,7 +7,7 @@ use Prim.Native.Nat.{ℕ, ◌<◌, ◌≤◌}
 use native.Mathlib.Omega.{arith}
 use lib.ListN.{length, length-append}
 use lib.Dec.{eqb}
-use Rattle.sheet.specs.Kind.{parts_right}
+use Rattle.sheet.specs.Kind.{parts_right, is_wrapper}
 use Rattle.sheet.specs.Types.{Shape, Fields, end, field, arity, count, zone_bytes, labels}
 use Rattle.sheet.specs.Head.{head_at}
 use Rattle.sheet.specs.declared.Head.{Head}
@@ -20,7 +20,6 @@ use Rattle.buffers.specs.declared.Space.{Space}
 use Rattle.buffers.proofs.Chained.{held_first, labels_sum}
 use Rattle.buffers.proofs.Rows.{chain_typed, chain_next}
 use Rattle.buffers.proofs.Fielding.{typed_reads}
-use Rattle.wrappers.specs.Ways.{is_wrapper}
 use Rattle.wrappers.proofs.Cores.{two_parts}
 
 -- the sides of a pair, the other way round

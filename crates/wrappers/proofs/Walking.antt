@@ -15,7 +15,8 @@ use Rattle.buffers.specs.Typed.{Typed}
 use Rattle.buffers.specs.declared.Space.{Space}
 use Rattle.buffers.proofs.Steps.{kind_low, reads_figured}
 use Rattle.buffers.proofs.Fielding.{typed_reads}
-use Rattle.wrappers.specs.Ways.{is_wrapper, wrappers_of, core_kind, allows, meets, may_merge, hint_of, wrappers_may, Hint, without}
+use Rattle.sheet.specs.Kind.{is_wrapper}
+use Rattle.wrappers.specs.Ways.{wrappers_of, core_kind, allows, meets, may_merge, hint_of, wrappers_may, Hint, without}
 use Rattle.std.specs.Prelude.{Option, None, IfSome, unwrap_or}
 use Rattle.std.specs.Bool.{then_some}
 use Rattle.wrappers.specs.Walks.{Core, Tells, TellsBoth, Learns, way_of, kind_in, hint_in, Way}

@@ -8,17 +8,18 @@ use Rattle.std.specs.Prelude.{Option, None, Some}
 use Prim.Native.Nat.{ℕ}
 use lib.Dec.{eqb}
 use borrow.Author.Tests.{eqb-true, eqb-false}
-use Rattle.sheet.specs.Kind as Kind
+use Rattle.sheet.specs.declared.kind.TheConstants as Kind
 use Rattle.sheet.specs.Types.{Shape, Fields}
 use Rattle.sheet.proofs.Tests.{and_fst, and_snd, or_fst, or_snd}
-use Rattle.coercion.specs.Data.{DataType, Rules, may_become, or_else, of_kind, plain}
+use Rattle.coercion.specs.Data.{DataType, may_become, or_else, of_kind, plain, is_list_question}
 use Rattle.coercion.specs.Wrappers.{value_in, is_of, wrapper_coercion}
 use Rattle.coercion.specs.Answers.{coercion}
 use Rattle.coercion.proofs.Sameness.{equal_self}
 use Rattle.coercion.proofs.Words.{equal_left, or_none}
+use Rattle.coercion.specs.declared.Rules.{Rules}
 use Rattle.buffers.specs.Goal.{type_of}
-use Rattle.buffers.specs.Plain.{is_list_question}
-use Rattle.wrappers.specs.Ways.{is_wrapper, wrappers_of, core_kind, meets, may_merge, dictionary_may}
+use Rattle.sheet.specs.Kind.{is_wrapper}
+use Rattle.wrappers.specs.Ways.{wrappers_of, core_kind, meets, may_merge, dictionary_may}
 use Rattle.wrappers.proofs.Meeting.{judged, judged_same, judged_cross, judged_bare, judged_core, judged_refused, judged_spent}
 use Rattle.wrappers.proofs.Cores.{Whole, bare, wrap, core_in, wrapper_is, bare_wrappers, bare_core, wrap_wrappers, wrap_core, core_kind_lem, inner}
 use Rattle.wrappers.proofs.Unwrapping.{given, given_none, Kinds, dictionary_first, run_ends_first, wrapper_none, has, way_left, way_right, both_has, cross_has, left_has, right_has, null_left_has, null_right_has}
@@ -58,8 +59,8 @@ module _ (rules : Rules) (pairs : is_list_question rules.question ≡ false) whe
   Told {s} {p} {t} {q} x y = has rules pairs (type_of s p) (type_of t q) ≡ told x y
 
   told_bare : {s : Shape} {p : Fields} {t : Shape} {q : Fields}
-      (w : is_wrapper s.kind ≡ false) (e : s.kind ≡ Kind.null → type_of s p ≡ plain (of_kind Kind.null))
-      (w' : is_wrapper t.kind ≡ false) (e' : t.kind ≡ Kind.null → type_of t q ≡ plain (of_kind Kind.null)) → Told (bare w e) (bare w' e')
+      (w : is_wrapper s.kind ≡ false) (e : s.kind ≡ Kind.NULL → type_of s p ≡ plain (of_kind Kind.NULL))
+      (w' : is_wrapper t.kind ≡ false) (e' : t.kind ≡ Kind.NULL → type_of t q ≡ plain (of_kind Kind.NULL)) → Told (bare w e) (bare w' e')
   unfolding judged meets core_in
   told_bare {s} {p} {t} {q} w e w' e' =
       rw (bare_wrappers s p w, bare_core s p w, bare_wrappers t q w', bare_core t q w') (go (eqb s.kind 1) refl (eqb t.kind 1) refl)
@@ -76,7 +77,7 @@ module _ (rules : Rules) (pairs : is_list_question rules.question ≡ false) whe
 
   -- a core on the left
   told_core : {s : Shape} {p : Fields} {t : Shape} {q : Fields}
-      (w : is_wrapper s.kind ≡ false) (e : s.kind ≡ Kind.null → type_of s p ≡ plain (of_kind Kind.null)) (y : Whole t q) → Told (bare w e) y
+      (w : is_wrapper s.kind ≡ false) (e : s.kind ≡ Kind.NULL → type_of s p ≡ plain (of_kind Kind.NULL)) (y : Whole t q) → Told (bare w e) y
   unfolding core_in
   told_core w e (bare w' e') = told_bare w e w' e'
   told_core {s} {p} w e (wrap {s = t} {p = q} u w' eu y) =
@@ -169,10 +170,10 @@ chosen f false h g = rw (given_none (f 37) (h refl))
 -- a Dictionary and run ends, in either order
 abbrev pub Crossed : DataType → DataType → Type 0
 Crossed l r =
-    ((is_of Kind.dictionary l ≡ true) × (is_of Kind.run_end_encoded r ≡ true)) ⊎ ((is_of Kind.run_end_encoded l ≡ true) × (is_of Kind.dictionary r ≡ true))
+    ((is_of Kind.DICTIONARY l ≡ true) × (is_of Kind.RUN_END_ENCODED r ≡ true)) ⊎ ((is_of Kind.RUN_END_ENCODED l ≡ true) × (is_of Kind.DICTIONARY r ≡ true))
 
 pub crossed : (l r : DataType)
-    → (is_of Kind.dictionary l && is_of Kind.run_end_encoded r) || (is_of Kind.run_end_encoded l && is_of Kind.dictionary r) ≡ true → Crossed l r
+    → (is_of Kind.DICTIONARY l && is_of Kind.RUN_END_ENCODED r) || (is_of Kind.RUN_END_ENCODED l && is_of Kind.DICTIONARY r) ≡ true → Crossed l r
 crossed l r = go (is_of 37 l) (is_of 38 r) (is_of 38 l) (is_of 37 r)
   where
     go : (a b d e : Bool) → (a && b) || (d && e) ≡ true → ((a ≡ true) × (b ≡ true)) ⊎ ((d ≡ true) × (e ≡ true))
@@ -181,14 +182,14 @@ crossed l r = go (is_of 37 l) (is_of 38 r) (is_of 38 l) (is_of 37 r)
     go false b d e h = inr (and_fst d e h, and_snd d e h)
 
 -- kinds that are not two at once
-pub dictionary_only : (t : DataType) → is_of Kind.dictionary t ≡ true → is_of Kind.run_end_encoded t ≡ false
+pub dictionary_only : (t : DataType) → is_of Kind.DICTIONARY t ≡ true → is_of Kind.RUN_END_ENCODED t ≡ false
 dictionary_only t h = ap (λ (k : ℕ). eqb k 38) (eqb-true t.shape.kind 37 h)
 
-pub runs_only : (t : DataType) → is_of Kind.run_end_encoded t ≡ true → is_of Kind.dictionary t ≡ false
+pub runs_only : (t : DataType) → is_of Kind.RUN_END_ENCODED t ≡ true → is_of Kind.DICTIONARY t ≡ false
 runs_only t h = ap (λ (k : ℕ). eqb k 37) (eqb-true t.shape.kind 38 h)
 
 module _ (rules : Rules) (pairs : is_list_question rules.question ≡ false) (l r : DataType) (x : Whole l.shape l.parts) (y : Whole r.shape r.parts) where
-  dictionary_left : is_of Kind.dictionary l ≡ true → is_of Kind.run_end_encoded r ≡ true
+  dictionary_left : is_of Kind.DICTIONARY l ≡ true → is_of Kind.RUN_END_ENCODED r ≡ true
       → or_else (wrapper_coercion 37 (coercion rules) l r) (wrapper_coercion 38 (coercion rules) l r)
       ≡ wrapper_coercion (cond (dictionary_may rules.mask l r) 37 38) (coercion rules) l r
   unfolding dictionary_may
@@ -201,7 +202,7 @@ module _ (rules : Rules) (pairs : is_list_question rules.question ≡ false) (l 
       (chosen (λ k. wrapper_coercion k (coercion rules) l r) (may_merge rules.mask i.value r) (λ m. first ∙ refused rules pairs i.value r i.whole y m)
       (λ m n. second ∙ spent rules pairs i.value r i.whole y l j.value x j.whole (sym i.core) j.core m (sym first ∙ n)))
 
-  dictionary_right : is_of Kind.run_end_encoded l ≡ true → is_of Kind.dictionary r ≡ true
+  dictionary_right : is_of Kind.RUN_END_ENCODED l ≡ true → is_of Kind.DICTIONARY r ≡ true
       → or_else (wrapper_coercion 37 (coercion rules) l r) (wrapper_coercion 38 (coercion rules) l r)
       ≡ wrapper_coercion (cond (dictionary_may rules.mask l r) 37 38) (coercion rules) l r
   unfolding dictionary_may
@@ -217,16 +218,16 @@ module _ (rules : Rules) (pairs : is_list_question rules.question ≡ false) (l 
 -- "Where a Dictionary meets run ends and neither core is Null, or both are, the rule for Dictionaries answers
 -- wherever the rule for run ends does"; else the walk over the wrappers tells, so one of the two rules is enough
 pub one_way : (rules : Rules) → is_list_question rules.question ≡ false → (l r : DataType) → Whole l.shape l.parts → Whole r.shape r.parts → Crossed l r
-    → or_else (wrapper_coercion Kind.dictionary (coercion rules) l r) (wrapper_coercion Kind.run_end_encoded (coercion rules) l r)
-    ≡ wrapper_coercion (cond (dictionary_may rules.mask l r) Kind.dictionary Kind.run_end_encoded) (coercion rules) l r
+    → or_else (wrapper_coercion Kind.DICTIONARY (coercion rules) l r) (wrapper_coercion Kind.RUN_END_ENCODED (coercion rules) l r)
+    ≡ wrapper_coercion (cond (dictionary_may rules.mask l r) Kind.DICTIONARY Kind.RUN_END_ENCODED) (coercion rules) l r
 one_way rules pairs l r x y (inl h) = dictionary_left rules pairs l r x y h.0 h.1
 one_way rules pairs l r x y (inr h) = dictionary_right rules pairs l r x y h.0 h.1
 
 -- all other pairs: a Dictionary's rule where there is one, else that for run ends
 pub only_way : (c : DataType → DataType → Option DataType) (l r : DataType)
-    → (is_of Kind.dictionary l && is_of Kind.run_end_encoded r) || (is_of Kind.run_end_encoded l && is_of Kind.dictionary r) ≡ false
-    → or_else (wrapper_coercion Kind.dictionary c l r) (wrapper_coercion Kind.run_end_encoded c l r)
-    ≡ wrapper_coercion (cond (is_of Kind.dictionary l || is_of Kind.dictionary r) Kind.dictionary Kind.run_end_encoded) c l r
+    → (is_of Kind.DICTIONARY l && is_of Kind.RUN_END_ENCODED r) || (is_of Kind.RUN_END_ENCODED l && is_of Kind.DICTIONARY r) ≡ false
+    → or_else (wrapper_coercion Kind.DICTIONARY c l r) (wrapper_coercion Kind.RUN_END_ENCODED c l r)
+    ≡ wrapper_coercion (cond (is_of Kind.DICTIONARY l || is_of Kind.DICTIONARY r) Kind.DICTIONARY Kind.RUN_END_ENCODED) c l r
 only_way c l r h = go (is_of 37 l) refl (is_of 37 r) refl
   where
     first : is_of 38 l ≡ false → is_of 38 r ≡ false → or_else (wrapper_coercion 37 c l r) (wrapper_coercion 38 c l r) ≡ wrapper_coercion 37 c l r

@@ -1,10 +1,10 @@
 -- The laws of the two rules for wrappers, which the function of src/laws.rt promises. Quotations are of docs/RULES.md.
 use Rattle.std.specs.Prelude.{◌≡◌, true, false, None}
 use Rattle.sheet.specs.Carried.{FieldsRight}
-use Rattle.coercion.specs.Data.{DataType, single, Rules, or_else}
+use Rattle.coercion.specs.Data.{DataType, single, or_else, is_list_question}
 use Rattle.coercion.specs.Wrappers.{dictionary_coercion, ree_coercion, wrapper_coercion}
 use Rattle.coercion.specs.Answers.{coercion}
-use Rattle.buffers.specs.Plain.{is_list_question}
+use Rattle.coercion.specs.declared.Rules.{Rules}
 use Rattle.wrappers.specs.Ways.{is_null_core}
 use Rattle.wrappers.specs.Walks.{crosses, way_of}
 

@@ -2,13 +2,14 @@
 -- in them.
 use Rattle.std.specs.Prelude.{◌≡◌, ℕ, ◌+◌, ◌<◌, ◌≤◌, Bool, true, not, cond, ◌&&◌, ◌||◌, List}
 use Rattle.std.specs.Prelude.{Option, None, Some, IfSome}
-use Rattle.sheet.specs.Kind as Kind
+use Rattle.sheet.specs.declared.kind.TheConstants as Kind
 use Rattle.coercion.specs.Data.{DataType, size}
 use Rattle.coercion.specs.Wrappers.{is_of}
 use Rattle.buffers.specs.Writes.{side}
 use Rattle.buffers.specs.Typed.{Typed}
 use Rattle.buffers.specs.declared.Space.{Space}
-use Rattle.wrappers.specs.Ways.{is_wrapper, core_kind, may_merge, dictionary_may, hint_of, Hint, without}
+use Rattle.sheet.specs.Kind.{is_wrapper}
+use Rattle.wrappers.specs.Ways.{core_kind, may_merge, dictionary_may, hint_of, Hint, without}
 use Rattle.wrappers.specs.declared.walk.Turn.{Turn}
 
 -- the kind of the core of a type
@@ -32,14 +33,14 @@ pub record Learns (hint mask left : ℕ) (swap : Bool) (s w : List ℕ) (l r h :
 
 -- a Dictionary on one side and run ends on the other
 abbrev pub crosses : DataType → DataType → Bool
-crosses l r = (is_of Kind.dictionary l && is_of Kind.run_end_encoded r) || (is_of Kind.run_end_encoded l && is_of Kind.dictionary r)
+crosses l r = (is_of Kind.DICTIONARY l && is_of Kind.RUN_END_ENCODED r) || (is_of Kind.RUN_END_ENCODED l && is_of Kind.DICTIONARY r)
 
 -- the wrapper whose rule is asked: it has the answer of the two rules in turn (proofs/Choosing.antt); 0 where neither
 -- rule can give one, and run ends where neither type is a wrapper
 unfoldable pub way_of : ℕ → DataType → DataType → ℕ
 way_of mask l r =
-    cond (crosses l r) (cond (may_merge mask l r) (cond (dictionary_may mask l r) Kind.dictionary Kind.run_end_encoded) 0)
-    (cond (is_of Kind.dictionary l || is_of Kind.dictionary r) Kind.dictionary Kind.run_end_encoded)
+    cond (crosses l r) (cond (may_merge mask l r) (cond (dictionary_may mask l r) Kind.DICTIONARY Kind.RUN_END_ENCODED) 0)
+    (cond (is_of Kind.DICTIONARY l || is_of Kind.DICTIONARY r) Kind.DICTIONARY Kind.RUN_END_ENCODED)
 
 -- the kind of a wrapper whose rule is asked, 0 for none, and what is known of the types that the rule goes on with
 abbrev pub kind_in : Option Turn → ℕ

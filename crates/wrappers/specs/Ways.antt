@@ -1,14 +1,11 @@
 -- Wrappers, the core below them, and which of two rules can give an answer where a Dictionary meets run ends.
 use Rattle.std.specs.Prelude.{◌≡◌, ℕ, Bool, true, false, cond, ◌||◌, List, [], ◌∷◌, eqb}
 use Rattle.std.specs.Prelude.{Option, None, Some}
-use Rattle.sheet.specs.Kind as Kind
+use Rattle.sheet.specs.declared.kind.TheConstants as Kind
+use Rattle.sheet.specs.Kind.{is_wrapper}
 use Rattle.sheet.specs.Types.{Shape, Fields, end, field}
 use Rattle.coercion.specs.Data.{DataType, may_become}
 use Rattle.coercion.specs.Wrappers.{value_in, is_of}
-
--- "A wrapper is a Dictionary or a RunEndEncoded"
-abbrev pub is_wrapper : ℕ → Bool
-is_wrapper k = eqb k Kind.dictionary || eqb k Kind.run_end_encoded
 
 -- the kinds of the wrappers about a value, the outermost first
 unfoldable pub wrappers_of : Shape → Fields → List ℕ
@@ -23,7 +20,7 @@ core_kind shape (field n b s p end) = shape.kind
 core_kind shape (field n b s p (field n₂ b₂ s₂ p₂ rest)) = cond (is_wrapper shape.kind) (core_kind s₂ p₂) shape.kind
 
 abbrev pub is_null_core : DataType → Bool
-is_null_core t = eqb (core_kind t.shape t.parts) Kind.null
+is_null_core t = eqb (core_kind t.shape t.parts) Kind.NULL
 
 -- whether Null may become one of some kinds
 abbrev pub allows : ℕ → List ℕ → Bool
@@ -53,13 +50,13 @@ value_may (Some v) f = f v
 -- a Dictionary and run ends: whether the rule for Dictionaries can give an answer
 unfoldable pub dictionary_may : ℕ → DataType → DataType → Bool
 dictionary_may mask l r =
-    cond (is_of Kind.dictionary l) (value_may (value_in l.parts) (λ v. may_merge mask v r)) (value_may (value_in r.parts) (λ w. may_merge mask l w))
+    cond (is_of Kind.DICTIONARY l) (value_may (value_in l.parts) (λ v. may_merge mask v r)) (value_may (value_in r.parts) (λ w. may_merge mask l w))
 
 -- What the kinds of two cores leave to be asked of the wrappers about them. 1: nothing, as neither is Null, or both
 -- are, or Null may become the other. 2: Null is on the right, and whether the left's wrappers meet those about it. 3:
 -- the same with the sides exchanged.
 abbrev pub hint_of : ℕ → ℕ → ℕ → ℕ
-hint_of mask a b = cond (eqb a Kind.null) (cond (eqb b Kind.null || may_become mask b) 1 3) (cond (eqb b Kind.null) (cond (may_become mask a) 1 2) 1)
+hint_of mask a b = cond (eqb a Kind.NULL) (cond (eqb b Kind.NULL || may_become mask b) 1 3) (cond (eqb b Kind.NULL) (cond (may_become mask a) 1 2) 1)
 
 -- what the wrappers answer
 abbrev pub wrappers_may : ℕ → ℕ → DataType → DataType → Bool

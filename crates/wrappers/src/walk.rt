@@ -6,8 +6,8 @@ ghost use Rattle.wrappers.specs.Ways.{wrappers_of, allows, meets, hint_of, wrapp
 ghost use Rattle.wrappers.specs.Walks.{Core, Tells, TellsBoth, Learns, Way};
 
 use buffers::write::{kind_at, value_at};
-use kinds::tests::{is_wrapper, one_is};
 use rules::sides::may_become;
+use sheet::kind::{self, is_wrapper, one_is};
 
 // The sources of two types, the left in the work space where swap is set, and the kinds that Null may become.
 #[derive(Clone, Copy)]
@@ -30,7 +30,11 @@ pub struct Turn {
 fn kind_for(dictionary: bool) -> u8
     ensures { result ≡ cond dictionary 37 38 }
 {
-    if dictionary { 37 } else { 38 }
+    if dictionary {
+        kind::DICTIONARY
+    } else {
+        kind::RUN_END_ENCODED
+    }
 }
 
 fn hint_if(same: bool, hint: u8) -> u8
@@ -44,9 +48,13 @@ fn core_hint(mask: u64, k: u8, j: u8) -> u8
     requires { (k < 64) × (j < 64) }
     ensures { (result ≡ hint_of mask k j) × (0 < result) }
 {
-    if k == 1 {
-        if j == 1 || may_become(mask, j) { 1 } else { 3 }
-    } else if j == 1 && !may_become(mask, k) {
+    if k == kind::NULL {
+        if j == kind::NULL || may_become(mask, j) {
+            1
+        } else {
+            3
+        }
+    } else if j == kind::NULL && !may_become(mask, k) {
         2
     } else {
         1
@@ -183,20 +191,20 @@ pub fn way(
     let k = kind_at(sheet, work, swap, l);
     let j = kind_at(sheet, work, !swap, r);
     match (k, j) {
-        (37, 38) => {
+        (kind::DICTIONARY, kind::RUN_END_ENCODED) => {
             let h = walk.learn(left, hint, l, r)?;
             let a = value_at(sheet, work, swap, l);
             let kind = kind_for(walk.meets_if(left, h == 2, a, r));
             Some(Turn { kind, hint: h })
         }
-        (38, 37) => {
+        (kind::RUN_END_ENCODED, kind::DICTIONARY) => {
             let h = walk.learn(left, hint, l, r)?;
             let b = value_at(sheet, work, !swap, r);
             let kind = kind_for(walk.swapped().meets_if(left, h == 3, b, l));
             Some(Turn { kind, hint: h })
         }
         _ => Some(Turn {
-            kind: kind_for(one_is(37, k, j)),
+            kind: kind_for(one_is(kind::DICTIONARY, k, j)),
             hint: hint_if(k == j, hint),
         }),
     }

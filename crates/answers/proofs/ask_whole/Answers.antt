@@ -8,7 +8,7 @@ use Rattle.answers.proofs.ask_whole.Goals as goal
 pub returns-in_err-n : goal.returns-in_err-n
 returns-in_err-n c =
     let p = err_from_is_err_and c.from_residual.result c.from_residual.ensures.1 in
-    rw (p.1, p.2) (refused_sheet (call_of c.args.question c.args.whole.sheet.now c.args.mask c.args.output.now c.args.work.now) _ c.in_err-n.ensures)
+    rw (p.1, p.2) (refused_sheet (call_of c.args.rules c.args.whole.sheet.now c.args.output.now c.args.work.now) _ c.in_err-n.ensures)
 
 pub refused-requires : goal.refused-requires
 refused-requires c =
@@ -17,15 +17,15 @@ refused-requires c =
 pub returns-in_err-refused : goal.returns-in_err-refused
 returns-in_err-refused c =
     let p = err_from_is_err_and c.from_residual-in_err-refused.result c.from_residual-in_err-refused.ensures.1 in
-    rw (p.1, p.2) (refused_later (call_of c.args.question c.args.whole.sheet.now c.args.mask c.args.output.now c.args.work.now) _ (checked_accepted _ _ _ c.in_ok-n.ensures).unrefused c.in_err-refused.ensures)
+    rw (p.1, p.2) (refused_later (call_of c.args.rules c.args.whole.sheet.now c.args.output.now c.args.work.now) _ (checked_accepted _ _ _ c.in_ok-n.ensures).unrefused c.in_err-refused.ensures)
 
 pub answer-requires : goal.answer-requires
 answer-requires c =
-    room c.args.question _ c.args.mask _ _ _ c.args.whole.bytes (checked_accepted _ _ _ c.in_ok-n.ensures) c.in_ok-refused.ensures
+    room c.args.rules _ _ _ _ c.args.whole.bytes (checked_accepted _ _ _ c.in_ok-n.ensures) c.in_ok-refused.ensures
 
 pub write_type-requires : goal.write_type-requires
 write_type-requires c =
-    done_room c.args.question _ c.args.mask _ _ _ c.args.whole.bytes (checked_accepted _ _ _ c.in_ok-n.ensures) c.in_ok-refused.ensures _ _ c.in-Ok.ensures
+    done_room c.args.rules _ _ _ _ c.args.whole.bytes (checked_accepted _ _ _ c.in_ok-n.ensures) c.in_ok-refused.ensures _ _ c.in-Ok.ensures
 
 pub returns : goal.returns
 returns c =
@@ -34,8 +34,8 @@ returns c =
     elim c.match-answer.branch [
       | in-Ok w ↦
           rw (w.output-is, w.answer-is)
-          (type_outcome c.args.question _ c.args.mask _ _ _ c.args.whole.bytes measured c.in_ok-refused.ensures _ zeros _ w.in-Ok.ensures w.write_type.ensures)
+          (type_outcome c.args.rules _ _ _ _ c.args.whole.bytes measured c.in_ok-refused.ensures _ zeros _ w.in-Ok.ensures w.write_type.ensures)
       | in-Err w ↦
           rw (w.output-is, w.answer-is)
-          (none_outcome c.args.question _ c.args.mask _ _ _ c.args.whole.bytes measured c.in_ok-refused.ensures _ zeros _ w.in-Err.ensures)
+          (none_outcome c.args.rules _ _ _ _ c.args.whole.bytes measured c.in_ok-refused.ensures _ zeros _ w.in-Err.ensures)
     ]

@@ -7,4 +7,4 @@ use Rattle.pemzhulaq.proofs.number.Goals as goal
 pub returns-in_default : goal.returns-in_default
 returns-in_default c =
     rw c.number_of.ensures
-    (ap exported (torn_call (call_of c.args.question c.args.sheet.now c.args.mask c.args.output.now c.args.work.now) c.in_default.ensures))
+    (ap exported (torn_call (call_of (record { question = c.args.question; mask = c.args.mask }) c.args.sheet.now c.args.output.now c.args.work.now) c.in_default.ensures))

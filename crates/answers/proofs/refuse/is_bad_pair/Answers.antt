@@ -1,4 +1,3 @@
-use Rattle.buffers.specs.Plain.{asked}
 use Rattle.answers.proofs.Refusing.{list_asked, pair_asked}
 use Rattle.answers.proofs.refuse.is_bad_pair.Goals as goal
 
@@ -9,11 +8,11 @@ returns-then-not-is_list_question c =
     c.args.space
     (λ i. (c.type_inv.sheet i).fits)
     c.requires
-    (asked c.args.question)
+    c.args.rules.question
     c.if-not-is_list_question.true
     c.is_list_question.ensures
     c.is_pair.ensures
 
 pub returns-else-not-is_list_question : goal.returns-else-not-is_list_question
 returns-else-not-is_list_question c =
-    list_asked _ (asked c.args.question) c.if-not-is_list_question.false c.is_list_question.ensures
+    list_asked _ c.args.rules.question c.if-not-is_list_question.false c.is_list_question.ensures

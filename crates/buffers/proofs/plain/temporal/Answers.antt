@@ -5,10 +5,10 @@ use Rattle.coercion.specs.Times.{temporal_coercion_nonstrict_timezone}
 use Rattle.coercion.specs.Data.{as_type}
 use Rattle.buffers.proofs.plain.temporal.Goals as goal
 
-pub returns-then-y-eq22 : goal.returns-then-y-eq22
+pub returns-then-y-eq-TIMESTAMP : goal.returns-then-y-eq-TIMESTAMP
 unfolding temporal_coercion_nonstrict_timezone
-returns-then-y-eq22 c =
-    λ l r p q. rw (p.kind, q.kind, p.figure, q.figure, c.if-x-eq22.true, c.if-y-eq22.true, c.timeunit_coercion.ensures)
+returns-then-y-eq-TIMESTAMP c =
+    λ l r p q. rw (p.kind, q.kind, p.figure, q.figure, c.if-x-eq-TIMESTAMP.true, c.if-y-eq-TIMESTAMP.true, c.timeunit_coercion.ensures)
 
 pub returns : goal.returns
 returns c =

@@ -2,7 +2,6 @@ use native.Mathlib.Omega.{arith}
 use mathlib.Core.Path.{refl, sym, ◌∙◌}
 use mathlib.Core.Logic.{⊎_elim}
 use borrow.Author.Tests.{eq-eqb, ne_eqb}
-use Rattle.buffers.specs.Plain.{rules_of}
 use Rattle.buffers.proofs.Chained.{room_kept}
 use Rattle.buffers.proofs.Tying.{tied_kept}
 use Rattle.merge.proofs.Asking.{handed, coerce_same, coerce_plain, coerce_bare, coerce_list, coerce_pair, coerce_unlike, coerce_wrapper}
@@ -14,7 +13,7 @@ use Rattle.merge.proofs.Parents.{head_stopped, both_on, field_alone, field_on, m
 use Rattle.merge.proofs.Rewrapping.{span_stopped, core_stopped, settled_on, settled_tabled}
 use Rattle.merge.proofs.Structs.{fed_or_placed, struct_none, struct_other, struct_merged, listed_unlike, listed_none, listed_fed}
 use Rattle.merge.proofs.Turning.{both_true, left_false, right_false, both_are, not_both, one_is, none_is, both_below, resolve_dictionary, resolve_runs, resolve_nested, wrap_both, wrap_left, wrap_right, wrap_none, unwrap_done, unwrap_full, unwrap_nested, way_merged, way_spent, wrapper_none, wrapper_both, wrapper_left_same, wrapper_left, wrapper_right_same, wrapper_right, nested_list, nested_listed, nested_struct, nested_map, nested_plain, list_merged}
-use Rattle.merge.proofs.Merger.+merging.Goals.{nested-else-is_list-via-else-is_list, nested-else-is_list-via-then-is_list+else-is_list-2, struct_rule-else-x-eq35-via-else-x-eq35, struct_rule-else-x-eq35-via-then-x-eq35+else-y-eq35, struct_rule-else-x-eq35-via-then-x-eq35+then-y-eq35+else-same_arity}
+use Rattle.merge.proofs.Merger.+merging.Goals.{nested-else-is_list-via-else-is_list, nested-else-is_list-via-then-is_list+else-is_list-2, struct_rule-else-x-eq-STRUCT-via-else-x-eq-STRUCT, struct_rule-else-x-eq-STRUCT-via-then-x-eq-STRUCT+else-y-eq-STRUCT, struct_rule-else-x-eq-STRUCT-via-then-x-eq-STRUCT+then-y-eq-STRUCT+else-same_arity}
 use Rattle.merge.proofs.Merger.+merging.Goals as goal
 
 pub both_parts-returns-in_err-d-clause-merges_known : goal.both_parts-returns-in_err-d-clause-merges_known
@@ -51,43 +50,43 @@ coerce_value-rewrapped-requires t c =
 
 pub coerce_value-returns-then-passes-clause-merges : goal.coerce_value-returns-then-passes-clause-merges
 coerce_value-returns-then-passes-clause-merges t c =
-    coerce_wrapper c.args.self.now.question c.args.self.now.mask c.args.self.now.space c.args.left c.args.swap _ _ _ _ _ c.kinds-k.ensures.left c.kinds-k.ensures.right (sym c.passes.ensures ∙ c.if-passes.true) _ _ c.requires.of_list c.rewrapped.ensures.merges
+    coerce_wrapper c.args.self.now.rules c.args.self.now.space c.args.left c.args.swap _ _ _ _ _ c.kinds-k.ensures.left c.kinds-k.ensures.right (sym c.passes.ensures ∙ c.if-passes.true) _ _ c.requires.of_list c.rewrapped.ensures.merges
 
-pub coerce_value-returns-then-j-lt32-clause-merges : goal.coerce_value-returns-then-j-lt32-clause-merges
-coerce_value-returns-then-j-lt32-clause-merges t c =
-    coerce_unlike c.args.self.now.question c.args.self.now.mask c.args.self.now.space c.args.left c.args.swap _ _ _ _ _ c.kinds-k.ensures.left c.kinds-k.ensures.right c.if-k-j.true _ _ (both_below c.if-k-lt32.true c.if-j-lt32.true) c.plain.ensures
+pub coerce_value-returns-then-j-lt-LIST-clause-merges : goal.coerce_value-returns-then-j-lt-LIST-clause-merges
+coerce_value-returns-then-j-lt-LIST-clause-merges t c =
+    coerce_unlike c.args.self.now.rules c.args.self.now.space c.args.left c.args.swap _ _ _ _ _ c.kinds-k.ensures.left c.kinds-k.ensures.right c.if-k-j.true _ _ (both_below c.if-k-lt-LIST.true c.if-j-lt-LIST.true) c.plain.ensures
 
-pub coerce_value-returns-then-j-lt32-clause-stays_tabled : goal.coerce_value-returns-then-j-lt32-clause-stays_tabled
-coerce_value-returns-then-j-lt32-clause-stays_tabled t c =
+pub coerce_value-returns-then-j-lt-LIST-clause-stays_tabled : goal.coerce_value-returns-then-j-lt-LIST-clause-stays_tabled
+coerce_value-returns-then-j-lt-LIST-clause-stays_tabled t c =
     tabled_over c.requires.room.0 (c.plain.ensures 0).writes.kept c.requires.tabled
 
 pub common-returns-then-d-eq0-clause-merges_hinted : goal.common-returns-then-d-eq0-clause-merges_hinted
 common-returns-then-d-eq0-clause-merges_hinted t c =
-    any_hint _ _ c.args.swap (coerce_same c.args.self.now.question c.args.self.now.mask c.args.self.now.space c.args.left c.args.swap _ _ _ _ _ refl c.first_difference-d.ensures _ _ c.if-d-eq0.true c.copy_type.ensures)
+    any_hint _ _ c.args.swap (coerce_same c.args.self.now.rules c.args.self.now.space c.args.left c.args.swap _ _ _ _ _ refl c.first_difference-d.ensures _ _ c.if-d-eq0.true c.copy_type.ensures)
 
 pub common-returns-then-d-eq0-clause-stays_tabled : goal.common-returns-then-d-eq0-clause-stays_tabled
 common-returns-then-d-eq0-clause-stays_tabled t c =
     tabled_over c.requires.room.0 c.copy_type.ensures.writes.kept c.requires.tabled
 
-pub common-returns-then-j-lt32-clause-merges_hinted : goal.common-returns-then-j-lt32-clause-merges_hinted
-common-returns-then-j-lt32-clause-merges_hinted t c =
-    any_hint _ _ c.args.swap (coerce_plain c.args.self.now.question c.args.self.now.mask c.args.self.now.space c.args.left c.args.swap _ _ _ _ _ (handed c.args.known _ _ refl c.first_difference-d.ensures c.if-d-eq0.false) _ _ c.kinds-k.ensures.left c.kinds-k.ensures.right (both_below c.if-k-lt32.true c.if-j-lt32.true) c.plain.ensures)
+pub common-returns-then-j-lt-LIST-clause-merges_hinted : goal.common-returns-then-j-lt-LIST-clause-merges_hinted
+common-returns-then-j-lt-LIST-clause-merges_hinted t c =
+    any_hint _ _ c.args.swap (coerce_plain c.args.self.now.rules c.args.self.now.space c.args.left c.args.swap _ _ _ _ _ (handed c.args.known _ _ refl c.first_difference-d.ensures c.if-d-eq0.false) _ _ c.kinds-k.ensures.left c.kinds-k.ensures.right (both_below c.if-k-lt-LIST.true c.if-j-lt-LIST.true) c.plain.ensures)
 
-pub common-returns-then-j-lt32-clause-stays_tabled : goal.common-returns-then-j-lt32-clause-stays_tabled
-common-returns-then-j-lt32-clause-stays_tabled t c =
+pub common-returns-then-j-lt-LIST-clause-stays_tabled : goal.common-returns-then-j-lt-LIST-clause-stays_tabled
+common-returns-then-j-lt-LIST-clause-stays_tabled t c =
     tabled_over c.requires.room.0 (c.plain.ensures 0).writes.kept c.requires.tabled
 
-pub common-returns-then-j-lt37-clause-merges_hinted : goal.common-returns-then-j-lt37-clause-merges_hinted
-common-returns-then-j-lt37-clause-merges_hinted t c =
-    any_hint _ _ c.args.swap (coerce_bare c.args.self.now.question c.args.self.now.mask c.args.self.now.space c.args.left c.args.swap _ _ _ _ _ (handed c.args.known _ _ refl c.first_difference-d.ensures c.if-d-eq0.false) _ _ c.kinds-k.ensures.left c.kinds-k.ensures.right (both_below c.if-k-lt37.true c.if-j-lt37.true) c.if-left-eq0.false c.nested.ensures.merges_known)
+pub common-returns-then-j-lt-DICTIONARY-clause-merges_hinted : goal.common-returns-then-j-lt-DICTIONARY-clause-merges_hinted
+common-returns-then-j-lt-DICTIONARY-clause-merges_hinted t c =
+    any_hint _ _ c.args.swap (coerce_bare c.args.self.now.rules c.args.self.now.space c.args.left c.args.swap _ _ _ _ _ (handed c.args.known _ _ refl c.first_difference-d.ensures c.if-d-eq0.false) _ _ c.kinds-k.ensures.left c.kinds-k.ensures.right (both_below c.if-k-lt-DICTIONARY.true c.if-j-lt-DICTIONARY.true) c.if-left-eq0.false c.nested.ensures.merges_known)
 
 pub common-returns-then-is_list_question-clause-merges_hinted : goal.common-returns-then-is_list_question-clause-merges_hinted
 common-returns-then-is_list_question-clause-merges_hinted t c =
-    any_hint _ _ c.args.swap (coerce_list c.args.self.now.question c.args.self.now.mask c.args.self.now.space c.args.left c.args.swap _ _ _ _ _ (handed c.args.known _ _ refl c.first_difference-d.ensures c.if-d-eq0.false) _ _ (sym c.is_list_question.ensures ∙ c.if-is_list_question.true) c.if-left-eq0.false c.resolve.ensures.merges_known)
+    any_hint _ _ c.args.swap (coerce_list c.args.self.now.rules c.args.self.now.space c.args.left c.args.swap _ _ _ _ _ (handed c.args.known _ _ refl c.first_difference-d.ensures c.if-d-eq0.false) _ _ (sym c.is_list_question.ensures ∙ c.if-is_list_question.true) c.if-left-eq0.false c.resolve.ensures.merges_known)
 
 pub common-returns-clause-merges_hinted : goal.common-returns-clause-merges_hinted
 common-returns-clause-merges_hinted t c =
-    coerce_pair c.args.self.now.question c.args.self.now.mask c.args.self.now.space c.args.left c.args.swap _ _ _ _ _ (handed c.args.known _ _ refl c.first_difference-d.ensures c.if-d-eq0.false) _ _ (sym c.is_list_question.ensures ∙ c.if-is_list_question.false) c.if-left-eq0.false c.unwrap.ensures.merges_hinted
+    coerce_pair c.args.self.now.rules c.args.self.now.space c.args.left c.args.swap _ _ _ _ _ (handed c.args.known _ _ refl c.first_difference-d.ensures c.if-d-eq0.false) _ _ (sym c.is_list_question.ensures ∙ c.if-is_list_question.false) c.if-left-eq0.false c.unwrap.ensures.merges_hinted
 
 pub entry-returns-in_err-g-clause-stays_tabled : goal.entry-returns-in_err-g-clause-stays_tabled
 entry-returns-in_err-g-clause-stays_tabled t c =
@@ -135,35 +134,35 @@ nested-returns-then-is_list-2-clause-merges_known t c =
 
 pub nested-returns-then-is_list_question-clause-merges_known : goal.nested-returns-then-is_list_question-clause-merges_known
 nested-returns-then-is_list_question-clause-merges_known t c =
-    nested_listed c.args.known _ _ _ _ _ c.args.swap _ _ _ _ _ c.kinds-k.ensures.left c.kinds-k.ensures.right _ _ (elim c.else-is_list.branch [ nested-else-is_list-via-then-is_list+else-is_list-2 w ↦ right_false _ (sym w.is_list-then-is_list.ensures ∙ w.if-is_list-2.false) | nested-else-is_list-via-else-is_list w ↦ left_false _ (sym c.is_list.ensures ∙ w.if-is_list.false) ]) (both_are c.if-k-eq35.true c.if-j-eq35.true) (sym c.is_list_question.ensures ∙ c.if-is_list_question.true) c.list_struct.ensures.merges_known
+    nested_listed c.args.known _ _ _ _ _ c.args.swap _ _ _ _ _ c.kinds-k.ensures.left c.kinds-k.ensures.right _ _ (elim c.else-is_list.branch [ nested-else-is_list-via-then-is_list+else-is_list-2 w ↦ right_false _ (sym w.is_list-then-is_list.ensures ∙ w.if-is_list-2.false) | nested-else-is_list-via-else-is_list w ↦ left_false _ (sym c.is_list.ensures ∙ w.if-is_list.false) ]) (both_are c.if-k-eq-STRUCT.true c.if-j-eq-STRUCT.true) (sym c.is_list_question.ensures ∙ c.if-is_list_question.true) c.list_struct.ensures.merges_known
 
-pub nested-returns-then-j-eq35-clause-merges_known : goal.nested-returns-then-j-eq35-clause-merges_known
-nested-returns-then-j-eq35-clause-merges_known t c =
-    nested_struct c.args.known _ _ _ _ _ c.args.swap _ _ _ _ _ c.kinds-k.ensures.left c.kinds-k.ensures.right _ _ (elim c.else-is_list.branch [ nested-else-is_list-via-then-is_list+else-is_list-2 w ↦ right_false _ (sym w.is_list-then-is_list.ensures ∙ w.if-is_list-2.false) | nested-else-is_list-via-else-is_list w ↦ left_false _ (sym c.is_list.ensures ∙ w.if-is_list.false) ]) (both_are c.if-k-eq35.true c.if-j-eq35.true) (sym c.is_list_question.ensures ∙ c.if-is_list_question.false) c.struct_rule.ensures.merges_known
+pub nested-returns-then-j-eq-STRUCT-clause-merges_known : goal.nested-returns-then-j-eq-STRUCT-clause-merges_known
+nested-returns-then-j-eq-STRUCT-clause-merges_known t c =
+    nested_struct c.args.known _ _ _ _ _ c.args.swap _ _ _ _ _ c.kinds-k.ensures.left c.kinds-k.ensures.right _ _ (elim c.else-is_list.branch [ nested-else-is_list-via-then-is_list+else-is_list-2 w ↦ right_false _ (sym w.is_list-then-is_list.ensures ∙ w.if-is_list-2.false) | nested-else-is_list-via-else-is_list w ↦ left_false _ (sym c.is_list.ensures ∙ w.if-is_list.false) ]) (both_are c.if-k-eq-STRUCT.true c.if-j-eq-STRUCT.true) (sym c.is_list_question.ensures ∙ c.if-is_list_question.false) c.struct_rule.ensures.merges_known
 
-pub nested-returns-then-j-eq36-clause-merges_known : goal.nested-returns-then-j-eq36-clause-merges_known
-nested-returns-then-j-eq36-clause-merges_known t c =
-    nested_map c.args.known _ _ _ _ _ c.args.swap _ _ _ _ _ c.kinds-k.ensures.left c.kinds-k.ensures.right _ _ (elim c.else-is_list.branch [ nested-else-is_list-via-then-is_list+else-is_list-2 w ↦ right_false _ (sym w.is_list-then-is_list.ensures ∙ w.if-is_list-2.false) | nested-else-is_list-via-else-is_list w ↦ left_false _ (sym c.is_list.ensures ∙ w.if-is_list.false) ]) (not_both c.else-k-eq35.either) (both_are c.if-k-eq36.true c.if-j-eq36.true) c.map_rule.ensures.merges_known
+pub nested-returns-then-j-eq-MAP-clause-merges_known : goal.nested-returns-then-j-eq-MAP-clause-merges_known
+nested-returns-then-j-eq-MAP-clause-merges_known t c =
+    nested_map c.args.known _ _ _ _ _ c.args.swap _ _ _ _ _ c.kinds-k.ensures.left c.kinds-k.ensures.right _ _ (elim c.else-is_list.branch [ nested-else-is_list-via-then-is_list+else-is_list-2 w ↦ right_false _ (sym w.is_list-then-is_list.ensures ∙ w.if-is_list-2.false) | nested-else-is_list-via-else-is_list w ↦ left_false _ (sym c.is_list.ensures ∙ w.if-is_list.false) ]) (not_both c.else-k-eq-STRUCT.either) (both_are c.if-k-eq-MAP.true c.if-j-eq-MAP.true) c.map_rule.ensures.merges_known
 
 pub nested-returns-clause-merges_known : goal.nested-returns-clause-merges_known
 nested-returns-clause-merges_known t c =
-    nested_plain c.args.known _ _ _ _ _ c.args.swap _ _ _ _ _ c.kinds-k.ensures.left c.kinds-k.ensures.right _ _ (elim c.else-is_list.branch [ nested-else-is_list-via-then-is_list+else-is_list-2 w ↦ right_false _ (sym w.is_list-then-is_list.ensures ∙ w.if-is_list-2.false) | nested-else-is_list-via-else-is_list w ↦ left_false _ (sym c.is_list.ensures ∙ w.if-is_list.false) ]) (not_both c.else-k-eq35.either) (not_both c.else-k-eq36.either) c.plain.ensures
+    nested_plain c.args.known _ _ _ _ _ c.args.swap _ _ _ _ _ c.kinds-k.ensures.left c.kinds-k.ensures.right _ _ (elim c.else-is_list.branch [ nested-else-is_list-via-then-is_list+else-is_list-2 w ↦ right_false _ (sym w.is_list-then-is_list.ensures ∙ w.if-is_list-2.false) | nested-else-is_list-via-else-is_list w ↦ left_false _ (sym c.is_list.ensures ∙ w.if-is_list.false) ]) (not_both c.else-k-eq-STRUCT.either) (not_both c.else-k-eq-MAP.either) c.plain.ensures
 
 pub nested-returns-clause-stays_tabled : goal.nested-returns-clause-stays_tabled
 nested-returns-clause-stays_tabled t c =
     tabled_over c.requires.room.0 (c.plain.ensures 0).writes.kept c.requires.tabled
 
-pub resolve-returns-then-k-eq37-clause-merges_known : goal.resolve-returns-then-k-eq37-clause-merges_known
-resolve-returns-then-k-eq37-clause-merges_known t c =
-    resolve_dictionary c.args.known _ _ _ _ _ c.args.swap _ _ _ _ _ c.kinds-k.ensures.left c.kinds-k.ensures.right _ _ (one_is c.then-k-eq37.either) c.resolve_wrapper.ensures.merges_known
+pub resolve-returns-then-k-eq-DICTIONARY-clause-merges_known : goal.resolve-returns-then-k-eq-DICTIONARY-clause-merges_known
+resolve-returns-then-k-eq-DICTIONARY-clause-merges_known t c =
+    resolve_dictionary c.args.known _ _ _ _ _ c.args.swap _ _ _ _ _ c.kinds-k.ensures.left c.kinds-k.ensures.right _ _ (one_is c.then-k-eq-DICTIONARY.either) c.resolve_wrapper.ensures.merges_known
 
-pub resolve-returns-then-k-eq38-clause-merges_known : goal.resolve-returns-then-k-eq38-clause-merges_known
-resolve-returns-then-k-eq38-clause-merges_known t c =
-    resolve_runs c.args.known _ _ _ _ _ c.args.swap _ _ _ _ _ c.kinds-k.ensures.left c.kinds-k.ensures.right _ _ (none_is c.if-k-eq37.false c.if-j-eq37.false) (one_is c.then-k-eq38.either) c.resolve_wrapper-then-k-eq38.ensures.merges_known
+pub resolve-returns-then-k-eq-RUN_END_ENCODED-clause-merges_known : goal.resolve-returns-then-k-eq-RUN_END_ENCODED-clause-merges_known
+resolve-returns-then-k-eq-RUN_END_ENCODED-clause-merges_known t c =
+    resolve_runs c.args.known _ _ _ _ _ c.args.swap _ _ _ _ _ c.kinds-k.ensures.left c.kinds-k.ensures.right _ _ (none_is c.if-k-eq-DICTIONARY.false c.if-j-eq-DICTIONARY.false) (one_is c.then-k-eq-RUN_END_ENCODED.either) c.resolve_wrapper-then-k-eq-RUN_END_ENCODED.ensures.merges_known
 
 pub resolve-returns-clause-merges_known : goal.resolve-returns-clause-merges_known
 resolve-returns-clause-merges_known t c =
-    resolve_nested c.args.known _ _ _ _ _ c.args.swap _ _ _ _ _ c.kinds-k.ensures.left c.kinds-k.ensures.right _ _ (none_is c.if-k-eq37.false c.if-j-eq37.false) (none_is c.if-k-eq38.false c.if-j-eq38.false) c.nested.ensures.merges_known
+    resolve_nested c.args.known _ _ _ _ _ c.args.swap _ _ _ _ _ c.kinds-k.ensures.left c.kinds-k.ensures.right _ _ (none_is c.if-k-eq-DICTIONARY.false c.if-j-eq-DICTIONARY.false) (none_is c.if-k-eq-RUN_END_ENCODED.false c.if-j-eq-RUN_END_ENCODED.false) c.nested.ensures.merges_known
 
 pub resolve_wrapper-returns-then-j-kind-clause-merges_known : goal.resolve_wrapper-returns-then-j-kind-clause-merges_known
 resolve_wrapper-returns-then-j-kind-clause-merges_known t c =
@@ -191,7 +190,7 @@ rewrapped-returns-in_err-a-clause-stays_tabled t c =
 
 pub rewrapped-returns-in_err-b-clause-merges : goal.rewrapped-returns-in_err-b-clause-merges
 rewrapped-returns-in_err-b-clause-merges t c =
-    rw (stopped _ c.from_residual-in_err-b.ensures.1) (span_stopped _ _ c.requires.of_list _ _ _ _ _ _ _ _ _ c.requires.room.0 c.requires.wrapper.0 _ c.look-x.ensures.0 c.requires.wrapper.1 _ c.descend-descent.ensures.descended _ _ c.in_ok-a.ensures _ _ c.in_err-b.ensures)
+    rw (stopped _ c.from_residual-in_err-b.ensures.1) (span_stopped _ c.requires.of_list _ _ _ _ _ _ _ _ _ c.requires.room.0 c.requires.wrapper.0 _ c.look-x.ensures.0 c.requires.wrapper.1 _ c.descend-descent.ensures.descended _ _ c.in_ok-a.ensures _ _ c.in_err-b.ensures)
 
 pub rewrapped-returns-in_err-b-clause-stays_tabled : goal.rewrapped-returns-in_err-b-clause-stays_tabled
 rewrapped-returns-in_err-b-clause-stays_tabled t c =
@@ -203,15 +202,15 @@ rewrapped-coerce_field-requires t c =
 
 pub rewrapped-returns-in_err-e-clause-merges : goal.rewrapped-returns-in_err-e-clause-merges
 rewrapped-returns-in_err-e-clause-merges t c =
-    rw (stopped _ c.from_residual-in_err-e.ensures.1) (core_stopped _ _ c.requires.of_list _ _ _ _ _ _ _ _ _ c.requires.room.0 c.requires.wrapper.0 _ c.look-x.ensures.0 c.requires.wrapper.1 _ c.descend-descent.ensures.descended _ _ c.in_ok-a.ensures _ _ c.in_ok-b.ensures _ _ c.in_err-e.ensures.merges_field)
+    rw (stopped _ c.from_residual-in_err-e.ensures.1) (core_stopped _ c.requires.of_list _ _ _ _ _ _ _ _ _ c.requires.room.0 c.requires.wrapper.0 _ c.look-x.ensures.0 c.requires.wrapper.1 _ c.descend-descent.ensures.descended _ _ c.in_ok-a.ensures _ _ c.in_ok-b.ensures _ _ c.in_err-e.ensures.merges_field)
 
 pub rewrapped-returns-clause-merges : goal.rewrapped-returns-clause-merges
 rewrapped-returns-clause-merges t c =
-    settled_on _ _ c.requires.of_list _ _ _ _ _ _ _ _ _ c.requires.room.0 c.requires.wrapper.0 _ c.look-x.ensures.0 c.requires.wrapper.1 _ c.descend-descent.ensures.descended _ _ c.in_ok-a.ensures _ _ c.in_ok-b.ensures _ _ c.in_ok-e.ensures.merges_field _ _ c.settle.ensures
+    settled_on _ c.requires.of_list _ _ _ _ _ _ _ _ _ c.requires.room.0 c.requires.wrapper.0 _ c.look-x.ensures.0 c.requires.wrapper.1 _ c.descend-descent.ensures.descended _ _ c.in_ok-a.ensures _ _ c.in_ok-b.ensures _ _ c.in_ok-e.ensures.merges_field _ _ c.settle.ensures
 
 pub rewrapped-returns-clause-stays_tabled : goal.rewrapped-returns-clause-stays_tabled
 rewrapped-returns-clause-stays_tabled t c =
-    settled_tabled _ _ c.requires.of_list _ _ _ _ _ _ _ _ _ c.requires.room.0 c.requires.wrapper.0 _ c.look-x.ensures.0 c.requires.wrapper.1 _ c.descend-descent.ensures.descended _ _ c.in_ok-a.ensures _ _ c.in_ok-b.ensures _ _ c.in_ok-e.ensures.merges_field _ _ c.settle.ensures c.coerce_field.ensures.stays_tabled
+    settled_tabled _ c.requires.of_list _ _ _ _ _ _ _ _ _ c.requires.room.0 c.requires.wrapper.0 _ c.look-x.ensures.0 c.requires.wrapper.1 _ c.descend-descent.ensures.descended _ _ c.in_ok-a.ensures _ _ c.in_ok-b.ensures _ _ c.in_ok-e.ensures.merges_field _ _ c.settle.ensures c.coerce_field.ensures.stays_tabled
 
 pub rows-returns-then-l-eq0-clause-rowed : goal.rows-returns-then-l-eq0-clause-rowed
 rows-returns-then-l-eq0-clause-rowed t c =
@@ -259,11 +258,11 @@ rows-returns-clause-stays_tabled t c =
 
 pub struct_rule-returns-then-same_arity-clause-merges_known : goal.struct_rule-returns-then-same_arity-clause-merges_known
 struct_rule-returns-then-same_arity-clause-merges_known t c =
-    struct_merged _ _ _ c.args.swap _ _ _ _ _ _ _ c.heads.ensures.left.0 c.heads.ensures.right.0 c.same_arity.ensures (both_true (both_true (eq-eqb _ 35 c.if-x-eq35.true) (eq-eqb _ 35 c.if-y-eq35.true)) c.if-same_arity.true) c.args.known _ (fed_or_placed c.unwrap_or-feed.ensures c.struct_feed.ensures.struct_fed) _ _ (rw c.of_kind.ensures at (rw c.from-shape.ensures at c.under.ensures.under))
+    struct_merged _ _ _ c.args.swap _ _ _ _ _ _ _ c.heads.ensures.left.0 c.heads.ensures.right.0 c.same_arity.ensures (both_true (both_true (eq-eqb _ 35 c.if-x-eq-STRUCT.true) (eq-eqb _ 35 c.if-y-eq-STRUCT.true)) c.if-same_arity.true) c.args.known _ (fed_or_placed c.unwrap_or-feed.ensures c.struct_feed.ensures.struct_fed) _ _ (rw c.of_kind.ensures at (rw c.from-shape.ensures at c.under.ensures.under))
 
 pub struct_rule-returns-clause-merges_known : goal.struct_rule-returns-clause-merges_known
 struct_rule-returns-clause-merges_known t c =
-    elim c.else-x-eq35.branch [ struct_rule-else-x-eq35-via-then-x-eq35+then-y-eq35+else-same_arity w ↦ struct_none _ _ _ c.args.swap _ _ _ _ _ _ _ c.heads.ensures.left.0 c.heads.ensures.right.0 w.same_arity.ensures (right_false _ w.if-same_arity.false) | struct_rule-else-x-eq35-via-then-x-eq35+else-y-eq35 w ↦ struct_other _ _ _ c.args.swap _ _ _ _ _ _ _ c.heads.ensures.left.0 c.heads.ensures.right.0 (right_false _ (ne_eqb _ 35 w.if-y-eq35.false)) | struct_rule-else-x-eq35-via-else-x-eq35 w ↦ struct_other _ _ _ c.args.swap _ _ _ _ _ _ _ c.heads.ensures.left.0 c.heads.ensures.right.0 (left_false _ (ne_eqb _ 35 w.if-x-eq35.false)) ]
+    elim c.else-x-eq-STRUCT.branch [ struct_rule-else-x-eq-STRUCT-via-then-x-eq-STRUCT+then-y-eq-STRUCT+else-same_arity w ↦ struct_none _ _ _ c.args.swap _ _ _ _ _ _ _ c.heads.ensures.left.0 c.heads.ensures.right.0 w.same_arity.ensures (right_false _ w.if-same_arity.false) | struct_rule-else-x-eq-STRUCT-via-then-x-eq-STRUCT+else-y-eq-STRUCT w ↦ struct_other _ _ _ c.args.swap _ _ _ _ _ _ _ c.heads.ensures.left.0 c.heads.ensures.right.0 (right_false _ (ne_eqb _ 35 w.if-y-eq-STRUCT.false)) | struct_rule-else-x-eq-STRUCT-via-else-x-eq-STRUCT w ↦ struct_other _ _ _ c.args.swap _ _ _ _ _ _ _ c.heads.ensures.left.0 c.heads.ensures.right.0 (left_false _ (ne_eqb _ 35 w.if-x-eq-STRUCT.false)) ]
 
 pub under-rows-requires : goal.under-rows-requires
 under-rows-requires t c =
@@ -287,15 +286,15 @@ unwrap-returns-in-Err-Full-clause-merges_hinted t c =
 
 pub wrapper-returns-in_default-clause-merges_hinted : goal.wrapper-returns-in_default-clause-merges_hinted
 wrapper-returns-in_default-clause-merges_hinted t c =
-    way_spent (rules_of c.args.self.now.question c.args.self.now.mask) _ _ _ c.args.swap _ _ _ _ _ c.in_default.ensures refl
+    way_spent c.args.self.now.rules _ _ _ c.args.swap _ _ _ _ _ c.in_default.ensures refl
 
 pub wrapper-returns-then-j-kind-clause-merges_hinted : goal.wrapper-returns-then-j-kind-clause-merges_hinted
 wrapper-returns-then-j-kind-clause-merges_hinted t c =
-    way_merged (rules_of c.args.self.now.question c.args.self.now.mask) _ _ _ c.args.swap _ _ _ _ _ c.in-Some.ensures _ _ (wrapper_both _ _ _ c.args.swap _ _ _ _ _ c.kinds-k.ensures.left c.kinds-k.ensures.right (c.in-Some.ensures.wrapper) _ _ c.args.self.now.mask c.args.hint c.in-Some.t.hint (c.in-Some.ensures.on c.args.self.now.space) c.args.known _ c.value_at-a.ensures c.value_at-b.ensures c.if-k-kind.true c.if-j-kind.true c.row_known-own.ensures c.common.ensures.merges_hinted)
+    way_merged c.args.self.now.rules _ _ _ c.args.swap _ _ _ _ _ c.in-Some.ensures _ _ (wrapper_both _ _ _ c.args.swap _ _ _ _ _ c.kinds-k.ensures.left c.kinds-k.ensures.right (c.in-Some.ensures.wrapper) _ _ c.args.self.now.rules.mask c.args.hint c.in-Some.t.hint (c.in-Some.ensures.on c.args.self.now.space) c.args.known _ c.value_at-a.ensures c.value_at-b.ensures c.if-k-kind.true c.if-j-kind.true c.row_known-own.ensures c.common.ensures.merges_hinted)
 
 pub wrapper-returns-then-same_sides-clause-merges_hinted : goal.wrapper-returns-then-same_sides-clause-merges_hinted
 wrapper-returns-then-same_sides-clause-merges_hinted t c =
-    way_merged (rules_of c.args.self.now.question c.args.self.now.mask) _ _ _ c.args.swap _ _ _ _ _ c.in-Some.ensures _ _ (any_hint _ _ c.args.swap (any_known _ c.args.swap (wrapper_left_same _ _ _ c.args.swap _ _ _ _ _ c.kinds-k.ensures.left c.kinds-k.ensures.right (c.in-Some.ensures.wrapper) _ _ c.if-k-kind.true c.if-j-kind.false c.value_at-a.ensures c.same_sides.ensures c.if-same_sides.true c.copy_type.ensures)))
+    way_merged c.args.self.now.rules _ _ _ c.args.swap _ _ _ _ _ c.in-Some.ensures _ _ (any_hint _ _ c.args.swap (any_known _ c.args.swap (wrapper_left_same _ _ _ c.args.swap _ _ _ _ _ c.kinds-k.ensures.left c.kinds-k.ensures.right (c.in-Some.ensures.wrapper) _ _ c.if-k-kind.true c.if-j-kind.false c.value_at-a.ensures c.same_sides.ensures c.if-same_sides.true c.copy_type.ensures)))
 
 pub wrapper-returns-then-same_sides-clause-stays_tabled : goal.wrapper-returns-then-same_sides-clause-stays_tabled
 wrapper-returns-then-same_sides-clause-stays_tabled t c =
@@ -303,11 +302,11 @@ wrapper-returns-then-same_sides-clause-stays_tabled t c =
 
 pub wrapper-returns-then-k-kind-clause-merges_hinted : goal.wrapper-returns-then-k-kind-clause-merges_hinted
 wrapper-returns-then-k-kind-clause-merges_hinted t c =
-    way_merged (rules_of c.args.self.now.question c.args.self.now.mask) _ _ _ c.args.swap _ _ _ _ _ c.in-Some.ensures _ _ (wrapper_left _ _ _ c.args.swap _ _ _ _ _ c.kinds-k.ensures.left c.kinds-k.ensures.right (c.in-Some.ensures.wrapper) _ _ c.if-k-kind.true c.if-j-kind.false c.value_at-a.ensures c.same_sides.ensures c.args.self.now.mask c.args.hint c.in-Some.t.hint (c.in-Some.ensures.on c.args.self.now.space) c.args.known c.if-same_sides.false c.common-then-k-kind.ensures.merges_hinted)
+    way_merged c.args.self.now.rules _ _ _ c.args.swap _ _ _ _ _ c.in-Some.ensures _ _ (wrapper_left _ _ _ c.args.swap _ _ _ _ _ c.kinds-k.ensures.left c.kinds-k.ensures.right (c.in-Some.ensures.wrapper) _ _ c.if-k-kind.true c.if-j-kind.false c.value_at-a.ensures c.same_sides.ensures c.args.self.now.rules.mask c.args.hint c.in-Some.t.hint (c.in-Some.ensures.on c.args.self.now.space) c.args.known c.if-same_sides.false c.common-then-k-kind.ensures.merges_hinted)
 
 pub wrapper-returns-then-same_sides-2-clause-merges_hinted : goal.wrapper-returns-then-same_sides-2-clause-merges_hinted
 wrapper-returns-then-same_sides-2-clause-merges_hinted t c =
-    way_merged (rules_of c.args.self.now.question c.args.self.now.mask) _ _ _ c.args.swap _ _ _ _ _ c.in-Some.ensures _ _ (any_hint _ _ c.args.swap (any_known _ c.args.swap (wrapper_right_same _ _ _ c.args.swap _ _ _ _ _ c.kinds-k.ensures.left c.kinds-k.ensures.right (c.in-Some.ensures.wrapper) _ _ c.if-k-kind.false c.if-j-kind-2.true c.value_at-b.ensures c.same_sides-then-j-kind-2.ensures c.if-same_sides-2.true c.copy_type-then-same_sides-2.ensures)))
+    way_merged c.args.self.now.rules _ _ _ c.args.swap _ _ _ _ _ c.in-Some.ensures _ _ (any_hint _ _ c.args.swap (any_known _ c.args.swap (wrapper_right_same _ _ _ c.args.swap _ _ _ _ _ c.kinds-k.ensures.left c.kinds-k.ensures.right (c.in-Some.ensures.wrapper) _ _ c.if-k-kind.false c.if-j-kind-2.true c.value_at-b.ensures c.same_sides-then-j-kind-2.ensures c.if-same_sides-2.true c.copy_type-then-same_sides-2.ensures)))
 
 pub wrapper-returns-then-same_sides-2-clause-stays_tabled : goal.wrapper-returns-then-same_sides-2-clause-stays_tabled
 wrapper-returns-then-same_sides-2-clause-stays_tabled t c =
@@ -315,8 +314,8 @@ wrapper-returns-then-same_sides-2-clause-stays_tabled t c =
 
 pub wrapper-returns-then-j-kind-2-clause-merges_hinted : goal.wrapper-returns-then-j-kind-2-clause-merges_hinted
 wrapper-returns-then-j-kind-2-clause-merges_hinted t c =
-    way_merged (rules_of c.args.self.now.question c.args.self.now.mask) _ _ _ c.args.swap _ _ _ _ _ c.in-Some.ensures _ _ (wrapper_right _ _ _ c.args.swap _ _ _ _ _ c.kinds-k.ensures.left c.kinds-k.ensures.right (c.in-Some.ensures.wrapper) _ _ c.if-k-kind.false c.if-j-kind-2.true c.value_at-b.ensures c.same_sides-then-j-kind-2.ensures c.args.self.now.mask c.args.hint c.in-Some.t.hint (c.in-Some.ensures.on c.args.self.now.space) c.args.known c.if-same_sides-2.false c.common-then-j-kind-2.ensures.merges_hinted)
+    way_merged c.args.self.now.rules _ _ _ c.args.swap _ _ _ _ _ c.in-Some.ensures _ _ (wrapper_right _ _ _ c.args.swap _ _ _ _ _ c.kinds-k.ensures.left c.kinds-k.ensures.right (c.in-Some.ensures.wrapper) _ _ c.if-k-kind.false c.if-j-kind-2.true c.value_at-b.ensures c.same_sides-then-j-kind-2.ensures c.args.self.now.rules.mask c.args.hint c.in-Some.t.hint (c.in-Some.ensures.on c.args.self.now.space) c.args.known c.if-same_sides-2.false c.common-then-j-kind-2.ensures.merges_hinted)
 
 pub wrapper-returns-clause-merges_hinted : goal.wrapper-returns-clause-merges_hinted
 wrapper-returns-clause-merges_hinted t c =
-    way_merged (rules_of c.args.self.now.question c.args.self.now.mask) _ _ _ c.args.swap _ _ _ _ _ c.in-Some.ensures _ _ (any_hint _ _ c.args.swap (any_known _ c.args.swap (wrapper_none _ _ _ c.args.swap _ _ _ _ _ c.kinds-k.ensures.left c.kinds-k.ensures.right (c.in-Some.ensures.wrapper) c.if-k-kind.false c.if-j-kind-2.false)))
+    way_merged c.args.self.now.rules _ _ _ c.args.swap _ _ _ _ _ c.in-Some.ensures _ _ (any_hint _ _ c.args.swap (any_known _ c.args.swap (wrapper_none _ _ _ c.args.swap _ _ _ _ _ c.kinds-k.ensures.left c.kinds-k.ensures.right (c.in-Some.ensures.wrapper) c.if-k-kind.false c.if-j-kind-2.false)))

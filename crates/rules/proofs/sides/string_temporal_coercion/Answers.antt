@@ -1,5 +1,5 @@
 use mathlib.Core.Path.{sym, ◌∙◌, ap}
-use Rattle.coercion.specs.Kinds.{is_string}
+use Rattle.sheet.specs.Kind.{is_string}
 use Rattle.rules.proofs.Moments.{left_string, swapped_of}
 use Rattle.rules.proofs.sides.string_temporal_coercion.Goals as goal
 

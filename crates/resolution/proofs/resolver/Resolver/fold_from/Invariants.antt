@@ -1,8 +1,7 @@
 use Rattle.std.proofs.Common.{◌≡◌, ◌-◌, length}
 use Rattle.coercion.specs.Answers.{fold_from}
+use Rattle.coercion.specs.Data.{for_list}
 use Rattle.buffers.specs.Region.{Room, Inside}
-use Rattle.buffers.specs.Plain.{rules_of}
-use Rattle.buffers.specs.declared.Question.TheVariants as Question
 use Rattle.values.specs.Keeps.{BottomIf}
 use Rattle.resolution.specs.Reached.{Candidate}
 use Rattle.resolution.proofs.Shifting.{second}
@@ -16,7 +15,7 @@ invariant-loop-last l =
       long : length l.work ≡ length l.initial.work;
       inside : Inside l.self.space l.end;
       bottom : BottomIf l.self.space (second l.self.space l.work) l.known;
-      onward : FoldsOn (fold_from (rules_of Question.List l.self.mask)) l.self.space l.self.sheet.now (Candidate l.self.space l.initial.work l.initial.end) l.initial.work l.initial.last l.initial.at (Candidate l.self.space l.work l.end) l.work l.last l.at;
+      onward : FoldsOn (fold_from (for_list l.self.rules)) l.self.space l.self.sheet.now (Candidate l.self.space l.initial.work l.initial.end) l.initial.work l.initial.last l.initial.at (Candidate l.self.space l.work l.end) l.work l.last l.at;
     }
 
 abbrev pub decreases-loop-last : goal.decreases-loop-last

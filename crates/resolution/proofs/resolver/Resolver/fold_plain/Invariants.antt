@@ -1,8 +1,7 @@
 use Rattle.std.proofs.Common.{◌-◌, ◌<◌}
 use Rattle.coercion.specs.Answers.{fold_from}
+use Rattle.coercion.specs.Data.{for_list}
 use Rattle.buffers.specs.Region.{Room}
-use Rattle.buffers.specs.Plain.{rules_of}
-use Rattle.buffers.specs.declared.Question.TheVariants as Question
 use Rattle.values.specs.Value.{Valued}
 use Rattle.values.proofs.Taking.{Absorbs}
 use Rattle.resolution.proofs.Folding.{FoldsOn}
@@ -13,8 +12,8 @@ invariant-loop-last l =
     record {
       room : Room l.work l.self.space;
       holdable : l.candidate.size < 4294967296;
-      absorbs : Absorbs (rules_of Question.List l.self.mask) l.kinds l.candidate;
-      onward : FoldsOn (fold_from (rules_of Question.List l.self.mask)) l.self.space l.self.sheet.now (Valued l.initial.candidate) l.initial.work l.initial.last l.initial.at (Valued l.candidate) l.work l.last l.at;
+      absorbs : Absorbs (for_list l.self.rules) l.kinds l.candidate;
+      onward : FoldsOn (fold_from (for_list l.self.rules)) l.self.space l.self.sheet.now (Valued l.initial.candidate) l.initial.work l.initial.last l.initial.at (Valued l.candidate) l.work l.last l.at;
     }
 
 abbrev pub decreases-loop-last : goal.decreases-loop-last

@@ -10,7 +10,7 @@ use Rattle.resolution.proofs.resolver.Resolver.step_whole.Goals as goal
 
 pub returns-then-known-eq0 : goal.returns-then-known-eq0
 returns-then-known-eq0 c =
-    steps_kept c.requires.room.1 (on_candidate c.args.self.now.space c.args.work.now c.requires.room.0 c.requires.room.1 (λ x c' a b. equal_kept _ x c' (sym (differ_equal c.differ_type-known.ensures x c' a b) ∙ eq-eqb _ 0 c.if-known-eq0.true)))
+    steps_kept c.requires.room.1 (on_candidate c.args.self.now.space c.args.work.now c.requires.room.0 c.requires.room.1 (λ x c' a b. equal_kept c.args.self.now.rules x c' (sym (differ_equal c.differ_type-known.ensures x c' a b) ∙ eq-eqb _ 0 c.if-known-eq0.true)))
 
 pub step-requires-clause-compared : goal.step-requires-clause-compared
 step-requires-clause-compared c =

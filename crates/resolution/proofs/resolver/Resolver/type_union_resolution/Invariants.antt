@@ -8,7 +8,7 @@ invariant-loop-last l =
     record {
       room : Room l.work l.self.space;
       untouched : l.work ≡ l.initial.work;
-      same : SameUpTo l.self.mask l.self.space l.self.sheet.now l.work l.link l.initial.at l.last l.at;
+      same : SameUpTo l.self.rules l.self.space l.self.sheet.now l.work l.link l.initial.at l.last l.at;
     }
 
 abbrev pub decreases-loop-last : goal.decreases-loop-last

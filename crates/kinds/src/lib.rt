@@ -1,4 +1,0 @@
-//! Tests on kinds.
-#![tactic(auto)]
-
-pub mod tests;
