@@ -33,13 +33,11 @@ GROUPS = [
         "wrappers": "Dictionary and run ends",
         "turns": "the order of the rules",
         "merge": "two types into one",
-        "values": "plain types, by value",
         "resolution": "fold a list, join a pair",
     }),
     ("#7c3aed", "the rules of the source", {
         "coercion": "all rules, as definitions",
-        "numeric": "integers, floats, decimals",
-        "rules": "strings, times, Null, zones",
+        "plain": "types without parts",
     }),
     ("#0f766e", "the sheet", {
         "sheet": "the format: records, labels",
@@ -336,7 +334,7 @@ STEPS = [
      ["torn, kind, chain, figure, label: refused 1 to 5"], "rr", "..", "..", ".."),
     ("Mask, number of types, room", ["answers"],
      ["mask, pair, space: refused 6 to 8", "up to here no lent byte has changed"], "r.", "..", "..", ".."),
-    ("What is asked", ["resolution", "values"],
+    ("What is asked", ["resolution", "plain"],
      ["a list: all the same? of one category? then the fold", "union, compare: the two types; plain ones by value"],
      "rr", "..", "..", ".."),
     ("The other side is laid out", ["resolution"],

@@ -22,7 +22,7 @@ use Rattle.coercion.specs.Data.{DataType}
 use Rattle.buffers.specs.Writes.{side, Put}
 use Rattle.buffers.specs.Region.{Room, Kept, Held, Inside, Ready, Wrote, Named}
 use Rattle.buffers.specs.Goal.{CopiedType}
-use Rattle.buffers.specs.Steps.{Reads}
+use Rattle.plain.specs.Steps.{Reads}
 use Rattle.buffers.specs.Typed.{Chain, Typed, goal_at, NamedAt, CopiedField}
 use Rattle.buffers.specs.declared.Space.{Space}
 use Rattle.buffers.specs.declared.Spot.{Spot}

@@ -16,5 +16,3 @@ pub mod Fielding
 pub mod Stamping
 pub mod Rows
 pub mod Known
-pub mod Steps
-pub mod Turns

@@ -15,12 +15,13 @@ use Rattle.coercion.specs.Times.{zone_coercion}
 use Rattle.coercion.specs.declared.Rules.{Rules}
 use Rattle.buffers.specs.Writes.{side}
 use Rattle.buffers.specs.Goal.{letters, Means, LaidZoned, CopiedType}
-use Rattle.buffers.specs.Plain.{plain_rules}
-use Rattle.buffers.specs.Steps.{Reads, step_of, either_zone}
+use Rattle.plain.specs.Plain.{plain_rules}
+use Rattle.buffers.specs.Heads.{either_zone}
+use Rattle.plain.specs.Steps.{Reads, step_of}
 use Rattle.buffers.specs.Typed.{Typed, Merges}
 use Rattle.buffers.specs.declared.Space.{Space}
 use Rattle.buffers.specs.declared.Goal.{Goal}
-use Rattle.buffers.specs.declared.Step.{Step}
+use Rattle.plain.specs.declared.step.Step.{Step}
 use Rattle.buffers.specs.Out.{Out}
 use Rattle.std.specs.Prelude.{Ok, Err}
 use Rattle.buffers.specs.declared.Failure.TheVariants.{NoType, Full}

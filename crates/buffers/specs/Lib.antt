@@ -8,7 +8,6 @@ pub mod Goal
 pub mod Typed
 pub mod Feeds
 pub mod Partners
-pub mod Plain
-pub mod Steps
+pub mod Heads
 pub mod Span
 pub mod Laws

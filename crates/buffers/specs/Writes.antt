@@ -2,7 +2,7 @@
 use Rattle.std.specs.Prelude.{◌≡◌, ℕ, ◌+◌, ◌<◌, ◌≤◌, List, length, get_or}
 use Rattle.sheet.specs.Holds.{Span}
 -- the buffer that a side is read from: the candidate stands in the work space, the other type in the sheet
-pub use Rattle.rules.specs.Zones.{side}
+pub use Rattle.plain.specs.Zones.{side}
 
 -- u was put at i: it stands there in v, and nothing else of w has changed
 pub record Put (w v : List ℕ) (i : ℕ) (u : List ℕ) : Type 0 where

@@ -19,12 +19,13 @@ pub mod copy;
 pub mod field;
 pub mod laws;
 pub mod lay;
-pub mod plain;
+pub mod lists;
 pub mod span;
 pub mod stamp;
 pub mod write;
 
 use coercion::Figures;
+use plain::value::Leaf;
 
 /// The sizes that all functions share: `n` records of the sheet, its header among them; `m` label
 /// bytes; and `half`, the bytes of half of the work space, as many as the sheet has.
@@ -119,6 +120,21 @@ impl From<Figures> for Shape {
     }
 }
 
+/// The shape of a type, which is not sorted.
+impl From<Leaf> for Shape {
+    ghost from_gives = { λ x s. s ≡ record { kind = x.kind; figure = x.figure; scale = x.scale; size = x.size; sorted = false } };
+
+    fn from(x: Leaf) -> Shape {
+        Shape {
+            kind: x.kind,
+            figure: x.figure,
+            scale: x.scale,
+            size: x.size,
+            sorted: false,
+        }
+    }
+}
+
 /// Which field of the right gives a field of the left its type, and which joins its nullability.
 #[derive(Clone, Copy)]
 pub enum Feed {
@@ -130,19 +146,6 @@ pub enum Feed {
     Name,
     /// The field of its name gives the type, and the one at its place joins the nullability.
     NameThenPlace,
-}
-
-/// What a rule for types without parts says of two types.
-#[derive(Clone, Copy)]
-pub enum Step {
-    /// A type of these figures.
-    Lay(Figures),
-    /// A Timestamp of this unit, with the left's zone if it has one, else the right's.
-    Stamp(u8),
-    /// The left type.
-    Left,
-    /// The right type.
-    Right,
 }
 
 /// What feeds one row: the record of the right that gives the type, 0 for none; whether the field

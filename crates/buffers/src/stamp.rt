@@ -6,16 +6,17 @@ ghost use Rattle.sheet.specs.Bounds.{Filled};
 ghost use Rattle.buffers.specs.Writes.{side};
 ghost use Rattle.buffers.specs.Region.{Room, Ready};
 ghost use Rattle.buffers.specs.Goal.{LaidZoned};
-ghost use Rattle.buffers.specs.Plain.{plain_rules};
-ghost use Rattle.buffers.specs.Steps.{step_of, place_of, either_zone};
+ghost use Rattle.plain.specs.Plain.{plain_rules};
+ghost use Rattle.buffers.specs.Heads.{place_of, either_zone};
+ghost use Rattle.plain.specs.Steps.{step_of};
 ghost use Rattle.buffers.specs.Typed.{Merges};
 
 use crate::lay::{copy_type, lay_plain, lay_zoned};
-use crate::plain::plain;
 use crate::write::{look, sides};
-use crate::{Failure, Goal, Out, Space, Step};
+use crate::{Failure, Goal, Out, Space};
 use coercion::{Figures, Rules};
-use rules::zone::{Place, zone_coercion};
+use plain::step::{Step, plain_heads};
+use plain::zone::{Place, zone_coercion};
 use sheet::label::fill;
 use sheet::{Head, kind};
 
@@ -137,6 +138,6 @@ pub fn plain_rule(
 {
     let x = look(sheet, &*work, swap, l);
     let y = look(sheet, &*work, !swap, r);
-    let step = plain(rules, x, y).ok_or(Failure::NoType)?;
+    let step = plain_heads(rules, x, y).ok_or(Failure::NoType)?;
     lay_step(sheet, work, space, swap, step, l, r, g)
 }

@@ -1,5 +1,6 @@
 //! What is asked of types, and the types that the plain rules of the source take and give. The rules themselves stand
-//! in crates of their own, their definitions in specs/. A kind is the byte of a record, and every function here takes any byte.
+//! in crates of their own, their definitions in specs/. A kind is the byte of a record, and every function here takes
+//! any byte.
 #![tactic(auto)]
 
 pub mod laws;

@@ -20,7 +20,7 @@ use Rattle.buffers.specs.Differ.{type_differs, DifferTypes}
 use Rattle.buffers.specs.Writes.{side}
 use Rattle.buffers.specs.Goal.{CopiedType}
 use Rattle.buffers.specs.Typed.{Typed, Merges}
-use Rattle.buffers.specs.Plain.{plain_rules}
+use Rattle.plain.specs.Plain.{plain_rules}
 use Rattle.turns.specs.Turns.{nested_of, resolved, unwrapped, either_wrapped, rewrapped, turns_for, turns_of}
 use Rattle.merge.specs.Descent.{passes}
 use Rattle.merge.specs.Known.{Known, FirstDifference}

@@ -26,6 +26,7 @@ use Rattle.coercion.proofs.Maybe.{If}
 use Rattle.coercion.proofs.PlainRight.{Sound, own_right}
 use Rattle.coercion.proofs.NestedRight.{coercion_sound}
 use Rattle.coercion.specs.declared.Rules.{Rules}
+use Rattle.plain.proofs.Plain.{end_is}
 use Rattle.buffers.specs.Writes.{side}
 use Rattle.buffers.specs.Region.{Room, region, Kept, Grows, Wrote, CopiedHead}
 use Rattle.buffers.specs.Goal.{letters, Means, Writes, type_of, LaidPlain}
@@ -49,11 +50,6 @@ use Rattle.merge.proofs.Parents.{Parent, parent_copied, parent_wrote, parent_mea
 use Rattle.merge.proofs.Descending.{nest_append, pass_append}
 use Rattle.merge.proofs.Filling.{Cut, with_type, alone_count, parts_short, span_records, span_letters, parts_wrote}
 use Rattle.merge.proofs.Passing.{both, none_through, kept_through, gone_through, Sole, sole}
-
-pub end_is : (t : Fields) → arity t ≡ 0 → t ≡ end
-unfolding arity
-end_is end e = refl
-end_is (field name nullable shape parts rest) e = absurd (omega arith)
 
 -- a type of kind Utf8View is the plain one
 view_figures : (figure scale sz : ℕ) (sorted : Bool) (zone : Zone) (parts : Fields) → parts_right 27 (arity parts) ≡ true → figures_right 27 figure scale sz sorted (is_zoned zone) ≡ true

@@ -25,8 +25,9 @@ use Rattle.buffers.specs.Source.{SameTypes}
 use Rattle.buffers.specs.Writes.{side}
 use Rattle.buffers.specs.Region.{Room, Kept}
 use Rattle.buffers.specs.Goal.{letters, Means, CopiedType, shape_for}
-use Rattle.buffers.specs.Steps.{Reads, list_kind, list_size}
-use Rattle.buffers.specs.Plain.{plain_rules}
+use Rattle.buffers.specs.Heads.{list_kind, list_size}
+use Rattle.plain.specs.Steps.{Reads}
+use Rattle.plain.specs.Plain.{plain_rules}
 use Rattle.turns.proofs.Orders.{map_turns}
 use Rattle.turns.specs.Turns.{struct_rule, nested_of, list_rule, map_rule, both_wrapped, rewrapped, either_wrapped, resolved, wrapper_rule, unwrapped}
 use Rattle.buffers.specs.Typed.{Typed, Merges}

@@ -8,10 +8,10 @@ ghost use Rattle.plain_pairs.specs.Plain.{of_kind};
 ghost use Rattle.plain_pairs.specs.Typed.{is_plain, type_in, plain_of, every_kind, equal_rule, number_rule, string_rule, common_rules};
 
 use crate::plain::{Plain, of_common, of_found, of_moment, of_side, timestamp};
-use numeric::numbers::binary_numeric_coercion;
-use rules::sides::{null_coercion, string_temporal_coercion};
-use rules::strings::{binary_coercion, string_coercion};
-use rules::times::{temporal_coercion, timeunit_coercion};
+use plain::numbers::binary_numeric_coercion;
+use plain::sides::{null_coercion, string_temporal_coercion};
+use plain::strings::{binary_coercion, string_coercion};
+use plain::times::{temporal_coercion, timeunit_coercion};
 
 // Null may become every kind, 1 to 38.
 const FULL: u64 = (1 << 39) - 2;

@@ -8,8 +8,8 @@ ghost use Rattle.plain_pairs.specs.Typed.{is_plain, type_in, plain_of, rules_of,
 use crate::pairs::{binary, common, string_temporal};
 use crate::plain::{Plain, of_side};
 pub use coercion::Question;
-use rules::category::{is_mixed, is_supported, with_category};
-use rules::sides::{string_numeric_coercion, string_numeric_union_coercion};
+use plain::category::{is_mixed, is_supported, with_category};
+use plain::sides::{string_numeric_coercion, string_numeric_union_coercion};
 use sheet::kind::within;
 
 fn string_numeric(l: Plain, r: Plain) -> Option<Plain>

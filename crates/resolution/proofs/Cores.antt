@@ -31,9 +31,9 @@ use Rattle.buffers.proofs.Copying.{own_labelled}
 use Rattle.buffers.proofs.Fielding.{name_length_lem}
 use Rattle.buffers.proofs.Rows.{chain_typed}
 use Rattle.merge.proofs.Merging.{single_letters}
-use Rattle.values.specs.Keeps.{core_of, with_core}
-use Rattle.values.proofs.Coring.{with_type, Tail, tail}
-use Rattle.values.proofs.Valuing.{no_parts}
+use Rattle.resolution.specs.Keeps.{core_of, with_core}
+use Rattle.resolution.proofs.Coring.{with_type, Tail, tail}
+use Rattle.plain.proofs.Valuing.{no_parts}
 use Rattle.resolution.specs.Reached.{AnswerIs, Candidate, Cored, Shifted, Steps}
 use Rattle.resolution.proofs.Shifting.{candidate_held, held_shifted}
 use Rattle.resolution.proofs.Folding.{enclosed, within_self, shifted_within}

@@ -44,8 +44,8 @@ use Rattle.merge.specs.Merge.{MergesKnown}
 use Rattle.merge.specs.declared.Merger.{Merger}
 use Rattle.merge.proofs.Merging.{typed_kind, typed_differs, nothing_known, type_differ, single_letters}
 use Rattle.resolution.specs.Reached.{front, Listed, Fits, AnswerIs, Enclosed, Within, Reached, Candidate, Shifted, Mirrored, Entry, Compared, Steps, Folds, fold_behind}
-use Rattle.values.proofs.Valuing.{typed_right}
-use Rattle.values.proofs.Keeping.{by_test, plain_field, equal_kept}
+use Rattle.resolution.proofs.Valued.{typed_right}
+use Rattle.resolution.proofs.Keeping.{by_test, plain_field, equal_kept}
 use Rattle.resolution.proofs.Shifting.{candidate_typed, mirrored_typed}
 use Rattle.resolution.proofs.Listing.{Tells, Onward, listed_typed, listed_next}
 

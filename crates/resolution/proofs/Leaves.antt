@@ -26,11 +26,12 @@ use Rattle.buffers.specs.Out.{Out}
 use Rattle.std.specs.Prelude.{Err}
 use Rattle.buffers.specs.declared.Failure.TheVariants.{NoType}
 use Rattle.merge.proofs.Merging.{typed_kind}
-use Rattle.values.specs.declared.value.Leaf.{Leaf}
-use Rattle.values.specs.Value.{is_plain, leaf_of, leaf_type, Valued, JointIs, Joins}
-use Rattle.values.specs.Taken.{is_bare, is_taken}
-use Rattle.values.proofs.Valuing.{valued_right, plain_valued}
-use Rattle.values.proofs.Taking.{bare_is, Absorbs}
+use Rattle.plain.specs.declared.value.Leaf.{Leaf}
+use Rattle.plain.specs.Value.{is_plain, leaf_of, leaf_type, Valued, JointIs, Joins}
+use Rattle.plain.specs.Taken.{is_bare, is_taken}
+use Rattle.plain.proofs.Valuing.{valued_right}
+use Rattle.resolution.proofs.Valued.{plain_valued}
+use Rattle.plain.proofs.Taking.{bare_is, Absorbs}
 use Rattle.resolution.specs.Reached.{front, Listed, Fits, AnswerIs, Steps, Folds, Fronted, JointLaid}
 use Rattle.resolution.proofs.Listing.{listed_typed, listed_next}
 use Rattle.resolution.proofs.Folding.{foremost, within_self, within_kept, some_listed, fits_few, fits_short, next_fits, folds_null}

@@ -3,3 +3,7 @@ pub mod Folding
 pub mod Cores
 pub mod Listing
 pub mod Leaves
+pub mod Valued
+pub mod Keeping
+pub mod Coring
+pub mod CoreKinds

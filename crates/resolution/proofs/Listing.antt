@@ -18,7 +18,7 @@ use Rattle.coercion.specs.Rules.{is_null}
 use Rattle.coercion.specs.Same.{equal}
 use Rattle.coercion.specs.Answers.{Category, array, boolean, numeric, dateTime, composite, unknown, notSupported, own_category, category_of, is_category, has_category, as_number, categories_in, categories_fit, all_equal}
 use Rattle.coercion.specs.Meaning.{category_bit, is_supported}
-use Rattle.rules.proofs.Cores.{Found}
+use Rattle.resolution.proofs.CoreKinds.{Found}
 use Rattle.buffers.specs.Differ.{DifferTypes}
 use Rattle.buffers.specs.Typed.{Typed}
 use Rattle.buffers.specs.declared.Space.{Space}

@@ -18,9 +18,9 @@ use Rattle.buffers.specs.Out.{Out}
 use Rattle.std.specs.Prelude.{Ok, Err}
 use Rattle.buffers.specs.declared.Failure.TheVariants.{NoType, Full}
 use Rattle.merge.specs.Known.{Known}
-use Rattle.values.specs.declared.value.Leaf.{Leaf}
-use Rattle.values.specs.Value.{Valued, JointIs}
-use Rattle.values.specs.Keeps.{CoreAlone}
+use Rattle.plain.specs.declared.value.Leaf.{Leaf}
+use Rattle.plain.specs.Value.{Valued, JointIs}
+use Rattle.resolution.specs.Keeps.{CoreAlone}
 
 -- where an answer is written: record 1, and the first label
 abbrev pub front : Spot

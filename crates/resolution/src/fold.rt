@@ -6,21 +6,21 @@ ghost use Rattle.coercion.specs.Data.{for_list, is_list_question};
 ghost use Rattle.buffers.specs.Region.{Room, region, Inside};
 ghost use Rattle.buffers.specs.Typed.{Typed};
 ghost use Rattle.resolution.specs.Reached.{Reached, Candidate, Entry, Compared, Steps, Folds, fold_behind};
-ghost use Rattle.values.specs.Value.{Valued};
-ghost use Rattle.values.specs.Keeps.{CoreAt};
+ghost use Rattle.plain.specs.Value.{Valued};
+ghost use Rattle.resolution.specs.Keeps.{CoreAt};
 
 use crate::front::{FRONT, UNNAMED};
+use crate::keep::{bottom_of, is_core_alone, keeps};
 use crate::resolver::Resolver;
 use buffers::alike::{differ_heads, differ_type};
 use buffers::field::copy_field;
 use buffers::{Failure, Out, Spot};
 use coercion::Rules;
 use merge::Merger;
+use plain::taken::{is_taken, taken_kinds};
+use plain::value::{Leaf, common_type, is_plain, leaf_of};
 use sheet::kind;
 use sheet::record::head_at;
-use values::keep::{bottom_of, is_core_alone, keeps};
-use values::taken::{is_taken, taken_kinds};
-use values::value::{Leaf, common_type, is_plain, leaf_of};
 
 impl<'a> Resolver<'a> {
     /// What a merge of two types shares.

@@ -2,13 +2,13 @@
 
 ghost use Rattle.std.specs.Prelude.{◌<◌};
 ghost use Rattle.buffers.specs.Region.{Room};
-ghost use Rattle.values.specs.Value.{Holdable};
+ghost use Rattle.plain.specs.Value.{Holdable};
 ghost use Rattle.resolution.specs.Reached.{Fronted, JointLaid};
 
 use crate::resolver::Resolver;
 use buffers::lay::lay;
 use buffers::{Failure, Goal, Out, Shape, Spot};
-use values::value::Leaf;
+use plain::value::Leaf;
 
 /// Where an answer is written: record 1, and the first label.
 pub(crate) const FRONT: Spot = Spot { at: 1, label: 0 };

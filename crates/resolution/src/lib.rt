@@ -3,8 +3,10 @@
 
 #![tactic(auto)]
 
+mod category;
 mod fold;
 mod front;
+mod keep;
 mod list;
 mod resolver;
 mod shift;

@@ -6,8 +6,9 @@ ghost use Rattle.coercion.specs.Data.{types_of};
 ghost use Rattle.coercion.specs.Answers.{categories_fit};
 ghost use Rattle.resolution.specs.Reached.{Listed, seen_bits};
 
+use crate::category::core_kind;
 use crate::resolver::Resolver;
-use rules::category::{core_kind, is_mixed, is_supported, with_category};
+use plain::category::{is_mixed, is_supported, with_category};
 use sheet::record::head_at;
 
 impl Resolver<'_> {

@@ -24,11 +24,11 @@ use Rattle.coercion.specs.Wrappers.{is_of, wrapper_coercion}
 use Rattle.coercion.specs.Nested.{list_coercion, struct_coercion, map_coercion}
 use Rattle.coercion.specs.Answers.{of_kind_type, string_number, list_struct, list_rules, resolution_coercion, pair_rules, ask}
 use Rattle.coercion.proofs.Ranked.{kind_from}
-use Rattle.rules.proofs.Moments.{above}
+use Rattle.plain.proofs.Moments.{above}
 use Rattle.coercion.proofs.Words.{or_none}
 use Rattle.coercion.specs.declared.Question.{Question}
 use Rattle.coercion.specs.declared.Rules.{Rules}
-use Rattle.buffers.specs.Plain.{string_time, plain_rules}
+use Rattle.plain.specs.Plain.{string_time, plain_rules}
 use Rattle.wrappers.proofs.Unwrapping.{wrapper_none}
 use Rattle.turns.specs.Turns.{struct_rule, map_rule, nested_of, either_wrapped, resolved, unwrapped, turns_for, turns_of}
 

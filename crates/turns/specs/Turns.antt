@@ -10,7 +10,7 @@ use Rattle.coercion.specs.Nested.{join_fields, list_shape, list_of, list_coercio
 use Rattle.coercion.specs.Answers.{keep_dictionary, both_parts, run_ends_of, wrapped, list_struct}
 use Rattle.coercion.specs.declared.Question.{Question}
 use Rattle.coercion.specs.declared.Rules.{Rules}
-use Rattle.buffers.specs.Plain.{plain_rules}
+use Rattle.plain.specs.Plain.{plain_rules}
 use Rattle.wrappers.specs.Walks.{way_of}
 
 -- the rule for two Structs

@@ -13,7 +13,7 @@ use Rattle.coercion.specs.Data.{DataType, size, may_become}
 use Rattle.buffers.specs.Writes.{side}
 use Rattle.buffers.specs.Typed.{Typed}
 use Rattle.buffers.specs.declared.Space.{Space}
-use Rattle.buffers.proofs.Steps.{kind_low, reads_figured}
+use Rattle.plain.proofs.Steps.{kind_low, reads_figured}
 use Rattle.buffers.proofs.Fielding.{typed_reads}
 use Rattle.sheet.specs.Kind.{is_wrapper}
 use Rattle.wrappers.specs.Ways.{wrappers_of, core_kind, allows, meets, may_merge, hint_of, wrappers_may, Hint, without}

@@ -6,7 +6,7 @@ ghost use Rattle.wrappers.specs.Ways.{wrappers_of, allows, meets, hint_of, wrapp
 ghost use Rattle.wrappers.specs.Walks.{Core, Tells, TellsBoth, Learns, Way};
 
 use buffers::write::{kind_at, value_at};
-use rules::sides::may_become;
+use plain::sides::may_become;
 use sheet::kind::{self, is_wrapper, one_is};
 
 // The sources of two types, the left in the work space where swap is set, and the kinds that Null may become.

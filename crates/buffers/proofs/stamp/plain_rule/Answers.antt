@@ -9,8 +9,8 @@ returns-in_err-step c =
     let p = err_from_is_err_and c.from_residual.result c.from_residual.ensures.1 in
     let found = c.in_err-step.ensures in
     let why : c.in_err-step.field-0.0 ≡ NoType = cc (rw found.ok_part at found.value) in
-    rw (p.1, p.2, why) (plain_merged c.args.rules c.args.space c.args.swap _ _ _ _ _ _ _ c.look-x.ensures.0 c.look-y.ensures.0 (rw found.ok_part at c.plain.ensures) (step_nothing c.args.space c.args.swap _ _ _ _ _))
+    rw (p.1, p.2, why) (plain_merged c.args.rules c.args.space c.args.swap _ _ _ _ _ _ _ c.look-x.ensures.0 c.look-y.ensures.0 (rw found.ok_part at c.plain_heads.ensures) (step_nothing c.args.space c.args.swap _ _ _ _ _))
 
 pub returns : goal.returns
 returns c =
-    plain_merged c.args.rules c.args.space c.args.swap _ _ _ _ _ _ _ c.look-x.ensures.0 c.look-y.ensures.0 (rw c.in_ok-step.ensures.ok_part at c.plain.ensures) c.lay_step.ensures
+    plain_merged c.args.rules c.args.space c.args.swap _ _ _ _ _ _ _ c.look-x.ensures.0 c.look-y.ensures.0 (rw c.in_ok-step.ensures.ok_part at c.plain_heads.ensures) c.lay_step.ensures

@@ -1,5 +1,5 @@
 use Rattle.std.proofs.Common.{sym, ◌∙◌}
-use Rattle.values.proofs.Valuing.{plain_valued}
+use Rattle.resolution.proofs.Valued.{plain_valued}
 use Rattle.resolution.proofs.Folding.{entry_typed}
 use Rattle.resolution.proofs.Leaves.{folds_as}
 use Rattle.resolution.proofs.resolver.Resolver.fold_entry.Goals as goal

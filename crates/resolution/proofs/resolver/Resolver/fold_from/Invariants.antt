@@ -2,7 +2,7 @@ use Rattle.std.proofs.Common.{◌≡◌, ◌-◌, length}
 use Rattle.coercion.specs.Answers.{fold_from}
 use Rattle.coercion.specs.Data.{for_list}
 use Rattle.buffers.specs.Region.{Room, Inside}
-use Rattle.values.specs.Keeps.{BottomIf}
+use Rattle.resolution.specs.Keeps.{BottomIf}
 use Rattle.resolution.specs.Reached.{Candidate}
 use Rattle.resolution.proofs.Shifting.{second}
 use Rattle.resolution.proofs.Folding.{FoldsOn}

@@ -1,6 +1,6 @@
 use Rattle.std.proofs.Common.{sym, ◌∙◌}
-use Rattle.values.proofs.Valuing.{leaf_low}
-use Rattle.values.proofs.Taking.{absorbs_next}
+use Rattle.plain.proofs.Valuing.{leaf_low}
+use Rattle.plain.proofs.Taking.{absorbs_next}
 use Rattle.resolution.proofs.Folding.{folds_lost}
 use Rattle.resolution.proofs.Leaves.{folds_joined, folds_apart, folds_taken, not_null}
 use Rattle.resolution.proofs.resolver.Resolver.fold_plain.Goals as goal

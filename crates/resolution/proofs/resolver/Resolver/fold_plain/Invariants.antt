@@ -2,8 +2,8 @@ use Rattle.std.proofs.Common.{◌-◌, ◌<◌}
 use Rattle.coercion.specs.Answers.{fold_from}
 use Rattle.coercion.specs.Data.{for_list}
 use Rattle.buffers.specs.Region.{Room}
-use Rattle.values.specs.Value.{Valued}
-use Rattle.values.proofs.Taking.{Absorbs}
+use Rattle.plain.specs.Value.{Valued}
+use Rattle.plain.proofs.Taking.{Absorbs}
 use Rattle.resolution.proofs.Folding.{FoldsOn}
 use Rattle.resolution.proofs.resolver.Resolver.fold_plain.Given as goal
 

@@ -1,4 +1,4 @@
-use Rattle.values.specs.Keeps.{CoreAt}
+use Rattle.resolution.specs.Keeps.{CoreAt}
 use Rattle.resolution.proofs.Shifting.{to_second, on_candidate}
 use Rattle.resolution.proofs.resolver.Resolver.step_list.Goals as goal
 

@@ -2,7 +2,7 @@ use Rattle.std.proofs.Common.{sym, ◌∙◌, true}
 use Rattle.std.proofs.lemmas.Option.{same_Some}
 use borrow.Author.Tests.{eq-eqb}
 use Rattle.merge.proofs.Merging.{typed_differs}
-use Rattle.values.proofs.Keeping.{equal_kept}
+use Rattle.resolution.proofs.Keeping.{equal_kept}
 use Rattle.resolution.proofs.Shifting.{on_candidate}
 use Rattle.resolution.proofs.Listing.{differ_equal}
 use Rattle.resolution.proofs.Folding.{steps_kept}

@@ -1,7 +1,0 @@
-use native.Mathlib.Omega.{arith}
-use Rattle.buffers.proofs.Steps.{kind_low}
-use Rattle.buffers.proofs.plain.null.Goals as goal
-
-pub returns-then-x-ge64 : goal.returns-then-x-ge64
-returns-then-x-ge64 c =
-    λ l r p q. absurd (grind (arith, kind_low p, kind_low q))

@@ -1,0 +1,12 @@
+pub mod Integers
+pub mod Moments
+pub mod Categories
+pub mod NumberSides
+pub mod TwoStrings
+pub mod Ordering
+pub mod Steps
+pub mod Turns
+pub mod Low
+pub mod Plain
+pub mod Valuing
+pub mod Taking

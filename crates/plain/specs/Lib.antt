@@ -1,0 +1,8 @@
+pub mod Ordered
+pub mod Sides
+pub mod Zones
+pub mod Plain
+pub mod Steps
+pub mod Value
+pub mod Taken
+pub mod Laws

@@ -1,4 +1,0 @@
-pub mod Ordered
-pub mod Sides
-pub mod Wrapped
-pub mod Zones

@@ -1,5 +1,0 @@
-pub mod Low
-pub mod Valuing
-pub mod Keeping
-pub mod Coring
-pub mod Taking

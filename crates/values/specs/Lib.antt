@@ -1,3 +1,0 @@
-pub mod Value
-pub mod Keeps
-pub mod Taken
