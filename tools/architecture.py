@@ -41,7 +41,6 @@ GROUPS = [
     }),
     ("#0f766e", "the sheet", {
         "sheet": "the format: records, labels",
-        "names": "two parts of one name",
         "refusals": "the check: refusals 1 to 5",
         "reader": "reads a sheet where it is",
     }),
@@ -330,7 +329,7 @@ def draw_crates(uses, last):
 # what was lent. A part is a letter: r read, w written, 0 set to zero, and . as it was. Sheet and halves have two parts,
 # records and labels; the output has what is answered and the rest.
 STEPS = [
-    ("The sheet is checked", ["refusals", "names"],
+    ("The sheet is checked", ["refusals"],
      ["torn, kind, chain, figure, label: refused 1 to 5"], "rr", "..", "..", ".."),
     ("Mask, number of types, room", ["answers"],
      ["mask, pair, space: refused 6 to 8", "up to here no lent byte has changed"], "r.", "..", "..", ".."),

@@ -5,3 +5,7 @@ pub mod Light
 pub mod Stamps
 pub mod Passing
 pub mod Packing
+pub mod Marking
+pub mod Naming
+pub mod Ordering
+pub mod Finding

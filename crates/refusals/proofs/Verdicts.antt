@@ -83,7 +83,7 @@ module _ (s : List ℕ) where
           unfolding verdict refusal
           says_accepted h n m e f = rw (whole, kinds, chain, figures, h) (λ i. record { number = 0; n = e i; m = f i })
 
--- of two records neither is a Struct with two parts of one name
+-- of two records neither is a Struct with two fields of one name
 one_part : (t : Fields) → count t ≤ 1 → repeats t ≡ false
 unfolding count repeats has_name
 one_part end h = refl
@@ -185,9 +185,9 @@ module _ (s : List ℕ) (n m link : ℕ) (p : Progress) (found : Found s n m lin
               (sound_holds s plain (record { whole = found.fits.whole; kinds = found.kinds; chain = chain_right; figures = figures_right; places = placed }))
 
           module _ {b : Bool} (names : (o : ℕ) (t : Fields) → Holds s n 1 o t → 1 + count t ≡ n → b ≡ not (names_differ t)) where
-            pub found_twins : b ≡ true → record { number = 5; n = 0; m = 0 } ≡ verdict s
+            pub found_repeated : b ≡ true → record { number = 5; n = 0; m = 0 } ≡ verdict s
             unfolding bad_label
-            found_twins h =
+            found_repeated h =
                 says_label s found.fits.whole found.kinds chain_right figures_right (one_is_lem _ 1 (sym (names 0 (read s) holds (omega (arith, due_is))) ∙ h))
 
             pub found_sheet : b ≡ false → record { number = 0; n = n; m = m } ≡ verdict s

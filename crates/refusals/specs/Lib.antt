@@ -2,3 +2,4 @@ pub mod Limits
 pub mod Found
 pub mod Walk
 pub mod Packed
+pub mod RepeatedNames

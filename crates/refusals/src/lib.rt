@@ -3,8 +3,12 @@
 
 /// The header of a sheet and the kinds of its records: refusals 1 and 2.
 pub mod header;
+mod name_numbers;
+mod name_order;
 mod pass;
 mod records;
+/// Whether two fields of one Struct have one name: a part of refusal 5.
+pub mod repeated_names;
 mod walk;
 
 ghost use Rattle.std.specs.Prelude.{◌≡◌};
@@ -13,8 +17,8 @@ ghost use Rattle.refusals.specs.Limits.{Fits};
 ghost use Rattle.refusals.specs.Found.{Found};
 
 use header::Whole;
-use names::twins::twins;
 use records::Records;
+use repeated_names::names_repeat;
 use sheet::record::word_at;
 use sheet::{Refusal, Sizes};
 
@@ -73,8 +77,8 @@ fn check_found(s: &[u8], n: usize, m: usize, link: usize, p: Progress) -> Result
     if p.label || p.at != m {
         return Err(Refusal::Label);
     }
-    // The header, a Struct and two parts of one name are four records.
-    if 4 <= n && twins(s, n) {
+    // The header, a Struct and two fields of one name are four records.
+    if 4 <= n && names_repeat(s, n) {
         return Err(Refusal::Label);
     }
     Ok(Sizes { n, m })

@@ -1,12 +1,37 @@
-//! The records of a sheet, as many as its header says.
-ghost use Rattle.std.specs.Prelude.{◌*◌, ◌≤◌, length};
+//! The records of a sheet, as many as its header says, and their names.
+ghost use Rattle.std.specs.Prelude.{◌≡◌, ◌*◌, ◌<◌, ◌≤◌, length};
 ghost use Rattle.sheet.specs.Holds.{Plain};
+ghost use Rattle.sheet.specs.Names.{same_bytes};
+ghost use Rattle.refusals.specs.RepeatedNames.{name_of};
 
+use sheet::label::{label_at, same_name};
+use sheet::record::head_at;
+
+// A sheet of n records.
 #[derive(Clone, Copy)]
 pub(crate) struct Records<'a> {
-    pub sheet: &'a [u8],
-    pub n: usize,
+    pub(crate) sheet: &'a [u8],
+    pub(crate) n: usize,
     ghost bytes: { Plain sheet.now },
-    ghost few: { n ≤ 1024 },
+    ghost few: { n < 65536 },
     ghost inside: { 16 * n ≤ length sheet.now },
+}
+
+impl<'a> Records<'a> {
+    // The name of record r, as a part of the sheet.
+    pub(crate) fn name_of(self, r: u16) -> &'a [u8]
+        ensures { result.now ≡ name_of self.entry.sheet.now self.entry.n r }
+    {
+        let h = head_at(self.sheet, usize::from(r));
+        label_at(self.sheet, self.n, h.name, h.nlen)
+    }
+
+    // Whether two records have one name.
+    pub(crate) fn have_one_name(self, a: u16, b: u16) -> bool
+        ensures { result ≡ same_bytes (name_of self.entry.sheet.now self.entry.n a) (name_of self.entry.sheet.now self.entry.n b) }
+    {
+        let g = head_at(self.sheet, usize::from(a));
+        let h = head_at(self.sheet, usize::from(b));
+        same_name(self.sheet, self.n, g, self.sheet, self.n, h)
+    }
 }

@@ -1,4 +1,0 @@
-pub mod Rows
-pub mod Naming
-pub mod Marking
-pub mod Ordering

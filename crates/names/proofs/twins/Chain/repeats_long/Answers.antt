@@ -1,7 +1,0 @@
-use native.Mathlib.Omega.{arith}
-use Rattle.names.proofs.Naming.{told_first}
-use Rattle.names.proofs.twins.Chain.repeats_long.Goals as goal
-
-pub returns : goal.returns
-returns c =
-    λ r o t l. told_first c.args.self.records.s.now c.args.self.records.n c.list-k.new.recs c.list-k.result t c.equal_names.result c.list-k.ensures.0.room (c.list-k.ensures.0.whole (omega (arith, c.list-k.ensures.0.room)) r o t l) c.equal_names.ensures
