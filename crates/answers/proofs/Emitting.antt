@@ -10,11 +10,11 @@ use Rattle.sheet.specs.Encode.{header, records, encode}
 use Rattle.sheet.specs.Holds.{Plain, Span}
 use Rattle.sheet.proofs.Spans.{span_join, span_move}
 use Rattle.sheet.proofs.Chains.{records_length, holds_records, holds_labels}
-use Rattle.buffers.specs.Writes.{Put}
+use Rattle.sheet.specs.Writes.{Put}
 use Rattle.buffers.specs.Region.{Room, Inside, Wrote}
 use Rattle.buffers.specs.declared.Space.{Space}
 use Rattle.buffers.specs.declared.Spot.{Spot}
-use Rattle.buffers.proofs.Puts.{put_list, put_part}
+use Rattle.sheet.proofs.Puts.{put_list, put_part}
 use Rattle.buffers.proofs.Frames.{span_frame}
 use Rattle.resolution.specs.Reached.{front}
 use Rattle.answers.specs.Call.{at_front}

@@ -9,6 +9,7 @@ ghost use Rattle.answers.specs.Code.{number_met, is_short, Measured, later_refus
 use crate::Refusal;
 use buffers::Space;
 use coercion::Rules;
+use sheet::limits::LONGEST_SHEET;
 use sheet::record::head_at;
 
 // Whether a mask has a bit outside 1 to 38.
@@ -40,7 +41,7 @@ fn is_bad_pair(rules: Rules, sheet: &[u8], space: Space) -> bool
 
 // Whether an output or a work space is too short for a sheet.
 fn is_short(sheet: usize, output: usize, work: usize) -> bool
-    requires { sheet ≤ 32768 }
+    requires { sheet ≤ LONGEST_SHEET }
     ensures { result ≡ is_short sheet output work }
 {
     output < sheet || work < 2 * sheet

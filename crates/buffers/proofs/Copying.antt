@@ -31,7 +31,7 @@ use Rattle.buffers.specs.Out.{Out}
 use Rattle.std.specs.Prelude.{Ok, Err}
 use Rattle.buffers.specs.declared.Failure.TheVariants.{NoType, Full}
 use Rattle.buffers.proofs.Sources.{name_short, read_name, read_nullable, read_shape}
-use Rattle.buffers.proofs.Puts.{put_none}
+use Rattle.sheet.proofs.Puts.{put_none}
 use Rattle.buffers.proofs.Frames.{span_frame, held_frame, kept_trans, kept_wider}
 
 -- a place in the second half

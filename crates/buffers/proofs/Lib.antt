@@ -1,7 +1,6 @@
 pub mod Sources
 pub mod Differing
 pub mod Sameness
-pub mod Puts
 pub mod Frames
 pub mod Copying
 pub mod Chained

@@ -1,12 +1,4 @@
--- What is written into the work space, and what stays.
-use Rattle.std.specs.Prelude.{◌≡◌, ℕ, ◌+◌, ◌<◌, ◌≤◌, List, length, get_or}
-use Rattle.sheet.specs.Holds.{Span}
+-- What is written into the work space, and where a side is read.
+pub use Rattle.sheet.specs.Writes.{Put}
 -- the buffer that a side is read from: the candidate stands in the work space, the other type in the sheet
 pub use Rattle.plain.specs.Zones.{side}
-
--- u was put at i: it stands there in v, and nothing else of w has changed
-pub record Put (w v : List ℕ) (i : ℕ) (u : List ℕ) : Type 0 where
-  pub long : length v ≡ length w
-  pub below : (j : ℕ) → j < i → get_or v j 0 ≡ get_or w j 0
-  pub above : (j : ℕ) → i + length u ≤ j → get_or v j 0 ≡ get_or w j 0
-  pub span : Span v i u

@@ -7,9 +7,10 @@ ghost use Rattle.buffers.specs.Writes.{side};
 ghost use Rattle.buffers.specs.Region.{Room, Inside, Ready, moved_link, moved_label, goal_head, CopiedHead, CopiedBare, CopiedRecord, CopiedChain};
 
 use crate::field::name_goal;
-use crate::write::{look, put_head, put_label};
+use crate::write::{look, put_label};
 use crate::{Failure, Goal, Out, Space, Spot};
 use sheet::Head;
+use sheet::write::put_head;
 
 /// A link `x` of records that were copied from number `link` on, where the first now has number
 /// `at`; 0 where it leads to none of those behind the first.

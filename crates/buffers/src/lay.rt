@@ -6,11 +6,12 @@ ghost use Rattle.buffers.specs.Region.{Room, Ready};
 ghost use Rattle.buffers.specs.Goal.{Laid, LaidPlain, LaidZoned, CopiedType, Tied, shape_for};
 
 use crate::copy::{copy_fields, copy_head, moved_label};
-use crate::write::{look, put, put_head};
+use crate::write::look;
 use crate::{Failure, Goal, Out, Shape, Space};
 use coercion::Figures;
 use sheet::Head;
 use sheet::record::head_at;
+use sheet::write::{put, put_head};
 
 /// Writes the record of a type without a zone, as the last of its chain, with a link to its parts.
 pub fn lay(work: &mut [u8], space: Space, g: Goal, shape: Shape, first: usize)

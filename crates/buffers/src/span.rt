@@ -9,10 +9,11 @@ ghost use Rattle.buffers.specs.Region.{Room, Inside, region};
 ghost use Rattle.buffers.specs.Span.{relinked, relabelled, MovedHeads, LabelsBegin, CopiedSpan};
 
 use crate::copy::{moved_label, moved_link, moved_quad, zone_bytes};
-use crate::write::{look, put_head, put_label};
+use crate::write::{look, put_label};
 use crate::{Failure, Out, Space, Spot};
 use sheet::Head;
 use sheet::record::head_from;
+use sheet::write::put_head;
 
 // A head whose links are moved, from number link to number at.
 fn relinked(h: Head, link: usize, at: usize) -> Head

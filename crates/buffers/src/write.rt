@@ -1,13 +1,14 @@
-//! Reading sides, and writing heads and labels into the work space.
+//! Reading sides, and writing labels into the work space.
 
 ghost use Rattle.std.specs.Prelude.{◌≡◌, not, ◌+◌, ◌≤◌, ◌<◌, length, take, drop};
-ghost use Rattle.sheet.specs.Head.{head_at, bytes_of};
+ghost use Rattle.sheet.specs.Head.{head_at};
 ghost use Rattle.sheet.specs.Bounds.{Bounded};
 ghost use Rattle.buffers.specs.Writes.{side, Put};
 
 use sheet::Head;
 use sheet::label::label_at;
 use sheet::record::head_at;
+use sheet::write::put;
 
 /// The buffer that the left is read from, and the right's.
 pub fn sides<'a>(sheet: &'a [u8], work: &'a [u8], swap: bool) -> (&'a [u8], &'a [u8])
@@ -37,44 +38,6 @@ pub fn value_at(sheet: &[u8], work: &[u8], swap: bool, r: usize) -> usize
 {
     let first = look(sheet, work, swap, r).first;
     look(sheet, work, swap, first).next
-}
-
-/// Puts bytes into a buffer, from `at` on.
-pub(crate) fn put(work: &mut [u8], at: usize, bytes: &[u8])
-    requires { at + length bytes.now ≤ length work.old }
-    ensures { Put work.old work.new at bytes.now }
-{
-    work[at..at + bytes.len()].copy_from_slice(bytes);
-}
-
-/// Puts the sixteen bytes of a head into a buffer, from `at` on.
-pub(crate) fn put_head(work: &mut [u8], at: usize, h: Head)
-    requires { (at + 16 ≤ length work.old) × Bounded h }
-    ensures { Put work.old work.new at (bytes_of h) }
-{
-    let quad = (h.quad as u32).to_le_bytes();
-    let first = (h.first as u16).to_le_bytes();
-    let next = (h.next as u16).to_le_bytes();
-    let name = (h.name as u16).to_le_bytes();
-    let bytes = [
-        h.kind,
-        h.flags,
-        h.figure,
-        h.scale,
-        quad[0],
-        quad[1],
-        quad[2],
-        quad[3],
-        first[0],
-        first[1],
-        next[0],
-        next[1],
-        name[0],
-        name[1],
-        h.nlen as u8,
-        h.last,
-    ];
-    put(work, at, &bytes)
 }
 
 // Puts a label of the work space at another place of it: what lies inside, where the work space

@@ -12,3 +12,4 @@ pub mod Mixing
 pub mod Figures
 pub mod Repeating
 pub mod Lowest
+pub mod Puts

@@ -5,10 +5,11 @@ use Rattle.sheet.specs.Types.{Zone, absent, present, Shape, Fields, end, field, 
 use Rattle.sheet.specs.Names.{names_differ}
 use Rattle.sheet.specs.Tests.{implies}
 use Rattle.sheet.specs.Refusals.{figures_right}
+use Rattle.sheet.specs.declared.limits.TheConstants.{MOST_RECORDS, MOST_LABEL_BYTES, LONGEST_LABEL}
 
 -- "A label is a name or a zone: up to 255 bytes of any value."
 pub record Label (l : List ℕ) : Type 0 where
-  pub short : length l ≤ 255
+  pub short : length l ≤ LONGEST_LABEL
   pub plain : (i : ℕ) → get_or l i 0 < 256
 
 abbrev pub is_named : List ℕ → Bool
@@ -39,7 +40,7 @@ FieldsRight up (field name nullable shape parts rest) =
 -- "The number m lies between 0 and 16,384."
 -- "The fields of one Struct have names that differ."
 pub record Carried (types : Fields) : Type 0 where
-  pub few : 1 + count types ≤ 1024
-  pub short : length (labels types) ≤ 16384
+  pub few : 1 + count types ≤ MOST_RECORDS
+  pub short : length (labels types) ≤ MOST_LABEL_BYTES
   pub right : FieldsRight 0 types
   pub differ : names_differ types ≡ true

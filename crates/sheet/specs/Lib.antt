@@ -9,5 +9,6 @@ pub mod Carried
 pub mod Names
 pub mod Holds
 pub mod Bounds
+pub mod Writes
 pub mod Caps
 pub mod Laws

@@ -11,6 +11,7 @@ use Rattle.sheet.specs.declared.Head.{Head}
 use Rattle.sheet.specs.declared.Refusal.{Refusal}
 use Rattle.sheet.specs.declared.Refusal.TheVariants.{Torn, Kind, Chain, Figure, Label}
 use Rattle.sheet.specs.declared.Sizes.{Sizes}
+use Rattle.sheet.specs.declared.limits.TheConstants.{MOST_RECORDS, MOST_LABEL_BYTES}
 
 abbrev pub all_zero : List ℕ → Bool
 all_zero [] = true
@@ -23,8 +24,8 @@ torn s =
     one_of
     (ltb (length s) 16
     ∷ ltb (records_of s) 1
-    ∷ ltb 1024 (records_of s)
-    ∷ ltb 16384 (labels_of s)
+    ∷ ltb MOST_RECORDS (records_of s)
+    ∷ ltb MOST_LABEL_BYTES (labels_of s)
     ∷ not (eqb (length s) (16 * records_of s + labels_of s))
     ∷ not (all_zero (take 12 (drop 4 s)))
     ∷ [])

@@ -6,6 +6,7 @@ ghost use Rattle.sheet.specs.Names.{same_bytes, stir, mixed};
 ghost use Rattle.sheet.specs.Bounds.{Bounded, Filled};
 
 use crate::Head;
+use crate::limits::{LONGEST_LABEL, RECORD_BYTES};
 use crate::record::{eight_at, quad_at, word_at};
 
 // The len bytes of a slice from at on, as far as it has them.
@@ -21,7 +22,7 @@ pub fn label_at(s: &[u8], n: usize, at: usize, len: usize) -> &[u8]
     requires { (n < 65536) × ((at < 65536) × (len < 65536)) }
     ensures { result.now ≡ label_at s.now n at len }
 {
-    part(s, 16 * n + at, len)
+    part(s, RECORD_BYTES * n + at, len)
 }
 
 // Whether two slices of one length, less than eight, are the same bytes. The last four, or two, may overlap the first.
@@ -81,11 +82,11 @@ pub fn fill(s: &[u8], a: usize, m: usize, buf: &mut [u8]) -> usize
 
 // The comparison of labels that may be the same. Each is held in an array of its own before they are compared.
 fn same_held(x: &[u8], y: &[u8]) -> bool
-    requires { (length x.now ≤ 255) × (length y.now ≤ 255) }
+    requires { (length x.now ≤ LONGEST_LABEL) × (length y.now ≤ LONGEST_LABEL) }
     ensures { result ≡ same_bytes x.now y.now }
 {
-    let mut a = [0u8; 255];
-    let mut b = [0u8; 255];
+    let mut a = [0u8; LONGEST_LABEL];
+    let mut b = [0u8; LONGEST_LABEL];
     let i = copy(x, &mut a);
     let j = copy(y, &mut b);
     same(&a[..i], &b[..j])
@@ -110,7 +111,7 @@ fn look_alike(x: &[u8], y: &[u8]) -> bool
 // It is not inlined, so that the quick tests of `same_label` can be, in the loops that ask them.
 #[inline(never)]
 fn same_close(x: &[u8], y: &[u8]) -> bool
-    requires { (length x.now ≡ length y.now) × (length x.now ≤ 255) }
+    requires { (length x.now ≡ length y.now) × (length x.now ≤ LONGEST_LABEL) }
     ensures { result ≡ same_bytes x.now y.now }
 {
     look_alike(x, y) && same_held(x, y)
@@ -119,7 +120,7 @@ fn same_close(x: &[u8], y: &[u8]) -> bool
 /// Whether the m bytes of s from a on are the n bytes of t from b on, each as far as its slice has them.
 // Most labels differ in length or in their last two bytes, and are told apart by these.
 pub fn same_label(s: &[u8], a: usize, m: usize, t: &[u8], b: usize, n: usize) -> bool
-    requires { (m ≤ 255) × (n ≤ 255) }
+    requires { (m ≤ LONGEST_LABEL) × (n ≤ LONGEST_LABEL) }
     ensures { result ≡ same_bytes (take m (drop a s.now)) (take n (drop b t.now)) }
 {
     let x = part(s, a, m);
@@ -161,5 +162,7 @@ pub fn same_name(s: &[u8], n: usize, h: Head, t: &[u8], m: usize, g: Head) -> bo
     requires { ((n < 65536) × (m < 65536)) × (Bounded h × Bounded g) }
     ensures { result ≡ same_bytes (label_at s.now n h.name h.nlen) (label_at t.now m g.name g.nlen) }
 {
-    same_label(s, 16 * n + h.name, h.nlen, t, 16 * m + g.name, g.nlen)
+    let i = RECORD_BYTES * n + h.name;
+    let j = RECORD_BYTES * m + g.name;
+    same_label(s, i, h.nlen, t, j, g.nlen)
 }

@@ -15,8 +15,12 @@ pub mod kind;
 pub mod label;
 /// What is proved of the definitions of the format.
 pub mod laws;
+/// The limits of a sheet.
+pub mod limits;
 /// The heads of records.
 pub mod record;
+/// Writing into a buffer: bytes, the head of a record, the header of a sheet.
+pub mod write;
 
 /// The sixteen bytes of a record, field by field. A kind is any byte here: what is read need not be accepted.
 ///

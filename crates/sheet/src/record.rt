@@ -4,6 +4,7 @@ ghost use Rattle.sheet.specs.Head.{word, quad_at, eight_at, head_from, head_at};
 ghost use Rattle.sheet.specs.Bounds.{Bounded};
 
 use crate::Head;
+use crate::limits::RECORD_BYTES;
 
 /// Two bytes as one number, the lower first.
 pub fn word_at(s: &[u8], i: usize) -> usize
@@ -40,7 +41,7 @@ pub(crate) fn eight_at(s: &[u8], i: usize) -> usize
 
 /// The head in the sixteen bytes from byte i on.
 pub fn head_from(s: &[u8], i: usize) -> Head
-    requires { i + 16 ≤ length s.now }
+    requires { i + RECORD_BYTES ≤ length s.now }
     ensures { (result ≡ head_from s.now i) × Bounded result }
 {
     Head {
@@ -62,8 +63,8 @@ pub fn head_from(s: &[u8], i: usize) -> Head
 pub fn head_at(s: &[u8], r: usize) -> Head
     ensures { (result ≡ head_at s.now r) × Bounded result }
 {
-    if r < s.len() / 16 {
-        head_from(s, 16 * r)
+    if r < s.len() / RECORD_BYTES {
+        head_from(s, RECORD_BYTES * r)
     } else {
         Head::default()
     }

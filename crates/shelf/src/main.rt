@@ -9,12 +9,10 @@
 use answers::Answer;
 use anyhow::anyhow;
 use reading::read_full;
+use sheet::limits::{LONGEST_SHEET, RECORD_BYTES};
 use std::{fmt, io};
 
 const MASK: u64 = (1 << 39) - 2;
-
-// The longest sheet: 1,024 records and 16,384 label bytes.
-const MOST: usize = 32768;
 
 // What is printed of the type of a one-type sheet.
 #[derive(Clone, Copy)]
@@ -27,12 +25,12 @@ struct Type {
 
 impl Type {
     // The type of the one-type sheet at the front of an output.
-    fn at_front(output: &[u8; MOST]) -> Type {
+    fn at_front(output: &[u8; LONGEST_SHEET]) -> Type {
         let n = u16::from_le_bytes([output[0], output[1]]);
         Type {
-            kind: output[16],
-            figure: output[18],
-            scale: output[19].cast_signed(),
+            kind: output[RECORD_BYTES],
+            figure: output[RECORD_BYTES + 2],
+            scale: output[RECORD_BYTES + 3].cast_signed(),
             records: n.saturating_sub(1),
         }
     }
@@ -59,8 +57,8 @@ fn print_answer<F: Fn(&[u8], u64, &mut [u8], &mut [u8]) -> Answer>(
 ) -> io::Result<()>
     requires { F.IsAlwaysCallable call }
 {
-    let mut output = [0u8; MOST];
-    let mut work = [0u8; 2 * MOST];
+    let mut output = [0u8; LONGEST_SHEET];
+    let mut work = [0u8; 2 * LONGEST_SHEET];
     match call(sheet, MASK, &mut output, &mut work) {
         Err(r) => println!(rt; "{question} refused {}", u8::from(r)),
         Ok(None) => println!(rt; "{question} none"),
@@ -70,7 +68,7 @@ fn print_answer<F: Fn(&[u8], u64, &mut [u8], &mut [u8]) -> Answer>(
 
 // An input that has one byte more than the longest sheet is refused as torn, and not read further.
 fn main(rt: HostRuntime) -> anyhow::Result<()> {
-    let mut space = [0u8; MOST + 1];
+    let mut space = [0u8; LONGEST_SHEET + 1];
     let length = read_full(&mut rt.reader(), &mut space).map_err(|e| anyhow!(
         "standard input cannot be read: {e}"
     ))?;

@@ -1,4 +1,4 @@
-use Rattle.buffers.proofs.Puts.{put_within}
+use Rattle.sheet.proofs.Puts.{put_within}
 use Rattle.buffers.proofs.write.put_own.Goals as goal
 
 pub returns-then-from-end : goal.returns-then-from-end

@@ -7,7 +7,7 @@ use native.Mathlib.Omega.{arith}
 use lib.ListN.{length, get_or, take, drop, length-append, length-take, length-drop, drop_of_length-le, get_or-append}
 use lib.Seq.{paste, get_or-append-add, get_or-take, get_or-drop, take-length, take_all, drop-drop}
 use Rattle.sheet.proofs.Spans.{at_eq, at_span}
-use Rattle.buffers.specs.Writes.{Put}
+use Rattle.sheet.specs.Writes.{Put}
 
 -- u in the middle of a list
 pub put_list : (w v u : List ℕ) (i : ℕ) → i + length u ≤ length w → v ≡ take i w ++ (u ++ drop (i + length u) w) → Put w v i u
