@@ -16,7 +16,7 @@ use Rattle.sheet.specs.Refusals.{number_of}
 use Rattle.sheet.specs.Refusals as Sheet
 use Rattle.sheet.specs.declared.Refusal.{Refusal}
 use Rattle.sheet.specs.declared.Refusal.TheVariants.{Torn}
-use Rattle.refusals.proofs.Verdicts.{says_torn, checked_number, number_some}
+use Rattle.refusals.proofs.Verdicts.{says_torn, number_some}
 use Rattle.sheet.proofs.Tests.{or_fst, or_snd}
 use Rattle.sheet.proofs.Accepted.{accepted_carried}
 use Rattle.sheet.proofs.Chains.{encode_length}
@@ -45,11 +45,10 @@ refused_outcome : (c : Call) (k : ℕ) → ¬ (k ≡ 0) → refusal c ≡ k → 
 unfolding outcome
 refused_outcome c k h e = rw (e, ne_eqb k 0 h)
 
-pub refused_sheet : (c : Call) (r : Refusal) → record { number = number_of r; n = 0; m = 0 } ≡ Sheet.verdict c.sheet
+pub refused_sheet : (c : Call) (r : Refusal) → number_of r ≡ Sheet.refusal c.sheet
     → record { reply = refused (number_of r); output = c.output; work = c.work } ≡ outcome c
-refused_sheet c r h =
-    let z : Sheet.refusal c.sheet ≡ number_of r = checked_number c.sheet (number_of r) 0 0 h in
-    refused_outcome c (number_of r) (number_some r) (sheet_refusal c (λ x. number_some r (sym z ∙ x)) ∙ z)
+refused_sheet c r e =
+    refused_outcome c (number_of r) (number_some r) (sheet_refusal c (λ x. number_some r (e ∙ x)) ∙ sym e)
 
 pub torn_call : (c : Call) → Sheet.torn c.sheet ≡ true → record { reply = refused 1; output = c.output; work = c.work } ≡ outcome c
 torn_call c h = refused_sheet c Torn (says_torn c.sheet h)

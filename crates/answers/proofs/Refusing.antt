@@ -12,10 +12,10 @@ use Rattle.sheet.specs.Encode.{link_to}
 use Rattle.sheet.specs.Head.{head_at}
 use Rattle.sheet.specs.Read.{start, read}
 use Rattle.sheet.specs.Holds.{Plain, Holds, Leads}
-use Rattle.sheet.specs.Refusals.{Condition, first_met, Verdict, verdict}
+use Rattle.sheet.specs.Refusals.{Condition, first_met}
 use Rattle.sheet.specs.Refusals as Sheet
 use Rattle.sheet.specs.declared.Head.{Head}
-use Rattle.refusals.proofs.Verdicts.{checked_number, verdict_is}
+use Rattle.refusals.specs.Framed.{FramedBy}
 use Rattle.sheet.proofs.Reading.{start_leads}
 use Rattle.sheet.proofs.Accepted.{accepted_holds, accepted_carried, accepted_n, accepted_m, accepted_length}
 use Rattle.coercion.specs.declared.Question.{Question}
@@ -137,14 +137,6 @@ pub sheet_refusal : (c : Call) → ¬ (Sheet.refusal c.sheet ≡ 0) → refusal 
 unfolding refusal Sheet.refusal
 sheet_refusal c h = met_first (Sheet.conditions c.sheet) (later c) h
 
--- what the check of a sheet says
-pub checked_accepted : (s : List ℕ) (n m : ℕ) → record { number = 0; n = n; m = m } ≡ verdict s → Measured s (record { n = n; m = m; half = length s })
-checked_accepted s n m h =
-    let z = checked_number s 0 n m h in
-    let e = h ∙ verdict_is s z in
-    record {
-      unrefused = z;
-      records = ap (λ (v : Verdict). v.n) e;
-      labels = ap (λ (v : Verdict). v.m) e;
-      half = refl;
-    }
+-- what the check of a sheet that is not torn says
+pub framed_measured : {s : List ℕ} {n m : ℕ} → FramedBy s n m → 0 ≡ Sheet.refusal s → Measured s (record { n = n; m = m; half = length s })
+framed_measured f e = record { unrefused = sym e; records = f.records; labels = f.labels; half = refl }

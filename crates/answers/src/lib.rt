@@ -15,10 +15,9 @@ ghost use Rattle.coercion.specs.declared.Question.{Question};
 use buffers::Space;
 use coercion::{Question, Rules};
 use emit::write_type;
-use refusals::check_whole;
-use refusals::header::Whole;
+use refusals::check_framed;
+use refusals::header::Framed;
 use refuse::refused;
-use sheet::Sizes;
 
 /// Why a call is refused: for what is wrong with the sheet; for a mask with a bit outside 1 to 38; for a sheet that
 /// does not list two types where a question wants two; or for too little space. `u8::from` gives the refusal number,
@@ -91,18 +90,18 @@ pub fn comparison_coercion(sheet: &[u8], mask: u64, output: &mut [u8], work: &mu
 fn ask(rules: Rules, sheet: &[u8], output: &mut [u8], work: &mut [u8]) -> Answer
     ensures { seen result output.new work.new ≡ outcome (call_of rules sheet.now output.old work.old) }
 {
-    let Some(whole) = Whole::of(sheet) else {
+    let Some(framed) = Framed::of(sheet) else {
         return Err(Refusal::Sheet(sheet::Refusal::Torn));
     };
-    ask_whole(rules, whole, output, work)
+    ask_framed(rules, framed, output, work)
 }
 
 /// A call, whatever it asks, on a sheet that is not torn.
-pub fn ask_whole(rules: Rules, whole: Whole<'_>, output: &mut [u8], work: &mut [u8]) -> Answer
-    ensures { seen result output.new work.new ≡ outcome (call_of rules whole.entry.sheet.now output.old work.old) }
+pub fn ask_framed(rules: Rules, framed: Framed<'_>, output: &mut [u8], work: &mut [u8]) -> Answer
+    ensures { seen result output.new work.new ≡ outcome (call_of rules framed.entry.sheet.now output.old work.old) }
 {
-    let Sizes { n, m } = check_whole(whole)?;
-    let sheet = whole.sheet;
+    check_framed(framed)?;
+    let Framed { sheet, n, m } = framed;
     let half = sheet.len();
     let space = Space { n, m, half };
     refused(rules, sheet, space, output.len(), work.len())?;

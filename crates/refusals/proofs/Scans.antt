@@ -1,4 +1,4 @@
--- The loops over a sheet's header and records, and the returns of `limits`. Assumes nothing.
+-- The loops over a sheet's header and records. Assumes nothing.
 use mathlib.Core.Path.{◌≡◌, refl, ap, sym, subst, ◌∙◌}
 use mathlib.Core.Bool.{Bool, true, false, not, ◌||◌, ◌&&◌}
 use mathlib.Core.List.{List}
@@ -15,7 +15,7 @@ use Rattle.sheet.specs.Kind.{is_kind}
 use Rattle.sheet.specs.Head.{quad_at, head_at}
 use Rattle.sheet.specs.Read.{records_of, labels_of}
 use Rattle.sheet.specs.Refusals.{all_zero, any_from, torn}
-use Rattle.refusals.specs.Limits.{Fits}
+use Rattle.refusals.specs.Framed.{FramedBy}
 use Rattle.sheet.specs.declared.Head.{Head}
 use Rattle.sheet.proofs.Heads.{head_inside}
 use Rattle.sheet.proofs.Tests.{one_at, one_is_lem, not_of}
@@ -97,13 +97,13 @@ module _ (s : List ℕ) where
 
 -- a sheet that is not torn
 module _ (s : List ℕ) (h : torn s ≡ false) where
-  pub whole_long : 16 ≤ length s
+  pub framed_long : 16 ≤ length s
   unfolding torn
-  whole_long = ltb-false (length s) 16 (one_at _ 0 h)
+  framed_long = ltb-false (length s) 16 (one_at _ 0 h)
 
-  pub whole_fits : (n m : ℕ) → n ≡ records_of s → m ≡ labels_of s → Fits s n m
+  pub framed_by : (n m : ℕ) → n ≡ records_of s → m ≡ labels_of s → FramedBy s n m
   unfolding torn
-  whole_fits n m en em =
+  framed_by n m en em =
       let some = ltb-false (records_of s) 1 (one_at _ 1 h) in
       let few = ltb-false 1024 (records_of s) (one_at _ 2 h) in
       let short = ltb-false 16384 (labels_of s) (one_at _ 3 h) in

@@ -1,4 +1,4 @@
-pub mod Limits
+pub mod Framed
 pub mod Found
 pub mod Walk
 pub mod Packed

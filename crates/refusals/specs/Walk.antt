@@ -5,6 +5,7 @@ use Rattle.sheet.specs.Head.{head_at, labelled}
 use Rattle.sheet.specs.Read.{walk_from}
 use Rattle.sheet.specs.Refusals.{Met, met, linked, record_right, label_right}
 use Rattle.sheet.specs.declared.Head.{Head}
+use Rattle.sheet.specs.declared.limits.TheConstants.{MOST_RECORDS}
 use Rattle.refusals.specs.declared.Progress.{Progress}
 
 -- past a record, in one of kind up
@@ -24,7 +25,7 @@ pass_all s p (r ∷ rs) = pass_all s (pass_head (head_at s r.number) r.up p) rs
 
 -- what holds on the way: no number outgrows its limit
 pub record Ready (n : ℕ) (p : Progress) (k : ℕ) : Type 0 where
-  pub few : n ≤ 1024
+  pub few : n ≤ MOST_RECORDS
   pub some : 0 < p.due
   pub inside : p.due ≤ n
   pub short : p.at ≤ 510 * p.due

@@ -12,14 +12,12 @@ pub mod repeated_names;
 mod walk;
 
 ghost use Rattle.std.specs.Prelude.{◌≡◌};
-ghost use Rattle.sheet.specs.Refusals.{meaning, verdict};
-ghost use Rattle.refusals.specs.Limits.{Fits};
-ghost use Rattle.refusals.specs.Found.{Found};
+ghost use Rattle.sheet.specs.Refusals.{refusal, meaning, verdict};
+ghost use Rattle.refusals.specs.Found.{Found, number_met};
 
-use header::Whole;
+use header::Framed;
 use records::Records;
 use repeated_names::names_repeat;
-use sheet::record::word_at;
 use sheet::{Refusal, Sizes};
 
 // What a walk has found so far: the next record, the next label, and whether a figure or a label is wrong.
@@ -35,39 +33,38 @@ struct Progress {
 pub fn check(s: &[u8]) -> Result<Sizes, Refusal>
     ensures { meaning result ≡ verdict s.now }
 {
-    let Some(whole) = Whole::of(s) else {
+    let Some(framed) = Framed::of(s) else {
         return Err(Refusal::Torn);
     };
-    check_whole(whole)
+    check_framed(framed)?;
+    Ok(Sizes {
+        n: framed.n,
+        m: framed.m,
+    })
 }
 
-/// Checks a sheet that is known not to be torn: refusals 2 to 5, or the header's n and m.
-pub fn check_whole(whole: Whole<'_>) -> Result<Sizes, Refusal>
-    ensures { meaning result ≡ verdict whole.entry.sheet.now }
+/// Checks a sheet that is known not to be torn: refusals 2 to 5.
+pub fn check_framed(framed: Framed<'_>) -> Result<(), Refusal>
+    ensures { number_met result ≡ refusal framed.entry.sheet.now }
 {
-    let s = whole.sheet;
-    check_records(s, word_at(s, 0), word_at(s, 2))
-}
-
-// The check behind the header.
-fn check_records(s: &[u8], n: usize, m: usize) -> Result<Sizes, Refusal>
-    requires { Fits s.now n m }
-    ensures { meaning result ≡ verdict s.now }
-{
-    let records = Records { sheet: s, n };
+    let Framed { sheet, n, .. } = framed;
+    let records = Records { sheet, n };
     if records.odd_kind() {
         return Err(Refusal::Kind);
     }
     let link = usize::from(1 < n);
-    let (p, _) = records.walk_all(link).ok_or(Refusal::Chain)?;
-    check_found(s, n, m, link, p)
+    let Some((p, _)) = records.walk_all(link) else {
+        return Err(Refusal::Chain);
+    };
+    check_found(framed, link, p)
 }
 
 // The answer once the walk over a whole sheet came to its end.
-fn check_found(s: &[u8], n: usize, m: usize, link: usize, p: Progress) -> Result<Sizes, Refusal>
-    requires { Found s.now n m link p }
-    ensures { meaning result ≡ verdict s.now }
+fn check_found(framed: Framed<'_>, link: usize, p: Progress) -> Result<(), Refusal>
+    requires { Found framed.sheet.now framed.n framed.m link p }
+    ensures { number_met result ≡ refusal framed.entry.sheet.now }
 {
+    let Framed { sheet, n, m } = framed;
     if p.due != n {
         return Err(Refusal::Chain);
     }
@@ -78,8 +75,8 @@ fn check_found(s: &[u8], n: usize, m: usize, link: usize, p: Progress) -> Result
         return Err(Refusal::Label);
     }
     // The header, a Struct and two fields of one name are four records.
-    if 4 <= n && names_repeat(s, n) {
+    if 4 <= n && names_repeat(sheet, n) {
         return Err(Refusal::Label);
     }
-    Ok(Sizes { n, m })
+    Ok(())
 }

@@ -9,6 +9,7 @@ ghost use Rattle.refusals.specs.Packed.{light, Stamped, Passes, Passed};
 use sheet::Head;
 use sheet::figure::{figure_right, label_bytes, label_right, names_parts, record_right};
 use sheet::kind::is_decimal;
+use sheet::limits::RECORD_BYTES;
 use sheet::record::{head_from, quad_at};
 
 // Whether a record has no flag but the first, no size, and right figures, by its first two numbers of 32 bits.
@@ -93,7 +94,7 @@ fn pass_open(h: Head, up: u8, found: usize) -> usize
 // Goes past the record at byte i, by the quick tests where these decide. It calls `pass_open` twice, so that this is
 // not inlined.
 pub(crate) fn pass_record(s: &[u8], i: usize, up: u8, found: usize) -> usize
-    requires { (i + 16 ≤ length s.now) × ((found % 4294967296 < 1000000) × (found < 17179869184)) }
+    requires { (i + RECORD_BYTES ≤ length s.now) × ((found % 4294967296 < 1000000) × (found < 17179869184)) }
     ensures { Passed (head_from s.now i) up found result }
 {
     let at = found % 4294967296;

@@ -2,9 +2,11 @@
 ghost use Rattle.std.specs.Prelude.{◌≡◌, ◌*◌, ◌<◌, ◌≤◌, length};
 ghost use Rattle.sheet.specs.Holds.{Plain};
 ghost use Rattle.sheet.specs.Names.{same_bytes};
+ghost use Rattle.sheet.specs.declared.limits.TheConstants.{RECORD_BYTES};
 ghost use Rattle.refusals.specs.RepeatedNames.{name_of};
 
 use sheet::label::{label_at, same_name};
+use sheet::limits::RECORD_BYTES;
 use sheet::record::head_at;
 
 // A sheet of n records.
@@ -14,7 +16,7 @@ pub(crate) struct Records<'a> {
     pub(crate) n: usize,
     ghost bytes: { Plain sheet.now },
     ghost few: { n < 65536 },
-    ghost inside: { 16 * n ≤ length sheet.now },
+    ghost inside: { RECORD_BYTES * n ≤ length sheet.now },
 }
 
 impl<'a> Records<'a> {

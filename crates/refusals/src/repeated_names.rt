@@ -12,6 +12,7 @@ use crate::name_numbers::name_number;
 use crate::records::Records;
 use sheet::Head;
 use sheet::label::{label_at, same_name};
+use sheet::limits::{MOST_RECORDS, RECORD_BYTES};
 use sheet::record::head_at;
 
 // Whether two are equal was not found out.
@@ -109,10 +110,10 @@ impl Chain<'_> {
     fn repeats_long(self) -> bool
         ensures { Repeats self.entry.records.sheet.now self.entry.records.n self.entry.floor self.entry.link result }
     {
-        // Room for 1,024 records, filled up to k; where it is full all are compared. Two arrays are 6 KiB to set to 0,
-        // where one of structs would be 8.
-        let mut recs = [0u16; 1024];
-        let mut numbers = [0u32; 1024];
+        // Room for the most records, filled up to k; where it is full all are compared. Two arrays are 6 KiB to set
+        // to 0, where one of structs would be 8.
+        let mut recs = [0u16; MOST_RECORDS];
+        let mut numbers = [0u32; MOST_RECORDS];
         let k = self.list(&mut recs, &mut numbers);
         if k == recs.len() {
             return self.repeats_plain();
@@ -148,7 +149,7 @@ impl Records<'_> {
         requires { r < self.n }
         ensures { StructRepeats self.entry.sheet.now self.entry.n r result }
     {
-        if self.sheet[16 * r] != STRUCT {
+        if self.sheet[RECORD_BYTES * r] != STRUCT {
             return false;
         }
         let parts = Chain {
@@ -163,7 +164,7 @@ impl Records<'_> {
 /// Whether a Struct at any depth has two fields of one name, in a sheet of n records whose walk from record 1 meets
 /// them all.
 pub fn names_repeat(sheet: &[u8], n: usize) -> bool
-    requires { (n < 65536) × (16 * n ≤ length sheet.now) }
+    requires { (n < 65536) × (RECORD_BYTES * n ≤ length sheet.now) }
     ensures { (o : ℕ) (t : Fields) → Holds sheet.now n 1 o t → 1 + count t ≡ n → result ≡ not (names_differ t) }
 {
     let records = Records { sheet, n };

@@ -9,6 +9,7 @@ use crate::Progress;
 use crate::pass::pass_record;
 use crate::records::Records;
 use sheet::figure::parts_right;
+use sheet::limits::RECORD_BYTES;
 use sheet::record::{head_from, quad_at};
 
 // A walk along a chain: the record that is due behind it, how many records the chain has, and what was found.
@@ -47,7 +48,7 @@ impl Records<'_> {
         requires { r < self.now.n }
         ensures { result ≡ true → PlainAt self.now.sheet.now r links }
     {
-        let i = 16 * r;
+        let i = RECORD_BYTES * r;
         quad_at(self.sheet, i + 8) == links
             && is_plain(
                 quad_at(self.sheet, i),
@@ -109,7 +110,7 @@ impl Records<'_> {
             if link != due || n <= due {
                 return None;
             }
-            let i = 16 * due;
+            let i = RECORD_BYTES * due;
             found = pass_record(sheet, i, up, found);
             let h = head_from(sheet, i);
             due += 1;

@@ -22,11 +22,11 @@ returns-then-p-2 c =
 
 pub returns-then-names_repeat : goal.returns-then-names_repeat
 returns-then-names_repeat c =
-    found_repeated _ _ _ _ _ c.requires (omega arith) c.if-p.false c.if-p-2.false (omega arith) (λ j. (c.type_inv.s j).fits) c.names_repeat.ensures c.if-names_repeat.true
+    found_repeated _ _ _ _ _ c.requires (omega arith) c.if-p.false c.if-p-2.false (omega arith) c.args.framed.bytes c.names_repeat.ensures c.if-names_repeat.true
 
 pub returns : goal.returns
 returns c =
     elim c.else-n-ge4.branch [
-      | else-n-ge4-via-then-n-ge4+else-names_repeat w ↦ found_sheet _ _ _ _ _ c.requires (omega arith) c.if-p.false c.if-p-2.false (omega arith) (λ j. (c.type_inv.s j).fits) w.names_repeat.ensures w.if-names_repeat.false
-      | else-n-ge4-via-else-n-ge4 w ↦ found_sheet _ _ _ _ _ c.requires (omega arith) c.if-p.false c.if-p-2.false (omega arith) (λ j. (c.type_inv.s j).fits) (λ o t h e. ap not (sym (few_differ t (omega (arith, e, w.if-n-ge4.false))))) refl
+      | else-n-ge4-via-then-n-ge4+else-names_repeat w ↦ found_sheet _ _ _ _ _ c.requires (omega arith) c.if-p.false c.if-p-2.false (omega arith) c.args.framed.bytes w.names_repeat.ensures w.if-names_repeat.false
+      | else-n-ge4-via-else-n-ge4 w ↦ found_sheet _ _ _ _ _ c.requires (omega arith) c.if-p.false c.if-p-2.false (omega arith) c.args.framed.bytes (λ o t h e. ap not (sym (few_differ t (omega (arith, e, w.if-n-ge4.false))))) refl
     ]
