@@ -1,11 +1,11 @@
 -- Records by their numbers of 32 bits: those that few tests show to be right. Assumes nothing.
 use mathlib.Core.Path.{◌≡◌, refl, ap, sym, subst, ◌∙◌}
-use mathlib.Core.Bool.{Bool, true, false, not, cond, ◌&&◌, ◌||◌}
+use mathlib.Core.Bool.{Bool, true, false, not, cond, ◌&&◌}
 use mathlib.Core.Logic.{◌⊎◌, inl, inr, ⊎_elim}
 use Prim.Native.Nat.{ℕ, ◌+◌, ◌*◌, ◌/◌, ◌%◌, ◌<◌, ◌≤◌}
 use native.Mathlib.Omega.{arith}
 use lib.Dec.{eqb, ltb}
-use borrow.Author.Tests.{eq-eqb, ne_eqb, eqb-true, lt-ltb, ltb-true, lt-leb, le-leb}
+use borrow.Author.Tests.{eq-eqb, ne_eqb, eqb-true, lt-ltb, ltb-true, le-leb}
 use Rattle.std.proofs.lemmas.Bool.Decides.{nat_tests}
 use Rattle.sheet.specs.Tests.{implies, between}
 use Rattle.sheet.specs.Kind.{is_decimal, cap, parts_right, names_parts}
@@ -134,12 +134,10 @@ module _ (k p s : ℕ) (u : usual_decimal k p s ≡ true) where
       (all_cons _ (le-leb (p + 1) ((s + 128) % 256) (omega (arith, usual_few, e))) all_nil)))
 
 -- a plain record
-plain_cases : (x y z u : Bool) → (x || cond y z u) ≡ true → (x ≡ true) ⊎ (((y ≡ true) × (z ≡ true)) ⊎ (u ≡ true))
-plain_cases true y z u e = inl refl
-plain_cases false true true u e = inr (inl (refl, refl))
-plain_cases false true false u e = never e
-plain_cases false false z true e = inr (inr refl)
-plain_cases false false z false e = never e
+plain_cases : (y d u : Bool) → cond y (not d) u ≡ true → ((y ≡ true) × (d ≡ false)) ⊎ (u ≡ true)
+plain_cases true true u e = never e
+plain_cases true false u e = inl (refl, refl)
+plain_cases false d u e = inr e
 
 -- what it says of its kind
 record Kinded (a : ℕ) : Type 0 where
@@ -174,16 +172,14 @@ module _ (a b c d : ℕ) (p : plain a b d ≡ true) where
   rest_none = eqb-true (b + d) 0 (and_fst (eqb (b + d) 0) _ p)
 
   kinded : Kinded a
-  unfolding is_decimal between
   kinded =
-      ⊎_elim (λ x. let h = ltb-true a 14 x in kinded_low a (omega (arith, h)) (rw (lt-leb 14 (a % 256) (omega (arith, h)))))
-      (⊎_elim
+      ⊎_elim
       (λ y.
       let h = ltb-true a 32 y.0 in
-      let g = ltb-true 17 a y.1 in
-      kinded_low a h (rw (le-leb 14 (a % 256) (omega (arith, h, g)), lt-leb (a % 256) 17 (omega (arith, h, g)))))
-      (kinded_usual a))
-      (plain_cases (ltb a 14) (ltb a 32) (ltb 17 a) (usual_decimal (a % 65536) (a / 65536 % 256) (a / 16777216)) (and_snd (eqb (b + d) 0) _ p))
+      let e : a % 256 ≡ a = omega (arith, h) in
+      kinded_low a h (ap is_decimal e ∙ y.1))
+      (kinded_usual a)
+      (plain_cases (ltb a 32) (is_decimal a) (usual_decimal (a % 65536) (a / 65536 % 256) (a / 16777216)) (and_snd (eqb (b + d) 0) _ p))
 
   pub plain_passes : (up o : ℕ) → Passes (by_quads a b c d) up o 0
   plain_passes up o =

@@ -1,8 +1,10 @@
 -- What the numbers say that a walk carries.
-use Rattle.std.specs.Prelude.{◌≡◌, Bool, true, cond, ◌&&◌, ◌||◌, List, ℕ, ◌+◌, ◌*◌, ◌-◌, ◌/◌, ◌%◌, ◌<◌, ◌≤◌, eqb, ltb, leb, Option, Some, None, IfSome}
+use Rattle.std.specs.Prelude.{◌≡◌, Bool, true, not, cond, ◌&&◌, List, ℕ, ◌+◌, ◌*◌, ◌-◌, ◌/◌, ◌%◌, ◌<◌, ◌≤◌, eqb, ltb, leb, Option, Some, None, IfSome}
+use Rattle.sheet.specs.Kind.{is_decimal}
 use Rattle.sheet.specs.Head.{labelled, quad_at}
 use Rattle.sheet.specs.Refusals.{figure_right, record_right, label_right}
 use Rattle.sheet.specs.declared.Head.{Head}
+use Rattle.sheet.specs.declared.kind.TheConstants as Kind
 use Rattle.refusals.specs.Walk.{pass_head, Ready, Walks}
 use Rattle.refusals.specs.declared.Progress.{Progress}
 use Rattle.refusals.specs.declared.walk.Walked.{Walked}
@@ -23,7 +25,7 @@ light h = eqb h.quad 0 && (ltb h.flags 2 && figure_right h.kind h.figure h.scale
 
 -- a Timestamp with a zone, without a name and not nullable, of a right unit and with no other figure
 pub record Stamped (h : Head) : Type 0 where
-  pub kind : h.kind ≡ 22
+  pub kind : h.kind ≡ Kind.TIMESTAMP
   pub flags : h.flags ≡ 4
   pub unit : h.figure ≤ 3
   pub scale : h.scale ≡ 0
@@ -41,14 +43,14 @@ pub record Passes (h : Head) (up o r : ℕ) : Type 0 where
 
 -- a Decimal128 of up to 38 digits, and a scale of 0 up to the precision
 abbrev pub usual_decimal : ℕ → ℕ → ℕ → Bool
-usual_decimal k p s = eqb k 16 && (leb s p && (ltb 0 p && leb p 38))
+usual_decimal k p s = eqb k Kind.DECIMAL128 && (leb s p && (ltb 0 p && leb p 38))
 
 -- the numbers of 32 bits of a record that says nothing but a kind that has no parts, at most a usual decimal's figures,
 -- and its links
 abbrev pub plain : ℕ → ℕ → ℕ → Bool
 plain a b d =
     eqb (b + d) 0
-    && (ltb a 14 || cond (ltb a 32) (ltb 17 a) (usual_decimal (a % 65536) (a / 65536 % 256) (a / 16777216)))
+    && cond (ltb a Kind.LIST) (not (is_decimal a)) (usual_decimal (a % 65536) (a / 65536 % 256) (a / 16777216))
 
 -- record r is such a record, and its links are the number given
 pub record PlainAt (s : List ℕ) (r links : ℕ) : Type 0 where

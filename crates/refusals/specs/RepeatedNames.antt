@@ -5,6 +5,7 @@ use Rattle.sheet.specs.Head.{head_at}
 use Rattle.sheet.specs.Read.{label_at}
 use Rattle.sheet.specs.Names.{repeats, mixed}
 use Rattle.sheet.specs.Holds.{Leads}
+use Rattle.sheet.specs.declared.kind.TheConstants as Kind
 use Rattle.refusals.specs.declared.repeated_names.Unsure.{Unsure}
 
 -- two equal ones among several, by their places; or none, where all differ; or neither is known
@@ -74,4 +75,4 @@ pub record Numbered (s : List ℕ) (n : ℕ) (recs : List ℕ) (k : ℕ) (number
 
 -- b says whether record r is a Struct with two fields of one name
 abbrev pub StructRepeats : List ℕ → ℕ → ℕ → Bool → Type 0
-StructRepeats s n r b = (k o : ℕ) (t : Fields) → Leads s n r (head_at s r).first k o t → b ≡ (eqb (head_at s r).kind 35 && repeats t)
+StructRepeats s n r b = (k o : ℕ) (t : Fields) → Leads s n r (head_at s r).first k o t → b ≡ (eqb (head_at s r).kind Kind.STRUCT && repeats t)

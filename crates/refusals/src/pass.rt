@@ -8,7 +8,7 @@ ghost use Rattle.refusals.specs.Packed.{light, Stamped, Passes, Passed};
 
 use sheet::Head;
 use sheet::figure::{figure_right, label_bytes, label_right, names_parts, record_right};
-use sheet::kind::is_decimal;
+use sheet::kind::{self, is_decimal};
 use sheet::limits::RECORD_BYTES;
 use sheet::record::{head_from, quad_at};
 
@@ -51,7 +51,7 @@ fn light_labels(a: usize, d: usize, up: u8, at: usize) -> Option<usize>
 fn is_stamped(h: Head) -> bool
     ensures { result ≡ true → Stamped h }
 {
-    h.kind == 22
+    h.kind == kind::TIMESTAMP
         && h.flags == 4
         && h.figure <= 3
         && h.scale == 0

@@ -10,10 +10,10 @@ ghost use Rattle.refusals.specs.RepeatedNames.{name_of, name_at, placed, First, 
 
 use crate::name_numbers::name_number;
 use crate::records::Records;
-use sheet::Head;
 use sheet::label::{label_at, same_name};
 use sheet::limits::{MOST_RECORDS, RECORD_BYTES};
 use sheet::record::head_at;
+use sheet::{Head, kind};
 
 // Whether two are equal was not found out.
 #[derive(Clone, Copy)]
@@ -21,9 +21,6 @@ pub(crate) struct Unsure;
 
 // Two equal ones among several, by their places; or none, where all differ.
 pub(crate) type Pair = Result<Option<(usize, usize)>, Unsure>;
-
-// The kind of a Struct.
-const STRUCT: u8 = 35;
 
 // The chain of records that a link leads to: each is past the one before it, and the first past floor.
 #[derive(Clone, Copy)]
@@ -149,7 +146,7 @@ impl Records<'_> {
         requires { r < self.n }
         ensures { StructRepeats self.entry.sheet.now self.entry.n r result }
     {
-        if self.sheet[RECORD_BYTES * r] != STRUCT {
+        if self.sheet[RECORD_BYTES * r] != kind::STRUCT {
             return false;
         }
         let parts = Chain {

@@ -8,7 +8,9 @@ ghost use Rattle.refusals.specs.Packed.{progress_of, usual_decimal, plain, Plain
 use crate::Progress;
 use crate::pass::pass_record;
 use crate::records::Records;
+use sheet::caps::Width;
 use sheet::figure::parts_right;
+use sheet::kind::{self, is_decimal};
 use sheet::limits::RECORD_BYTES;
 use sheet::record::{head_from, quad_at};
 
@@ -24,7 +26,7 @@ struct Walked {
 fn is_usual_decimal(k: usize, p: usize, s: usize) -> bool
     ensures { result ≡ usual_decimal k p s }
 {
-    k == 16 && s <= p && 0 < p && p <= 38
+    k == usize::from(kind::DECIMAL128) && s <= p && 0 < p && p <= Width::CAP128
 }
 
 // Whether a record says nothing but a kind that has no parts, at most a usual decimal's figures, and its links, by its
@@ -36,8 +38,8 @@ fn is_plain(a: usize, b: usize, d: usize) -> bool
     if b + d != 0 {
         return false;
     }
-    if a < 32 {
-        return a < 14 || 17 < a;
+    if a < usize::from(kind::LIST) {
+        return !is_decimal(a as u8);
     }
     is_usual_decimal(a % 65536, a / 65536 % 256, a / 16777216)
 }
