@@ -49,8 +49,7 @@ GROUPS = [
         "replay": "runs the stored answers",
         "plain_pairs": "every pair of plain types",
         "sheet_check": "stored sheets, checked",
-        "reading": "fills a buffer",
-        "tally": "counts what went wrong",
+        "harness": "reads files, counts runs",
     }),
 ]
 

@@ -16,11 +16,11 @@ ghost use Rattle.std.specs.Prelude.{◌≡◌, ◌+◌, ◌^◌, ◌<◌, ◌≤
 use crate::plain::Plain;
 use crate::questions::{Question, answer};
 use anyhow::Context;
-use reading::read_full;
+use harness::reading::read_full;
+use harness::tally::Tally;
 use std::fs::File;
 use std::io::Read;
 use std::{fmt, io};
-use tally::Tally;
 
 // An answer that is not the stored one.
 #[derive(Clone, Copy)]

@@ -14,11 +14,11 @@ ghost use Rattle.std.specs.Prelude.{◌≡◌, ◌≤◌, length};
 use crate::stored::{Broken, Question, Reply, Vector};
 use answers::Answer;
 use anyhow::Context;
-use reading::read_full;
+use harness::reading::read_full;
+use harness::tally::Tally;
 use std::fs::File;
 use std::io::Read;
 use std::{fmt, io};
-use tally::Tally;
 
 // Room for a stored sheet, for its answer and for an output; a work space has twice as much.
 const ROOM: usize = 20000;

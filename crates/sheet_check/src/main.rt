@@ -9,13 +9,13 @@
 ghost use Rattle.std.specs.Prelude.{◌≡◌};
 
 use anyhow::Context;
-use reading::read_full;
+use harness::reading::read_full;
+use harness::tally::Tally;
 use sheet::record::{quad_at, word_at};
 use sheet::{Refusal, Sizes};
 use std::fs::File;
 use std::io::Read;
 use std::{fmt, io};
-use tally::Tally;
 
 // A refusal number, or 0 with the n and m of an accepted sheet, as an entry has them. All three are compared.
 #[derive(Clone, Copy, PartialEq)]

@@ -8,7 +8,7 @@
 
 use answers::Answer;
 use anyhow::anyhow;
-use reading::read_full;
+use harness::reading::read_full;
 use sheet::limits::{LONGEST_SHEET, RECORD_BYTES};
 use std::{fmt, io};
 

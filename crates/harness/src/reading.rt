@@ -1,6 +1,4 @@
-//! Filling a buffer from a reader, for the programs.
-#![tactic(auto)]
-
+//! Filling a buffer from a reader.
 ghost use Rattle.std.specs.Prelude.{◌<◌, ◌≤◌, length, take, IfOk};
 ghost use Rattle.std.specs.Io.KnownBytes.{Consumes, IsAtEnd};
 

@@ -3,7 +3,7 @@ use Rattle.std.proofs.Math.Seq.{take-append-add}
 use Rattle.std.proofs.lemmas.List.{length-take-le, take-append-le}
 use Rattle.std.specs.Io.KnownBytes.{Consumes}
 use Rattle.std.proofs.KnownBytes.{Consumes-trans}
-use Rattle.reading.proofs.read_full.Goals as goal
+use Rattle.harness.proofs.reading.read_full.Goals as goal
 
 -- what a buffer begins with once the part behind its first k bytes was written
 front : (k n : ℕ) (xs ys rest : List ℕ) → k ≤ length xs → n ≤ length ys → take (k + n) (take k xs ++ (ys ++ rest)) ≡ take k xs ++ take n ys

@@ -1,8 +1,6 @@
-//! Counting what a program runs and comparing it with what is expected, for the programs.
-#![tactic(auto)]
-
+//! Counting what a program runs and comparing it with what is expected.
 ghost use Rattle.std.specs.Prelude.{◌≡◌, ◌+◌, ◌^◌, ◌<◌, ◌≤◌, None, Some};
-ghost use Rattle.tally.specs.Tally.{wrong_in, first_kept, summary};
+ghost use Rattle.harness.specs.Tally.{wrong_in, first_kept, summary};
 
 use std::fmt;
 
