@@ -24,8 +24,7 @@ LINE = "#8b949e"
 GROUPS = [
     ("#b45309", "the calls", {
         "answers": "the three calls, proved",
-        "pemzhulaq": "a call answers one number",
-        "pemzhulaq_c": "the static library for C",
+        "exports": "the static library for C",
     }),
     ("#1d4ed8", "types in lent buffers", {
         "buffers": "compare, copy, lay types",

@@ -6,7 +6,7 @@ if ! command -v rt >/dev/null; then
     echo "tools/archive.sh: no rt at hand: the Rattle toolchain proves and builds the archive" >&2
     exit 1
 fi
-(cd crates/pemzhulaq_c && rt lib)
+(cd crates/exports && rt lib)
 mkdir -p target/staticlib
-cp crates/pemzhulaq_c/out/libpemzhulaq_c.a target/staticlib/libpemzhulaq.a
+cp crates/exports/out/libexports.a target/staticlib/libpemzhulaq.a
 echo target/staticlib/libpemzhulaq.a

@@ -1,8 +1,8 @@
 use mathlib.Core.Path.{ap}
 use Rattle.answers.specs.Code.{call_of}
 use Rattle.answers.proofs.Calling.{torn_call}
-use Rattle.pemzhulaq.specs.Number.{exported}
-use Rattle.pemzhulaq.proofs.number.Goals as goal
+use Rattle.exports.specs.Number.{exported}
+use Rattle.exports.proofs.number.number.Goals as goal
 
 pub returns-in_default : goal.returns-in_default
 returns-in_default c =

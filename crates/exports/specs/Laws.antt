@@ -1,7 +1,7 @@
 -- The laws of the numbers of the exports, for every call.
 use Rattle.std.specs.Prelude.{◌≡◌}
 use Rattle.answers.specs.Call.{Call, outcome}
-use Rattle.pemzhulaq.specs.Number.{number_of, Ranged, reply_of_number}
+use Rattle.exports.specs.Number.{number_of, Ranged, reply_of_number}
 
 -- the number of a refusal is 1 to 8, and that of a type at least 32
 abbrev pub NumbersRanged : Type 0

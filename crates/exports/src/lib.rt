@@ -2,10 +2,13 @@
 //! length, an answer is one number.
 #![tactic(auto)]
 
+pub mod laws;
+mod number;
+
 ghost use Rattle.std.specs.Prelude.{◌≡◌};
-ghost use Rattle.answers.specs.Call.{outcome};
-ghost use Rattle.pemzhulaq.specs.Number.{exported};
 ghost use Rattle.coercion.specs.declared.Question.{Question};
+ghost use Rattle.answers.specs.Call.{outcome};
+ghost use Rattle.exports.specs.Number.{exported};
 
 /// The common type of any number of listed types, as one number: 0 for none, 1 to 8 for a refusal, from 32 on the
 /// byte length of the one-type sheet at the front of the output.
@@ -22,7 +25,7 @@ pub extern "C" fn pemzhulaq_type_union_resolution(
 ) -> usize
     ensures { record { number = result; output = output.new; work = work.new } ≡ exported (outcome (record { question = Question.List; sheet = sheet.now; mask = mask; output = output.old; work = work.old })) }
 {
-    pemzhulaq::pemzhulaq_type_union_resolution(sheet, mask, output, work)
+    number::of_list(sheet, mask, output, work)
 }
 
 /// The common type of two listed types in a union, as one number. The caller owes the same.
@@ -35,7 +38,7 @@ pub extern "C" fn pemzhulaq_type_union_coercion(
 ) -> usize
     ensures { record { number = result; output = output.new; work = work.new } ≡ exported (outcome (record { question = Question.Union; sheet = sheet.now; mask = mask; output = output.old; work = work.old })) }
 {
-    pemzhulaq::pemzhulaq_type_union_coercion(sheet, mask, output, work)
+    number::of_union(sheet, mask, output, work)
 }
 
 /// The type that two listed types are compared as, as one number. The caller owes the same.
@@ -48,5 +51,5 @@ pub extern "C" fn pemzhulaq_comparison_coercion(
 ) -> usize
     ensures { record { number = result; output = output.new; work = work.new } ≡ exported (outcome (record { question = Question.Compare; sheet = sheet.now; mask = mask; output = output.old; work = work.old })) }
 {
-    pemzhulaq::pemzhulaq_comparison_coercion(sheet, mask, output, work)
+    number::of_compare(sheet, mask, output, work)
 }

@@ -14,8 +14,8 @@ use Rattle.sheet.specs.Refusals.{Condition, first_met}
 use Rattle.sheet.proofs.Chains.{encode_length}
 use Rattle.coercion.specs.Data.{DataType, single}
 use Rattle.answers.specs.Call.{Call, conditions, refusal, refused, Outcome, settled, answer, outcome}
-use Rattle.pemzhulaq.specs.Number.{shortest, Ranged}
-use Rattle.pemzhulaq.specs.Laws.{NumbersRanged}
+use Rattle.exports.specs.Number.{shortest, Ranged}
+use Rattle.exports.specs.Laws.{NumbersRanged}
 
 -- conditions whose numbers are at most 8
 abbrev Low : List Condition → Type 0
