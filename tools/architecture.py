@@ -41,7 +41,6 @@ GROUPS = [
     ("#0f766e", "the sheet", {
         "sheet": "the format: records, labels",
         "refusals": "the check: refusals 1 to 5",
-        "reader": "reads a sheet where it is",
     }),
     ("#57606a", "programs and what they share", {
         "shelf": "asks the three questions",

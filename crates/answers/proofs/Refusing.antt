@@ -1,22 +1,23 @@
 -- The refusals of a call: the sheet's own, and 6 to 8. Assumes nothing.
 use mathlib.Core.Path.{◌≡◌, refl, ap, sym, subst, ◌∙◌}
-use mathlib.Core.Bool.{Bool, true, false, cond, not}
+use mathlib.Core.Bool.{Bool, true, false, cond, not, ◌&&◌}
 use mathlib.Core.List.{List, [], ◌∷◌, ◌++◌}
 use Prim.Native.Nat.{ℕ, suc, ◌+◌, ◌*◌, ◌<◌, ◌≤◌}
 use native.Mathlib.Omega.{arith}
 use lib.ListN.{length}
 use lib.Dec.{eqb}
-use borrow.Author.Tests.{eq-eqb, ne_eqb, lt-ltb, le-ltb}
+use borrow.Author.Tests.{eq-eqb, ne_eqb}
 use Rattle.sheet.specs.Types.{Fields, end, field, arity, count, labels}
-use Rattle.sheet.specs.Encode.{link_to}
-use Rattle.sheet.specs.Head.{head_at}
 use Rattle.sheet.specs.Read.{start, read}
 use Rattle.sheet.specs.Holds.{Plain, Holds, Leads}
 use Rattle.sheet.specs.Refusals.{Condition, first_met}
 use Rattle.sheet.specs.Refusals as Sheet
 use Rattle.sheet.specs.declared.Head.{Head}
 use Rattle.refusals.specs.Framed.{FramedBy}
+use Rattle.sheet.specs.Reader.{type_at, listed_at, next_at}
+use Rattle.sheet.specs.Standing.{StandsAt}
 use Rattle.sheet.proofs.Reading.{start_leads}
+use Rattle.sheet.proofs.Stands.{stands_new, stands_end, stands_past, stands_next}
 use Rattle.sheet.proofs.Accepted.{accepted_holds, accepted_carried, accepted_n, accepted_m, accepted_length}
 use Rattle.coercion.specs.declared.Question.{Question}
 use Rattle.buffers.specs.declared.Space.{Space}
@@ -24,35 +25,25 @@ use Rattle.answers.specs.Call.{Call, bad_mask, bad_pair, bad_space, refusal}
 use Rattle.answers.specs.Code.{later_refusal, Measured}
 use Rattle.coercion.specs.Data.{is_list_question}
 
--- 7 pair: how many types are listed, by the links from record to record
-pub pair_none : (s : List ℕ) (n : ℕ) → n ≤ 1 → (t : Fields) → Leads s n 0 (start n) 1 0 t → false ≡ eqb (arity t) 2
+-- whether a reader is past the last type, behind two others
+third_ends : {s : List ℕ} {at : ℕ} (t : Fields) → StandsAt s at t → eqb at 0 ≡ eqb (1 + (1 + arity t)) 2
 unfolding arity
-pair_none s n h end l = refl
-pair_none s n h (field name nullable shape parts rest) l = absurd (omega (arith, rw (le-ltb 1 n h) at l.is))
+third_ends {s} {at} end a = rw (eq-eqb at 0 (stands_end a))
+third_ends {s} {at} (field name nullable shape parts rest) a =
+    rw (ne_eqb at 0 (λ z. omega (arith, z, stands_past a)), ne_eqb (1 + (1 + (1 + arity rest))) 2 (λ z. omega arith))
 
-pub pair_one : (s : List ℕ) (n : ℕ) (h : Head) → h ≡ head_at s 1 → h.next ≡ 0 → (t : Fields) → Leads s n 0 (start n) 1 0 t → false ≡ eqb (arity t) 2
+-- whether it is at the last type, behind one other
+second_last : {s : List ℕ} {at : ℕ} (t : Fields) → StandsAt s at t → not (eqb at 0) && eqb (next_at s at) 0 ≡ eqb (1 + arity t) 2
 unfolding arity
-pair_one s n h e z end l = refl
-pair_one s n h e z (field name nullable shape parts end) l = refl
-pair_one s n h e z (field name nullable shape parts (field name₂ nullable₂ shape₂ parts₂ rest)) l =
-    let k : h.next ≡ 1 + 1 + count parts = ap (λ (x : Head). x.next) (e ∙ l.holds.0.head) in
-    absurd (omega arith)
+second_last {s} {at} end a = rw (eq-eqb at 0 (stands_end a))
+second_last {s} {at} (field name nullable shape parts rest) a =
+    rw (ne_eqb at 0 (λ z. omega (arith, z, stands_past a))) (third_ends rest (stands_next a))
 
--- whether a chain ends, by the link to it
-pair_end : (x r : ℕ) (rest : Fields) → 0 < r → x ≡ link_to r rest → eqb x 0 ≡ eqb (1 + (1 + arity rest)) 2
-unfolding arity
-pair_end x r end h e = rw (eq-eqb x 0 e)
-pair_end x r (field name nullable shape parts rest) h e = rw (ne_eqb x 0 (λ z. omega arith), ne_eqb (1 + (1 + (1 + arity rest))) 2 (λ z. omega arith))
-
-pub pair_two : (s : List ℕ) (n : ℕ) (h g : Head) → 1 < n → h ≡ head_at s 1 → ¬ (h.next ≡ 0) → g ≡ head_at s h.next
-    → (t : Fields) → Leads s n 0 (start n) 1 0 t → eqb g.next 0 ≡ eqb (arity t) 2
-unfolding arity
-pair_two s n h g some e nz f end l = absurd (omega (arith, rw (lt-ltb 1 n some) at l.is))
-pair_two s n h g some e nz f (field name nullable shape parts end) l = absurd (nz (ap (λ (x : Head). x.next) (e ∙ l.holds.0.head)))
-pair_two s n h g some e nz f (field name nullable shape parts (field name₂ nullable₂ shape₂ parts₂ rest)) l =
-    let k : h.next ≡ 1 + 1 + count parts = ap (λ (x : Head). x.next) (e ∙ l.holds.0.head) in
-    pair_end g.next (1 + 1 + count parts + 1 + count parts₂) rest (omega arith)
-    (ap (λ (x : Head). x.next) (f ∙ ap (head_at s) k ∙ l.holds.1.1.0.head))
+two_listed : {s : List ℕ} {at : ℕ} (t : Fields) → StandsAt s at t
+    → not (eqb (next_at s at) 0) && eqb (next_at s (next_at s at)) 0 ≡ eqb (arity t) 2
+unfolding arity type_at
+two_listed end a = rw (stands_end a)
+two_listed (field name nullable shape parts rest) a = second_last rest (stands_next a)
 
 -- a list asks for no number of types
 pub list_asked : (s : List ℕ) (q : Question) {b : Bool} → b ≡ true → b ≡ is_list_question q → not b ≡ bad_pair q s
@@ -60,6 +51,13 @@ unfolding bad_pair
 list_asked s Question.List t e = ap not t
 list_asked s Question.Union t e = ap not t ∙ ap (λ (x : Bool). cond x false (not (eqb (arity (read s)) 2))) (sym t ∙ e)
 list_asked s Question.Compare t e = ap not t ∙ ap (λ (x : Bool). cond x false (not (eqb (arity (read s)) 2))) (sym t ∙ e)
+
+-- a union or a comparison wants two types
+pub pair_asked : (s : List ℕ) (q : Question) {b p : Bool} → b ≡ false → b ≡ is_list_question q → p ≡ eqb (arity (read s)) 2 → not p ≡ bad_pair q s
+unfolding bad_pair
+pair_asked s Question.List {p = p} t e h = ap (λ (x : Bool). cond x false (not p)) (sym t ∙ e)
+pair_asked s Question.Union t e h = ap not h
+pair_asked s Question.Compare t e h = ap not h
 
 -- what is known of an accepted sheet
 module _ (s : List ℕ) (space : Space) (plain : Plain s) (measured : Measured s space) where
@@ -91,13 +89,16 @@ module _ (s : List ℕ) (space : Space) (plain : Plain s) (measured : Measured s
   pub measured_low : space.half ≤ 32768
   measured_low = omega (arith, measured_half, measured_few, measured_short)
 
-  -- a union or a comparison wants two types
-  pub pair_asked : (q : Question) {b p : Bool} → b ≡ false → b ≡ is_list_question q
-      → ((t : Fields) → Leads s space.n 0 (start space.n) 1 0 t → p ≡ eqb (arity t) 2) → not p ≡ bad_pair q s
-  unfolding bad_pair
-  pair_asked Question.List {p = p} t e h = ap (λ (x : Bool). cond x false (not p)) (sym t ∙ e)
-  pair_asked Question.Union t e h = ap not (h (read s) measured_leads)
-  pair_asked Question.Compare t e h = ap not (h (read s) measured_leads)
+  -- 7 pair: how many types are listed, by the second and the third record of their chain
+  module _ {second : ℕ} (e : second ≡ next_at s (start space.n)) where
+    listed_two : not (eqb second 0) && eqb (next_at s second) 0 ≡ eqb (arity (read s)) 2
+    listed_two = rw (e, measured.records) (two_listed (read s) (stands_new s plain measured.unrefused))
+
+    pub pair_one : second ≡ 0 → not (eqb second 0) ≡ eqb (arity (read s)) 2
+    pair_one z = rw (eq-eqb second 0 z) (rw (eq-eqb second 0 z) at listed_two)
+
+    pub pair_two : ¬ (second ≡ 0) → {third : ℕ} → third ≡ next_at s second → eqb third 0 ≡ eqb (arity (read s)) 2
+    pair_two z f = rw f (rw (ne_eqb second 0 z) at listed_two)
 
 -- a condition that is not met leaves the others
 pass : (b : Bool) (n x y z : ℕ) → cond b (suc n) x ≡ 0 → (x ≡ 0 → y ≡ z) → cond b (suc n) y ≡ z

@@ -1,8 +1,7 @@
 //! The refusals: the numbers of the sheet's own, and 6 to 8.
 ghost use Rattle.std.specs.Prelude.{◌≡◌, ◌*◌, ◌<◌, ◌≤◌, eqb};
-ghost use Rattle.sheet.specs.Types.{Fields, arity};
-ghost use Rattle.sheet.specs.Read.{start};
-ghost use Rattle.sheet.specs.Holds.{Leads};
+ghost use Rattle.sheet.specs.Types.{arity};
+ghost use Rattle.sheet.specs.Read.{read};
 ghost use Rattle.answers.specs.Call.{bad_mask, bad_pair};
 ghost use Rattle.answers.specs.Code.{number_met, is_short, Measured, later_refusal};
 
@@ -10,7 +9,7 @@ use crate::Refusal;
 use buffers::Space;
 use coercion::Rules;
 use sheet::limits::LONGEST_SHEET;
-use sheet::record::head_at;
+use sheet::reader::Reader;
 
 // Whether a mask has a bit outside 1 to 38.
 #[tactic(auto, unfolding(crate::specs::Call::bad_mask))]
@@ -20,15 +19,13 @@ fn is_bad_mask(mask: u64) -> bool
     !(mask % 2 == 0 && mask < 1 << 39)
 }
 
-// Whether a sheet of n records lists exactly two types.
-fn is_pair(sheet: &[u8], n: usize) -> bool
-    ensures { (t : Fields) → Leads sheet.now n 0 (start n) 1 0 t → result ≡ eqb (arity t) 2 }
+// Whether an accepted sheet lists exactly two types.
+fn is_pair(sheet: &[u8], space: Space) -> bool
+    requires { Measured sheet.now space }
+    ensures { result ≡ eqb (arity (read sheet.now)) 2 }
 {
-    n > 1
-        && {
-            let second = head_at(sheet, 1).next;
-            second != 0 && head_at(sheet, second).next == 0
-        }
+    let second = Reader::listed(sheet, space.n).next();
+    second.at != 0 && second.next().at == 0
 }
 
 // Whether a question wants two types and the sheet does not list two.
@@ -36,7 +33,7 @@ fn is_bad_pair(rules: Rules, sheet: &[u8], space: Space) -> bool
     requires { Measured sheet.now space }
     ensures { result ≡ bad_pair rules.question sheet.now }
 {
-    !rules.is_list_question() && !is_pair(sheet, space.n)
+    !rules.is_list_question() && !is_pair(sheet, space)
 }
 
 // Whether an output or a work space is too short for a sheet.

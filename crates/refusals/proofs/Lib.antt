@@ -9,3 +9,4 @@ pub mod Marking
 pub mod Naming
 pub mod Ordering
 pub mod Finding
+pub mod Laying

@@ -3,3 +3,4 @@ pub mod Found
 pub mod Walk
 pub mod Packed
 pub mod RepeatedNames
+pub mod Listing

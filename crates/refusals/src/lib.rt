@@ -3,6 +3,8 @@
 
 /// The header of a sheet and the kinds of its records: refusals 1 and 2.
 pub mod header;
+/// The listing of a sheet's types.
+pub mod listing;
 mod name_numbers;
 mod name_order;
 mod pass;

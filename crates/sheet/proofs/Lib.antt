@@ -13,3 +13,4 @@ pub mod Figures
 pub mod Repeating
 pub mod Lowest
 pub mod Puts
+pub mod Stands

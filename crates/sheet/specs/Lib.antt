@@ -12,3 +12,5 @@ pub mod Bounds
 pub mod Writes
 pub mod Caps
 pub mod Laws
+pub mod Reader
+pub mod Standing

@@ -17,6 +17,8 @@ pub mod label;
 pub mod laws;
 /// The limits of a sheet.
 pub mod limits;
+/// A thin reader, which stands at a record.
+pub mod reader;
 /// The heads of records.
 pub mod record;
 /// Writing into a buffer: bytes, the head of a record, the header of a sheet.

@@ -9,43 +9,24 @@
 use answers::Answer;
 use anyhow::anyhow;
 use harness::reading::read_full;
-use sheet::limits::{LONGEST_SHEET, RECORD_BYTES};
-use std::{fmt, io};
+use sheet::Head;
+use sheet::limits::LONGEST_SHEET;
+use sheet::reader::{Reader, records_of};
+use std::io;
 
 const MASK: u64 = (1 << 39) - 2;
 
-// What is printed of the type of a one-type sheet.
-#[derive(Clone, Copy)]
-struct Type {
-    kind: u8,
-    figure: u8,
-    scale: i8,
-    records: u16,
-}
-
-impl Type {
-    // The type of the one-type sheet at the front of an output.
-    fn at_front(output: &[u8; LONGEST_SHEET]) -> Type {
-        let n = u16::from_le_bytes([output[0], output[1]]);
-        Type {
-            kind: output[RECORD_BYTES],
-            figure: output[RECORD_BYTES + 2],
-            scale: output[RECORD_BYTES + 3].cast_signed(),
-            records: n.saturating_sub(1),
-        }
-    }
-}
-
-impl fmt::Display for Type {
-    fn fmt<W: fmt::Write>(&self, f: &mut fmt::Formatter<W>) -> fmt::Result {
-        let Type {
-            kind,
-            figure,
-            scale,
-            records,
-        } = self;
-        write!(f, "{kind} {figure} {scale} {records}")
-    }
+// Prints the type of a one-type sheet.
+fn print_type(rt: &impl Print, question: &str, sheet: &[u8]) -> io::Result<()> {
+    let Head {
+        kind,
+        figure,
+        scale,
+        ..
+    } = Reader::new(sheet).head();
+    let scale = scale.cast_signed();
+    let records = records_of(sheet).saturating_sub(1);
+    println!(rt; "{question} {kind} {figure} {scale} {records}")
 }
 
 // Prints what a call answers to a sheet.
@@ -62,7 +43,7 @@ fn print_answer<F: Fn(&[u8], u64, &mut [u8], &mut [u8]) -> Answer>(
     match call(sheet, MASK, &mut output, &mut work) {
         Err(r) => println!(rt; "{question} refused {}", u8::from(r)),
         Ok(None) => println!(rt; "{question} none"),
-        Ok(Some(_)) => println!(rt; "{question} {}", Type::at_front(&output)),
+        Ok(Some(length)) => print_type(rt, question, &output[..length.min(LONGEST_SHEET)]),
     }
 }
 

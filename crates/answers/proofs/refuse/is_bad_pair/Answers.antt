@@ -3,15 +3,7 @@ use Rattle.answers.proofs.refuse.is_bad_pair.Goals as goal
 
 pub returns-then-not-is_list_question : goal.returns-then-not-is_list_question
 returns-then-not-is_list_question c =
-    pair_asked
-    _
-    c.args.space
-    (λ i. (c.type_inv.sheet i).fits)
-    c.requires
-    c.args.rules.question
-    c.if-not-is_list_question.true
-    c.is_list_question.ensures
-    c.is_pair.ensures
+    pair_asked _ c.args.rules.question c.if-not-is_list_question.true c.is_list_question.ensures c.is_pair.ensures
 
 pub returns-else-not-is_list_question : goal.returns-else-not-is_list_question
 returns-else-not-is_list_question c =

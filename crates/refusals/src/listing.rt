@@ -3,12 +3,11 @@ ghost use Rattle.std.specs.Prelude.{◌≡◌, set};
 ghost use Rattle.sheet.specs.Types.{arity};
 ghost use Rattle.sheet.specs.Read.{read};
 ghost use Rattle.sheet.specs.Refusals.{refusal};
-ghost use Rattle.reader.specs.Listed.{kinds, over, seen_in, listing};
+ghost use Rattle.refusals.specs.Listing.{kinds, over, seen_in, listing};
 
-use crate::look;
-use crate::record::first_listed;
-use refusals::check;
+use crate::check;
 use sheet::Refusal;
+use sheet::reader::{first_listed, look};
 
 /// Puts the kinds of a sheet's listed types at the front of the output, one byte each, as far as it has room, and gives
 /// how many types they are. A sheet that is refused leaves the output as it was.

@@ -1,11 +1,17 @@
--- What a reader says where it stands at a chain of types, each as one statement; src/laws.rt promises them.
+-- A reader on a sheet whose types are known, and what it says where it stands at a chain of types, each as one
+-- statement; src/laws.rt promises them.
 use Rattle.std.specs.Prelude.{◌≡◌, ℕ, Bool, List}
 use Rattle.sheet.specs.Types.{Shape, Fields, end, field}
-use Rattle.sheet.specs.Read.{read}
+use Rattle.sheet.specs.Read.{records_of, read}
 use Rattle.sheet.specs.Refusals.{refusal}
-use Rattle.sheet.specs.Holds.{Plain}
-use Rattle.reader.specs.Record.{listed_at, kind_at, first_at, next_at, name_at}
-use Rattle.reader.specs.Standing.{StandsAt}
+use Rattle.sheet.specs.Holds.{Plain, Leads}
+use Rattle.sheet.specs.Reader.{listed_at, kind_at, first_at, next_at, name_at}
+
+-- a reader at record number at stands at the chain t: its first record is number r, and its labels begin at o
+pub record StandsAt (s : List ℕ) (at : ℕ) (t : Fields) : Type 0 where
+  pub r : ℕ
+  pub o : ℕ
+  pub leads : Leads s (records_of s) 0 at r o t
 
 -- a new reader of an accepted sheet stands at its listed types
 abbrev pub StandsNew : Type 0

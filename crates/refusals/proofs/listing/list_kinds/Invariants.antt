@@ -1,7 +1,7 @@
 use Prim.Native.Nat.{◌-◌}
 use Rattle.sheet.specs.Read.{records_of}
-use Rattle.reader.proofs.Laying.{Along}
-use Rattle.reader.proofs.list.list_kinds.Given as goal
+use Rattle.refusals.proofs.Laying.{Along}
+use Rattle.refusals.proofs.listing.list_kinds.Given as goal
 
 abbrev pub invariant-loop-at : goal.invariant-loop-at
 invariant-loop-at l =

@@ -17,8 +17,8 @@ use Rattle.sheet.proofs.Accepted.{accepted_holds, accepted_n}
 use Rattle.sheet.proofs.Reading.{label_back}
 use Rattle.sheet.proofs.Spans.{span_left}
 use Rattle.sheet.proofs.Reading.{start_leads}
-use Rattle.reader.specs.Record.{type_at, listed_at, kind_at, first_at, next_at, name_at}
-use Rattle.reader.specs.Standing.{StandsAt}
+use Rattle.sheet.specs.Reader.{type_at, listed_at, kind_at, first_at, next_at, name_at}
+use Rattle.sheet.specs.Standing.{StandsAt}
 
 -- a new reader of an accepted sheet stands at its listed types
 pub stands_new : (s : List ℕ) → Plain s → refusal s ≡ 0 → StandsAt s (listed_at s) (read s)

@@ -1,6 +1,6 @@
 use Rattle.refusals.proofs.Verdicts.{checked_number}
-use Rattle.reader.proofs.Laying.{listing_refused, listing_types}
-use Rattle.reader.proofs.list.listed_kinds.Goals as goal
+use Rattle.refusals.proofs.Laying.{listing_refused, listing_types}
+use Rattle.refusals.proofs.listing.listed_kinds.Goals as goal
 
 pub returns-in_err-check : goal.returns-in_err-check
 returns-in_err-check c =

@@ -1,6 +1,6 @@
 use native.Mathlib.Omega.{arith}
-use Rattle.reader.proofs.Laying.{along_start, along_less, along_next, along_done, along_few}
-use Rattle.reader.proofs.list.list_kinds.Goals as goal
+use Rattle.refusals.proofs.Laying.{along_start, along_less, along_next, along_done, along_few}
+use Rattle.refusals.proofs.listing.list_kinds.Goals as goal
 
 pub loop-at-init : goal.loop-at-init
 loop-at-init c =

@@ -12,12 +12,12 @@ use Rattle.sheet.specs.Holds.{Plain}
 use Rattle.sheet.specs.declared.Refusal.{Refusal}
 use Rattle.sheet.proofs.Accepted.{accepted_n}
 use Rattle.refusals.proofs.Verdicts.{checked_number, number_some}
-use Rattle.reader.specs.Record.{listed_at, entry_at}
-use Rattle.reader.specs.Listed.{kinds, over, listing, seen_in}
+use Rattle.sheet.specs.Reader.{listed_at, entry_at}
+use Rattle.refusals.specs.Listing.{kinds, over, listing, seen_in}
 use Rattle.std.specs.Prelude.{Result, Ok, Err, IsErrAnd}
-use Rattle.reader.specs.Standing.{StandsAt}
-use Rattle.reader.specs.declared.Entry.{Entry}
-use Rattle.reader.proofs.Stands.{stands_new, stands_past, stands_kind, stands_next, stands_end}
+use Rattle.sheet.specs.Standing.{StandsAt}
+use Rattle.sheet.specs.declared.reader.Entry.{Entry}
+use Rattle.sheet.proofs.Stands.{stands_new, stands_past, stands_kind, stands_next, stands_end}
 
 -- bytes laid over a buffer from i on
 unfoldable over_from : ℕ → List ℕ → List ℕ → List ℕ

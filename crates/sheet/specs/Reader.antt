@@ -3,7 +3,7 @@ use Rattle.std.specs.Prelude.{ℕ, cond, List, eqb}
 use Rattle.sheet.specs.Head.{blank, head_at}
 use Rattle.sheet.specs.Read.{records_of, label_at, start}
 use Rattle.sheet.specs.declared.Head.{Head}
-use Rattle.reader.specs.declared.Entry.{Entry}
+use Rattle.sheet.specs.declared.reader.Entry.{Entry}
 
 -- the head of the type at record r; record 0 is the header and no type: "the link 0 ends a chain"
 unfoldable pub type_at : List ℕ → ℕ → Head

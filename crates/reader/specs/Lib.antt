@@ -1,4 +1,0 @@
-pub mod Record
-pub mod Standing
-pub mod Listed
-pub mod Laws
