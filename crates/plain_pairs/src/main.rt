@@ -1,5 +1,5 @@
-//! Runs every ordered pair of the plain types of data/plain through the plain rules and compares the answers with the
-//! stored ones.
+//! Asks the three calls about every ordered pair of the plain types of data/plain, each pair spelled as a sheet and
+//! with every mask bit from 1 to 38 set, and compares the answers with the stored ones.
 //!
 //! The file: the number of types, in two bytes; the types; and for each left and each right the answers to list, union
 //! and compare. A type or an answer is four bytes, and four zeros are none. oracle/README.md says how they were made
@@ -7,20 +7,38 @@
 //! read, or is not in that form, is told of in a line behind the counts.
 #![tactic(auto)]
 
-pub mod pairs;
 pub mod plain;
-pub mod questions;
 
 ghost use Rattle.std.specs.Prelude.{◌≡◌, ◌+◌, ◌^◌, ◌<◌, ◌≤◌, length, IfOk};
 
-use crate::plain::Plain;
-use crate::questions::{Question, answer};
+use crate::plain::{Plain, ROOM, spelled};
 use anyhow::Context;
+use coercion::Question;
 use harness::reading::read_full;
 use harness::tally::Tally;
 use std::fs::File;
 use std::io::Read;
 use std::{fmt, io};
+
+// Null may become every kind, 1 to 38.
+const FULL: u64 = (1 << 39) - 2;
+
+// What a call answers: a type, none, or a refusal by its number.
+type Given = Result<Option<Plain>, u8>;
+
+fn ask(question: Question, left: Plain, right: Plain) -> Given {
+    let (sheet, length) = spelled(left, right);
+    let sheet = &sheet[..length];
+    let mut output = [0; ROOM];
+    let mut work = [0; 2 * ROOM];
+    let answer = match question {
+        Question::List => answers::type_union_resolution(sheet, FULL, &mut output, &mut work),
+        Question::Union => answers::type_union_coercion(sheet, FULL, &mut output, &mut work),
+        Question::Compare => answers::comparison_coercion(sheet, FULL, &mut output, &mut work),
+    };
+    let length = answer.map_err(u8::from)?;
+    Ok(length.map(|n| Plain::read(&output[..n.min(ROOM)])))
+}
 
 // An answer that is not the stored one.
 #[derive(Clone, Copy)]
@@ -29,7 +47,7 @@ struct Difference {
     right: Plain,
     question: Question,
     wanted: Option<Plain>,
-    given: Option<Plain>,
+    given: Given,
 }
 
 impl Difference {
@@ -40,8 +58,8 @@ impl Difference {
         question: Question,
         wanted: Option<Plain>,
     ) -> Option<Difference> {
-        let given = answer(question, left, right);
-        (given != wanted).then_some(Difference {
+        let given = ask(question, left, right);
+        (given != Ok(wanted)).then_some(Difference {
             left,
             right,
             question,
@@ -54,12 +72,15 @@ impl Difference {
 impl fmt::Display for Difference {
     fn fmt<W: fmt::Write>(&self, f: &mut fmt::Formatter<W>) -> fmt::Result {
         let wanted = self.wanted.unwrap_or_default();
-        let given = self.given.unwrap_or_default();
         write!(
             f,
-            "{} of {} and {}: expected {wanted}, given {given}",
+            "{} of {} and {}: expected {wanted}, ",
             self.question, self.left, self.right
-        )
+        )?;
+        match self.given {
+            Ok(given) => write!(f, "given {}", given.unwrap_or_default()),
+            Err(number) => write!(f, "refused {number}"),
+        }
     }
 }
 

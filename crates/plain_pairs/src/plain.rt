@@ -1,11 +1,14 @@
-//! A type without parts as the file has it, and what the rules answer as such a type.
-ghost use Rattle.std.specs.Prelude.{◌≡◌};
-ghost use Rattle.plain_pairs.specs.Plain.{figures_of, timestamp_in, plain_figures, of_figures, of_kind, of_side, of_moment};
+//! Types without parts, as the file has them and as sheets do.
+ghost use Rattle.std.specs.Prelude.{◌≤◌, length, IfSome};
 
-use coercion::{Figures, Moment, Side};
+use sheet::label::{copy, label_at, same};
+use sheet::reader::Reader;
 use std::fmt;
 
-/// A type without parts. `zone` is a number for a Timestamp's zone, 0 for none, or the size of a FixedSizeBinary, as
+/// Room for the sheet of a pair: its header, two records and two zones.
+pub const ROOM: usize = 60;
+
+/// A type without parts. `zone` is the number of a Timestamp's zone, 0 for none, or the size of a FixedSizeBinary, as
 /// the file has it: the kind says which.
 #[derive(Clone, Copy, Default, PartialEq)]
 pub struct Plain {
@@ -15,16 +18,87 @@ pub struct Plain {
     pub zone: u8,
 }
 
-impl From<Plain> for Figures {
-    ghost from_gives = { λ p f. f ≡ figures_of p };
+// The zones of the file, by their numbers.
+fn zone_of(number: u8) -> Option<&'static [u8]>
+    ensures { IfSome result (λ zone. length zone.now ≤ 6) }
+{
+    match number {
+        1 => Some(b""),
+        2 => Some(b"UTC"),
+        3 => Some(b"+02:00"),
+        _ => None,
+    }
+}
 
-    fn from(p: Plain) -> Figures {
-        Figures {
-            kind: p.kind,
-            figure: p.figure,
-            scale: p.scale,
+// The number of a zone, 255 for one that the file does not have.
+fn number_of(zone: &[u8]) -> u8 {
+    for number in 1..4u8 {
+        if zone_of(number).is_some_and(|known| same(known, zone)) {
+            return number;
         }
     }
+    255
+}
+
+impl Plain {
+    // The zone of a Timestamp; None for another type.
+    fn zone(self) -> Option<&'static [u8]>
+        ensures { IfSome result (λ zone. length zone.now ≤ 6) }
+    {
+        if self.kind == 22 { zone_of(self.zone) } else { None }
+    }
+
+    // The record of the type, before record `next` of its chain, where a label would begin at `label`.
+    fn record(self, next: u8, label: u8) -> [u8; 16] {
+        let [flags, low, len] = match self.zone() {
+            None => [0, self.zone, 0],
+            Some([]) => [4, 0, 0],
+            Some(zone) => [4, label, zone.len() as u8],
+        };
+        let Plain {
+            kind,
+            figure,
+            scale,
+            ..
+        } = self;
+        [
+            kind, flags, figure, scale, low, 0, len, 0, 0, 0, next, 0, 0, 0, 0, 0,
+        ]
+    }
+
+    /// The type of a one-type sheet.
+    pub fn read(sheet: &[u8]) -> Plain {
+        let head = Reader::new(sheet).head();
+        let zone = if head.zoned() {
+            number_of(label_at(sheet, 2, head.zone_at(), head.zone_len()))
+        } else {
+            u8::try_from(head.quad).unwrap_or(255)
+        };
+        Plain {
+            kind: head.kind,
+            figure: head.figure,
+            scale: head.scale,
+            zone,
+        }
+    }
+}
+
+/// The sheet that lists two types, and its length.
+pub fn spelled(left: Plain, right: Plain) -> ([u8; ROOM], usize)
+    ensures { result.1 ≤ 60 }
+{
+    let first = left.zone().unwrap_or(b"");
+    let second = right.zone().unwrap_or(b"");
+    let behind = 48 + first.len();
+    let length = behind + second.len();
+    let mut sheet = [0; ROOM];
+    sheet[0] = 3;
+    sheet[2] = (length - 48) as u8;
+    copy(&left.record(2, 0), &mut sheet[16..]);
+    copy(&right.record(0, first.len() as u8), &mut sheet[32..]);
+    copy(first, &mut sheet[48..]);
+    copy(second, &mut sheet[behind..]);
+    (sheet, length)
 }
 
 impl From<[u8; 4]> for Plain {
@@ -38,19 +112,6 @@ impl From<[u8; 4]> for Plain {
     }
 }
 
-impl From<Figures> for Plain {
-    ghost from_gives = { λ f p. p ≡ plain_figures f };
-
-    fn from(f: Figures) -> Plain {
-        Plain {
-            kind: f.kind,
-            figure: f.figure,
-            scale: f.scale,
-            zone: 0,
-        }
-    }
-}
-
 impl fmt::Display for Plain {
     fn fmt<W: fmt::Write>(&self, f: &mut fmt::Formatter<W>) -> fmt::Result {
         write!(
@@ -58,53 +119,5 @@ impl fmt::Display for Plain {
             "{} {} {} {}",
             self.kind, self.figure, self.scale, self.zone
         )
-    }
-}
-
-/// A Timestamp of this unit and zone.
-pub fn timestamp(unit: u8, zone: u8) -> Plain
-    ensures { result ≡ timestamp_in unit zone }
-{
-    Plain {
-        kind: 22,
-        figure: unit,
-        scale: 0,
-        zone,
-    }
-}
-
-/// A type of these figures, without zone or size.
-pub fn of_common(c: Option<Figures>) -> Option<Plain>
-    ensures { result ≡ of_figures c }
-{
-    c.map(Plain::from)
-}
-
-/// A type of this kind, without figures.
-pub fn of_found(k: Option<u8>) -> Option<Plain>
-    ensures { result ≡ of_kind k }
-{
-    of_common(k.map(Figures::of_kind))
-}
-
-/// The type on the side that a rule names.
-pub fn of_side(s: Option<Side>, l: Plain, r: Plain) -> Option<Plain>
-    ensures { result ≡ of_side s l r }
-{
-    match s? {
-        Side::Left => Some(l),
-        Side::Right => Some(r),
-    }
-}
-
-/// The time on the side that a rule names, as it is or as a Timestamp in nanoseconds with its zone.
-pub fn of_moment(m: Option<Moment>, l: Plain, r: Plain) -> Option<Plain>
-    ensures { result ≡ of_moment m l r }
-{
-    match m? {
-        Moment::Left => Some(l),
-        Moment::Right => Some(r),
-        Moment::LeftNanoseconds => Some(timestamp(3, l.zone)),
-        Moment::RightNanoseconds => Some(timestamp(3, r.zone)),
     }
 }
