@@ -15,7 +15,7 @@ ghost use Rattle.buffers.specs.Source.{SameTypes};
 ghost use Rattle.buffers.specs.Differ.{DifferChains, DifferTypes};
 ghost use Rattle.buffers.specs.Records.{same_figures, same_content};
 
-use crate::write::sides;
+use crate::sides::Sides;
 use sheet::Head;
 use sheet::label::{label_at, same, same_name};
 use sheet::record::head_at;
@@ -159,36 +159,23 @@ pub fn differ_type(a: &[u8], n: usize, i: usize, b: &[u8], m: usize, j: usize, n
     differ_heads(a, n, i, head_at(a, i), b, m, head_at(b, j), named)
 }
 
-/// The same of record `l` of the left and record `r` of the right.
-pub fn differ_sides(
-    sheet: &[u8],
-    work: &[u8],
-    n: usize,
-    swap: bool,
-    l: usize,
-    r: usize,
-    named: bool,
-) -> usize
-    requires { n < 65536 }
-    ensures { DifferTypes (side swap sheet.now work.now) n l (side (not swap) sheet.now work.now) n r named result }
-{
-    let (a, b) = sides(sheet, work, swap);
-    differ_type(a, n, l, b, n, r, named)
-}
+impl Sides<'_> {
+    /// The same of record `l` and record `r` of the right.
+    pub fn differ_sides(&self, work: &[u8], l: usize, r: usize, named: bool) -> usize
+        requires { self.now.space.n < 65536 }
+        ensures { DifferTypes (side self.now.swap self.now.sheet.now work.now) self.now.space.n l (side (not self.now.swap) self.now.sheet.now work.now) self.now.space.n r named result }
+    {
+        let n = self.space.n;
+        let (a, b) = self.slices(work);
+        differ_type(a, n, l, b, n, r, named)
+    }
 
-/// Whether the type of record `l` of the left is that of record `r` of the right. Names count where
-/// `named` is set.
-pub fn same_sides(
-    sheet: &[u8],
-    work: &[u8],
-    n: usize,
-    swap: bool,
-    l: usize,
-    r: usize,
-    named: bool,
-) -> bool
-    requires { n < 65536 }
-    ensures { SameTypes (side swap sheet.now work.now) n l (side (not swap) sheet.now work.now) n r named result }
-{
-    differ_sides(sheet, work, n, swap, l, r, named) == 0
+    /// Whether the type of record `l` is that of record `r` of the right. Names count where
+    /// `named` is set.
+    pub fn same_sides(&self, work: &[u8], l: usize, r: usize, named: bool) -> bool
+        requires { self.now.space.n < 65536 }
+        ensures { SameTypes (side self.now.swap self.now.sheet.now work.now) self.now.space.n l (side (not self.now.swap) self.now.sheet.now work.now) self.now.space.n r named result }
+    {
+        self.differ_sides(work, l, r, named) == 0
+    }
 }

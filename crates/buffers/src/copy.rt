@@ -1,4 +1,4 @@
-//! Copying a chain of a side to the destination.
+//! Copying a chain of the left to the destination.
 
 ghost use Rattle.std.specs.Prelude.{◌≡◌, false, cond, ◌+◌, ◌*◌, ◌/◌, ◌≤◌, ◌<◌};
 ghost use Rattle.sheet.specs.Head.{head_at, zoned_in, zone_len};
@@ -6,8 +6,7 @@ ghost use Rattle.sheet.specs.Bounds.{Bounded};
 ghost use Rattle.buffers.specs.Writes.{side};
 ghost use Rattle.buffers.specs.Region.{Room, Inside, Ready, moved_link, moved_label, goal_head, CopiedHead, CopiedBare, CopiedRecord, CopiedChain};
 
-use crate::field::name_goal;
-use crate::write::{look, put_label};
+use crate::sides::Sides;
 use crate::{Failure, Goal, Out, Space, Spot};
 use sheet::Head;
 use sheet::write::put_head;
@@ -67,36 +66,28 @@ fn goal_head(h: Head, link: usize, g: Goal, next: usize) -> Head
     }
 }
 
-/// Copies the head `h` and the zone of record `link` of a side to a goal, with `next` as its next
-/// link; its parts are to stand behind it. `Full` where the zone does not fit.
-pub fn copy_head(
-    sheet: &[u8],
-    work: &mut [u8],
-    space: Space,
-    swap: bool,
-    h: Head,
-    link: usize,
-    g: Goal,
-    next: usize,
-) -> Out
-    requires { (Room work.old space × Ready space g) × ((g.at < space.n) × ((next < 65536) × Bounded h)) }
-    ensures { CopiedHead space (side swap sheet.now work.old) work.old work.new h link g next result }
-{
-    let label = g.label + g.nlen;
-    let zlen = zone_bytes(h);
-    if space.m < label + zlen {
-        return Err(Failure::Full);
+impl Sides<'_> {
+    /// Copies the head `h` and the zone of record `link` to a goal, with `next` as its next
+    /// link; its parts are to stand behind it. `Full` where the zone does not fit.
+    pub fn copy_head(&self, work: &mut [u8], h: Head, link: usize, g: Goal, next: usize) -> Out
+        requires { (Room work.old self.now.space × Ready self.now.space g) × ((g.at < self.now.space.n) × ((next < 65536) × Bounded h)) }
+        ensures { CopiedHead self.now.space (side self.now.swap self.now.sheet.now work.old) work.old work.new h link g next result }
+    {
+        let space = self.space;
+        let label = g.label + g.nlen;
+        let zlen = zone_bytes(h);
+        if space.m < label + zlen {
+            return Err(Failure::Full);
+        }
+        self.put_label(
+            work,
+            16 * space.n + h.zone_at(),
+            zlen,
+            space.half + 16 * space.n + label,
+        );
+        put_head(work, space.half + 16 * g.at, goal_head(h, link, g, next));
+        Ok(g.past(zlen))
     }
-    put_label(
-        sheet,
-        work,
-        swap,
-        16 * space.n + h.zone_at(),
-        zlen,
-        space.half + 16 * space.n + label,
-    );
-    put_head(work, space.half + 16 * g.at, goal_head(h, link, g, next));
-    Ok(g.past(zlen))
 }
 
 // Copies the head of record `link`, which has no zone, to a goal, as the last of its chain: no
@@ -109,75 +100,54 @@ fn copy_bare(work: &mut [u8], space: Space, h: Head, link: usize, g: Goal) -> Ou
     Ok(g.past(0))
 }
 
-/// `copy_head` for the last record of its chain. Of a record without a zone, as that of a wrapper,
-/// the head alone is written.
-pub fn copy_parent(
-    sheet: &[u8],
-    work: &mut [u8],
-    space: Space,
-    swap: bool,
-    h: Head,
-    link: usize,
-    g: Goal,
-) -> Out
-    requires { (Room work.old space × Ready space g) × ((g.at < space.n) × Bounded h) }
-    ensures { CopiedHead space (side swap sheet.now work.old) work.old work.new h link g 0 result }
-{
-    if h.zoned() {
-        return copy_head(sheet, work, space, swap, h, link, g, 0);
+impl Sides<'_> {
+    /// `copy_head` for the last record of its chain. Of a record without a zone, as that of a
+    /// wrapper, the head alone is written.
+    pub fn copy_parent(&self, work: &mut [u8], h: Head, link: usize, g: Goal) -> Out
+        requires { (Room work.old self.now.space × Ready self.now.space g) × ((g.at < self.now.space.n) × Bounded h) }
+        ensures { CopiedHead self.now.space (side self.now.swap self.now.sheet.now work.old) work.old work.new h link g 0 result }
+    {
+        if h.zoned() {
+            return self.copy_head(work, h, link, g, 0);
+        }
+        copy_bare(work, self.space, h, link, g)
     }
-    copy_bare(work, space, h, link, g)
-}
 
-// Copies record `link` of a side, with its labels, and without its parts.
-fn copy_record(
-    sheet: &[u8],
-    work: &mut [u8],
-    space: Space,
-    swap: bool,
-    h: Head,
-    link: usize,
-    to: Spot,
-) -> Out
-    requires room { (Room work.old space × Inside space to) × ((to.at < space.n) × Bounded h) }
-    requires read { h ≡ head_at (side swap sheet.now work.old) link }
-    ensures { CopiedRecord space (side swap sheet.now work.old) work.old work.new link to result }
-{
-    let g = name_goal(sheet, work, space, swap, h, h.nullable(), to)?;
-    let next = moved_link(h.next, link, to.at);
-    copy_head(sheet, work, space, swap, h, link, g, next)
-}
-
-/// Copies the chain that a link of a side leads to. Where nothing follows a record, its parts are
-/// what is left, so that a chain of last fields costs no recursion.
-pub(crate) fn copy_fields(
-    sheet: &[u8],
-    work: &mut [u8],
-    space: Space,
-    swap: bool,
-    start: usize,
-    to: Spot,
-) -> Out
-    requires { Room work.old space × Inside space to }
-    ensures { CopiedChain space (side swap sheet.now work.old) work.old work.new start to result }
-{
-    let mut link = start;
-    let mut spot = to;
-    while link != 0 {
-        if space.n <= spot.at {
-            return Err(Failure::Full);
-        }
-        let h = look(sheet, &*work, swap, link);
-        spot = copy_record(sheet, work, space, swap, h, link, spot)?;
-        if h.next == 0 {
-            link = h.first;
-            continue;
-        }
-        link = h.next;
-        if h.first == 0 {
-            continue;
-        }
-        spot = copy_fields(sheet, work, space, swap, h.first, spot)?;
+    // Copies record `link`, with its labels, and without its parts.
+    fn copy_record(&self, work: &mut [u8], h: Head, link: usize, to: Spot) -> Out
+        requires room { (Room work.old self.now.space × Inside self.now.space to) × ((to.at < self.now.space.n) × Bounded h) }
+        requires read { h ≡ head_at (side self.now.swap self.now.sheet.now work.old) link }
+        ensures { CopiedRecord self.now.space (side self.now.swap self.now.sheet.now work.old) work.old work.new link to result }
+    {
+        let g = self.name_goal(work, h, h.nullable(), to)?;
+        let next = moved_link(h.next, link, to.at);
+        self.copy_head(work, h, link, g, next)
     }
-    Ok(spot)
+
+    /// Copies the chain that a link leads to. Where nothing follows a record, its parts are
+    /// what is left, so that a chain of last fields costs no recursion.
+    pub(crate) fn copy_fields(&self, work: &mut [u8], start: usize, to: Spot) -> Out
+        requires { Room work.old self.now.space × Inside self.now.space to }
+        ensures { CopiedChain self.now.space (side self.now.swap self.now.sheet.now work.old) work.old work.new start to result }
+    {
+        let mut link = start;
+        let mut spot = to;
+        while link != 0 {
+            if self.space.n <= spot.at {
+                return Err(Failure::Full);
+            }
+            let h = self.head(&*work, link);
+            spot = self.copy_record(work, h, link, spot)?;
+            if h.next == 0 {
+                link = h.first;
+                continue;
+            }
+            link = h.next;
+            if h.first == 0 {
+                continue;
+            }
+            spot = self.copy_fields(work, h.first, spot)?;
+        }
+        Ok(spot)
+    }
 }

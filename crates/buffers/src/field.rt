@@ -7,8 +7,7 @@ ghost use Rattle.buffers.specs.Writes.{side};
 ghost use Rattle.buffers.specs.Region.{Room, Inside};
 ghost use Rattle.buffers.specs.Typed.{NamedAt, NamedGoal, CopiedField};
 
-use crate::lay::copy_type;
-use crate::write::{look, put_label};
+use crate::sides::Sides;
 use crate::{Failure, Goal, Out, Space, Spot};
 use sheet::Head;
 
@@ -36,66 +35,51 @@ pub fn row_end(p: usize, to: Spot) -> Out
     if p == 0 { Ok(to) } else { Err(Failure::NoType) }
 }
 
-/// Writes the name of a record of a side, whose head is `h`, at a place, and says whether there was
-/// room for it.
-pub fn name_field(
-    sheet: &[u8],
-    work: &mut [u8],
-    space: Space,
-    swap: bool,
-    h: Head,
-    to: Spot,
-) -> bool
-    requires { Room work.old space × (Inside space to × Bounded h) }
-    ensures { NamedAt space (side swap sheet.now work.old) work.old work.new h to result }
-{
-    if space.m < to.label + h.nlen {
-        return false;
+impl Sides<'_> {
+    /// Writes the name of a record, whose head is `h`, at a place, and says whether there was
+    /// room for it.
+    pub fn name_field(&self, work: &mut [u8], h: Head, to: Spot) -> bool
+        requires { Room work.old self.now.space × (Inside self.now.space to × Bounded h) }
+        ensures { NamedAt self.now.space (side self.now.swap self.now.sheet.now work.old) work.old work.new h to result }
+    {
+        let space = self.space;
+        if space.m < to.label + h.nlen {
+            return false;
+        }
+        self.put_label(
+            work,
+            16 * space.n + h.name,
+            h.nlen,
+            space.half + 16 * space.n + to.label,
+        );
+        true
     }
-    put_label(
-        sheet,
-        work,
-        swap,
-        16 * space.n + h.name,
-        h.nlen,
-        space.half + 16 * space.n + to.label,
-    );
-    true
-}
 
-/// The same, and the goal of a field there; `Full` where there is no room for the name.
-pub fn name_goal(
-    sheet: &[u8],
-    work: &mut [u8],
-    space: Space,
-    swap: bool,
-    h: Head,
-    nullable: bool,
-    to: Spot,
-) -> Result<Goal, Failure>
-    requires { Room work.old space × (Inside space to × Bounded h) }
-    ensures { NamedGoal space (side swap sheet.now work.old) work.old work.new h nullable to result }
-{
-    if name_field(sheet, work, space, swap, h, to) {
-        Ok(to.goal(h.nlen, nullable))
-    } else {
-        Err(Failure::Full)
+    /// The same, and the goal of a field there; `Full` where there is no room for the name.
+    pub fn name_goal(
+        &self,
+        work: &mut [u8],
+        h: Head,
+        nullable: bool,
+        to: Spot,
+    ) -> Result<Goal, Failure>
+        requires { Room work.old self.now.space × (Inside self.now.space to × Bounded h) }
+        ensures { NamedGoal self.now.space (side self.now.swap self.now.sheet.now work.old) work.old work.new h nullable to result }
+    {
+        if self.name_field(work, h, to) {
+            Ok(to.goal(h.nlen, nullable))
+        } else {
+            Err(Failure::Full)
+        }
     }
-}
 
-/// Copies the field at a link of a side, without those behind it. `Full` where it does not fit.
-pub fn copy_field(
-    sheet: &[u8],
-    work: &mut [u8],
-    space: Space,
-    swap: bool,
-    link: usize,
-    to: Spot,
-) -> Out
-    requires { Room work.old space × Inside space to }
-    ensures { CopiedField space (side swap sheet.now work.old) work.old work.new link to result }
-{
-    let h = look(sheet, &*work, swap, link);
-    let g = name_goal(sheet, work, space, swap, h, h.nullable(), to)?;
-    copy_type(sheet, work, space, swap, link, g)
+    /// Copies the field at a link, without those behind it. `Full` where it does not fit.
+    pub fn copy_field(&self, work: &mut [u8], link: usize, to: Spot) -> Out
+        requires { Room work.old self.now.space × Inside self.now.space to }
+        ensures { CopiedField self.now.space (side self.now.swap self.now.sheet.now work.old) work.old work.new link to result }
+    {
+        let h = self.head(&*work, link);
+        let g = self.name_goal(work, h, h.nullable(), to)?;
+        self.copy_type(work, link, g)
+    }
 }

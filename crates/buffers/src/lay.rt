@@ -5,8 +5,8 @@ ghost use Rattle.buffers.specs.Writes.{side};
 ghost use Rattle.buffers.specs.Region.{Room, Ready};
 ghost use Rattle.buffers.specs.Goal.{Laid, LaidPlain, LaidZoned, CopiedType, Tied, shape_for};
 
-use crate::copy::{copy_fields, copy_head, moved_label};
-use crate::write::look;
+use crate::copy::moved_label;
+use crate::sides::Sides;
 use crate::{Failure, Goal, Out, Shape, Space};
 use coercion::Figures;
 use sheet::Head;
@@ -86,28 +86,23 @@ pub(crate) fn lay_zoned(
     Ok(g.past(zlen))
 }
 
-/// Copies the type at a link of a side to a goal, under the goal's name and nullability. `Full`
-/// where it does not fit.
-pub fn copy_type(
-    sheet: &[u8],
-    work: &mut [u8],
-    space: Space,
-    swap: bool,
-    link: usize,
-    g: Goal,
-) -> Out
-    requires { Room work.old space × Ready space g }
-    ensures { CopiedType space (side swap sheet.now work.old) work.old work.new link g result }
-{
-    if space.n <= g.at {
-        return Err(Failure::Full);
+impl Sides<'_> {
+    /// Copies the type at a link to a goal, under the goal's name and nullability. `Full`
+    /// where it does not fit.
+    pub fn copy_type(&self, work: &mut [u8], link: usize, g: Goal) -> Out
+        requires { Room work.old self.now.space × Ready self.now.space g }
+        ensures { CopiedType self.now.space (side self.now.swap self.now.sheet.now work.old) work.old work.new link g result }
+    {
+        if self.space.n <= g.at {
+            return Err(Failure::Full);
+        }
+        let h = self.head(&*work, link);
+        let d = self.copy_head(work, h, link, g, 0)?;
+        if h.first == 0 {
+            return Ok(d);
+        }
+        self.copy_fields(work, h.first, d)
     }
-    let h = look(sheet, &*work, swap, link);
-    let d = copy_head(sheet, work, space, swap, h, link, g, 0)?;
-    if h.first == 0 {
-        return Ok(d);
-    }
-    copy_fields(sheet, work, space, swap, h.first, d)
 }
 
 /// Ties record `at` of the destination to the next of its chain, by a link.

@@ -1,11 +1,10 @@
 //! Types in lent buffers: whether two are the same, how one is copied or written, and the rules
 //! for types without parts.
 //!
-//! The functions of this crate and of those above it share their parameters. `sheet` has the
-//! bytes of a sheet; `work` is the work space, whose first half may be read and whose second
-//! half is the destination; `space` has the sizes of both. Of two types the left stands in the
-//! sheet and the right in the work space, or the other way round where `swap` is set. A link is
-//! the number of a record, and 0 leads nowhere. A kind is byte 0 of a record: any byte is
+//! The functions of this crate and of those above it share their parameters. `work` is the work
+//! space, whose first half may be read and whose second half is the destination; `space` has the
+//! sizes of a sheet and of the work space; and `Sides` says where two types are read from. A link
+//! is the number of a record, and 0 leads nowhere. A kind is byte 0 of a record: any byte is
 //! taken, and one that is no kind has no rule.
 
 #![tactic(auto)]
@@ -20,9 +19,10 @@ pub mod field;
 pub mod laws;
 pub mod lay;
 pub mod lists;
+pub mod sides;
 pub mod span;
 pub mod stamp;
-pub mod write;
+mod write;
 
 use coercion::Figures;
 use plain::value::Leaf;

@@ -9,7 +9,7 @@ ghost use Rattle.buffers.specs.Region.{Room, Inside, region};
 ghost use Rattle.buffers.specs.Span.{relinked, relabelled, MovedHeads, LabelsBegin, CopiedSpan};
 
 use crate::copy::{moved_label, moved_link, moved_quad, zone_bytes};
-use crate::write::{look, put_label};
+use crate::sides::Sides;
 use crate::{Failure, Out, Space, Spot};
 use sheet::Head;
 use sheet::record::head_from;
@@ -83,99 +83,79 @@ fn move_heads(work: &mut [u8], space: Space, link: usize, count: usize, to: Spot
     Ok(Spot { at, label })
 }
 
-// Where the labels of the records of a side from number link up to end begin, where there are any;
-// else 0.
-fn labels_from(sheet: &[u8], work: &[u8], swap: bool, link: usize, end: usize) -> usize
-    ensures { LabelsBegin (side swap sheet.now work.now) link end result }
-{
-    let mut at = link;
-    while at < end {
-        let h = look(sheet, work, swap, at);
-        if h.nlen != 0 {
-            return h.name;
+impl Sides<'_> {
+    // Where the labels of the records from number link up to end begin, where there are any;
+    // else 0.
+    fn labels_from(&self, work: &[u8], link: usize, end: usize) -> usize
+        ensures { LabelsBegin (side self.now.swap self.now.sheet.now work.now) link end result }
+    {
+        let mut at = link;
+        while at < end {
+            let h = self.head(work, at);
+            if h.nlen != 0 {
+                return h.name;
+            }
+            if zone_bytes(h) != 0 {
+                return h.zone_at();
+            }
+            at += 1;
         }
-        if zone_bytes(h) != 0 {
-            return h.zone_at();
-        }
-        at += 1;
+        0
     }
-    0
-}
 
-// What `copy_span` does where there is room for the records, however many they are and whatever
-// labels they have. It is not inlined, so that the frame in the recursion of `merge` stays small.
-#[inline(never)]
-fn copy_items(
-    sheet: &[u8],
-    work: &mut [u8],
-    space: Space,
-    swap: bool,
-    link: usize,
-    end: usize,
-    to: Spot,
-) -> Out
-    requires room { Room work.old space × Inside space to }
-    requires fits { (link < end) × ((end ≤ space.n) × (to.at + (end - link) ≤ space.n)) }
-    ensures { CopiedSpan space (side swap sheet.now work.old) work.old work.new link end to result }
-{
-    let count = end - link;
-    put_label(
-        sheet,
-        work,
-        swap,
-        16 * link,
-        16 * count,
-        space.half + 16 * to.at,
-    );
-    let d = move_heads(work, space, link, count, to)?;
-    if d.label == to.label {
-        return Ok(d);
-    }
-    let from = labels_from(sheet, &*work, swap, link, end);
-    put_label(
-        sheet,
-        work,
-        swap,
-        16 * space.n + from,
-        d.label - to.label,
-        space.half + 16 * space.n + to.label,
-    );
-    Ok(d)
-}
-
-/// Copies the records of a side from number `link` up to `end`, which stand one behind the other,
-/// with their labels, to a place. Links among them are moved with the records. `Full` where records
-/// or labels do not fit. Most often it is one record without labels, the index of a Dictionary, of
-/// which a head is put and no more: that case is inlined.
-#[inline(always)]
-pub fn copy_span(
-    sheet: &[u8],
-    work: &mut [u8],
-    space: Space,
-    swap: bool,
-    link: usize,
-    end: usize,
-    to: Spot,
-) -> Out
-    requires { Room work.old space × Inside space to }
-    ensures { CopiedSpan space (side swap sheet.now work.old) work.old work.new link end to result }
-{
-    if end <= link {
-        return Ok(to);
-    }
-    let count = end - link;
-    if space.n < end || space.n < to.at + count {
-        return Err(Failure::Full);
-    }
-    if count == 1 {
-        let h = look(sheet, &*work, swap, link);
-        if is_bare(h) {
-            put_head(work, space.half + 16 * to.at, relinked(h, link, to.at));
-            return Ok(Spot {
-                at: to.at + 1,
-                label: to.label,
-            });
+    // What `copy_span` does where there is room for the records, however many they are and whatever
+    // labels they have. It is not inlined, so that the frame in the recursion of `merge` stays
+    // small.
+    #[inline(never)]
+    fn copy_items(&self, work: &mut [u8], link: usize, end: usize, to: Spot) -> Out
+        requires room { Room work.old self.now.space × Inside self.now.space to }
+        requires fits { (link < end) × ((end ≤ self.now.space.n) × (to.at + (end - link) ≤ self.now.space.n)) }
+        ensures { CopiedSpan self.now.space (side self.now.swap self.now.sheet.now work.old) work.old work.new link end to result }
+    {
+        let space = self.space;
+        let count = end - link;
+        self.put_label(work, 16 * link, 16 * count, space.half + 16 * to.at);
+        let d = move_heads(work, space, link, count, to)?;
+        if d.label == to.label {
+            return Ok(d);
         }
+        let from = self.labels_from(&*work, link, end);
+        self.put_label(
+            work,
+            16 * space.n + from,
+            d.label - to.label,
+            space.half + 16 * space.n + to.label,
+        );
+        Ok(d)
     }
-    copy_items(sheet, work, space, swap, link, end, to)
+
+    /// Copies the records from number `link` up to `end`, which stand one behind the other, with
+    /// their labels, to a place. Links among them are moved with the records. `Full` where records
+    /// or labels do not fit. Most often it is one record without labels, the index of a Dictionary,
+    /// of which a head is put and no more: that case is inlined.
+    #[inline(always)]
+    pub fn copy_span(&self, work: &mut [u8], link: usize, end: usize, to: Spot) -> Out
+        requires { Room work.old self.now.space × Inside self.now.space to }
+        ensures { CopiedSpan self.now.space (side self.now.swap self.now.sheet.now work.old) work.old work.new link end to result }
+    {
+        if end <= link {
+            return Ok(to);
+        }
+        let space = self.space;
+        let count = end - link;
+        if space.n < end || space.n < to.at + count {
+            return Err(Failure::Full);
+        }
+        if count == 1 {
+            let h = self.head(&*work, link);
+            if is_bare(h) {
+                put_head(work, space.half + 16 * to.at, relinked(h, link, to.at));
+                return Ok(Spot {
+                    at: to.at + 1,
+                    label: to.label,
+                });
+            }
+        }
+        self.copy_items(work, link, end, to)
+    }
 }

@@ -21,14 +21,9 @@ ghost use Rattle.coercion.specs.Data.{is_list_question};
 use crate::Merger;
 use crate::descent::passes;
 use crate::known::row_known;
-use buffers::alike::same_sides;
-use buffers::copy::{copy_head, copy_parent};
-use buffers::field::{first_link, name_goal, next_link, row_end};
-use buffers::lay::{copy_type, lay, tie};
+use buffers::field::{first_link, next_link, row_end};
+use buffers::lay::{lay, tie};
 use buffers::lists::{list_kind, list_size};
-use buffers::span::copy_span;
-use buffers::stamp::plain_rule;
-use buffers::write::{kind_at, look, value_at};
 use buffers::{Failure, Feed, Goal, Out, Shape, Spot};
 use coercion::Figures;
 use partners::names::{same_arity, struct_feed};
@@ -67,23 +62,22 @@ impl<'a> Merger<'a> {
         &self,
         work: &mut [u8],
         left: usize,
-        swap: bool,
         known: Option<usize>,
         l: usize,
         r: usize,
         g: Goal,
     ) -> Out
-        requires { Room work.old self.now.space × Ready self.now.space g }
-        ensures { MergesKnown known (is_list_question self.now.rules.question) (coercion self.now.rules) self.now.space left swap self.now.sheet.now work.old work.new l r g result }
+        requires { Room work.old self.now.sides.space × Ready self.now.sides.space g }
+        ensures { MergesKnown known (is_list_question self.now.rules.question) (coercion self.now.rules) self.now.sides.space left self.now.sides.swap self.now.sides.sheet.now work.old work.new l r g result }
     {
-        let records = records_from(self.space.n, l, look(self.sheet, &*work, swap, l).next);
+        let records = records_from(self.sides.space.n, l, self.sides.head(&*work, l).next);
         if records < 9 {
-            return self.common(work, &mut [0u32; 16], left, swap, known, 0, l, r, g);
+            return self.common(work, &mut [0u32; 16], left, known, 0, l, r, g);
         }
         if records < 33 {
-            return self.common(work, &mut [0u32; 64], left, swap, known, 0, l, r, g);
+            return self.common(work, &mut [0u32; 64], left, known, 0, l, r, g);
         }
-        self.coerce_many(work, left, swap, known, l, r, g)
+        self.coerce_many(work, left, known, l, r, g)
     }
 
     // The same, where the left type has many records. It is not inlined, so that the large table is
@@ -93,42 +87,15 @@ impl<'a> Merger<'a> {
         &self,
         work: &mut [u8],
         left: usize,
-        swap: bool,
         known: Option<usize>,
         l: usize,
         r: usize,
         g: Goal,
     ) -> Out
-        requires { Room work.old self.now.space × Ready self.now.space g }
-        ensures { MergesKnown known (is_list_question self.now.rules.question) (coercion self.now.rules) self.now.space left swap self.now.sheet.now work.old work.new l r g result }
+        requires { Room work.old self.now.sides.space × Ready self.now.sides.space g }
+        ensures { MergesKnown known (is_list_question self.now.rules.question) (coercion self.now.rules) self.now.sides.space left self.now.sides.swap self.now.sides.sheet.now work.old work.new l r g result }
     {
-        self.common(work, &mut [0u32; 2048], left, swap, known, 0, l, r, g)
-    }
-
-    // The records at two links, one of each side.
-    fn heads(&self, work: &[u8], swap: bool, l: usize, r: usize) -> (Head, Head)
-        ensures left { (result.0 ≡ head_at (side swap self.now.sheet.now work.now) l) × Bounded result.0 }
-        ensures right { (result.1 ≡ head_at (side (not swap) self.now.sheet.now work.now) r) × Bounded result.1 }
-    {
-        let x = look(self.sheet, work, swap, l);
-        (x, look(self.sheet, work, !swap, r))
-    }
-
-    // Their kinds.
-    fn kinds(&self, work: &[u8], swap: bool, l: usize, r: usize) -> (u8, u8)
-        ensures left { result.0 ≡ (head_at (side swap self.now.sheet.now work.now) l).kind }
-        ensures right { result.1 ≡ (head_at (side (not swap) self.now.sheet.now work.now) r).kind }
-    {
-        let k = kind_at(self.sheet, work, swap, l);
-        (k, kind_at(self.sheet, work, !swap, r))
-    }
-
-    // The rules for types without parts.
-    fn plain(&self, work: &mut [u8], swap: bool, l: usize, r: usize, g: Goal) -> Out
-        requires { Room work.old self.now.space × Ready self.now.space g }
-        ensures { (left : ℕ) → Merges (plain_rules self.now.rules) self.now.space left swap self.now.sheet.now work.old work.new l r g result }
-    {
-        plain_rule(self.sheet, work, self.space, self.rules, swap, l, r, g)
+        self.common(work, &mut [0u32; 2048], left, known, 0, l, r, g)
     }
 
     // What feeds the fields of two Structs at their links: the fields at their places where names
@@ -137,22 +104,19 @@ impl<'a> Merger<'a> {
         &self,
         work: &[u8],
         table: &mut [u32],
-        swap: bool,
         known: Option<usize>,
         by_name: Feed,
         floor: usize,
         l: usize,
         r: usize,
     ) -> Option<Feed>
-        requires few { self.now.space.n ≤ 1024 }
-        requires tabled { Tabled self.now.space self.now.sheet.now work.now table.old }
-        ensures struct_fed { StructsFed (known_names (is_list_question self.now.rules.question) known) by_name self.now.space (side swap self.now.sheet.now work.now) (side (not swap) self.now.sheet.now work.now) floor l r result }
-        ensures stays_tabled { Tabled self.now.space self.now.sheet.now work.now table.new }
+        requires few { self.now.sides.space.n ≤ 1024 }
+        requires tabled { Tabled self.now.sides.space self.now.sides.sheet.now work.now table.old }
+        ensures struct_fed { StructsFed (known_names (is_list_question self.now.rules.question) known) by_name self.now.sides.space (side self.now.sides.swap self.now.sides.sheet.now work.now) (side (not self.now.sides.swap) self.now.sides.sheet.now work.now) floor l r result }
+        ensures stays_tabled { Tabled self.now.sides.space self.now.sides.sheet.now work.now table.new }
     {
         let known = self.known_names(known);
-        struct_feed(
-            self.sheet, work, self.space, swap, known, by_name, floor, l, r, table,
-        )
+        struct_feed(&self.sides, work, known, by_name, floor, l, r, table)
     }
 
     // The common type of two types, of which something may be known, or none.
@@ -162,36 +126,35 @@ impl<'a> Merger<'a> {
         work: &mut [u8],
         table: &mut [u32],
         left: usize,
-        swap: bool,
         known: Option<usize>,
         hint: u8,
         l: usize,
         r: usize,
         g: Goal,
     ) -> Out
-        requires room { Room work.old self.now.space × Ready self.now.space g }
-        requires tabled { Tabled self.now.space self.now.sheet.now work.old table.old }
-        ensures merges_hinted { MergesHinted hint self.now.rules.mask known (is_list_question self.now.rules.question) (coercion self.now.rules) self.now.space left swap self.now.sheet.now work.old work.new l r g result }
-        ensures stays_tabled { Tabled self.now.space self.now.sheet.now work.new table.new }
+        requires room { Room work.old self.now.sides.space × Ready self.now.sides.space g }
+        requires tabled { Tabled self.now.sides.space self.now.sides.sheet.now work.old table.old }
+        ensures merges_hinted { MergesHinted hint self.now.rules.mask known (is_list_question self.now.rules.question) (coercion self.now.rules) self.now.sides.space left self.now.sides.swap self.now.sides.sheet.now work.old work.new l r g result }
+        ensures stays_tabled { Tabled self.now.sides.space self.now.sides.sheet.now work.new table.new }
     {
         if left == 0 {
             return Err(Failure::NoType);
         }
-        let d = self.first_difference(&*work, swap, known, l, r);
+        let d = self.first_difference(&*work, known, l, r);
         if d == 0 {
-            return copy_type(self.sheet, work, self.space, swap, l, g);
+            return self.sides.copy_type(work, l, g);
         }
-        let (k, j) = self.kinds(&*work, swap, l, r);
+        let (k, j) = self.sides.kinds(&*work, l, r);
         if k < kind::LIST && j < kind::LIST {
-            return self.plain(work, swap, l, r, g);
+            return self.sides.plain_rule(work, self.rules, l, r, g);
         }
         if k < kind::DICTIONARY && j < kind::DICTIONARY {
-            return self.nested(work, table, left - 1, swap, Some(d), l, r, g);
+            return self.nested(work, table, left - 1, Some(d), l, r, g);
         }
         if self.rules.is_list_question() {
-            return self.resolve(work, table, left - 1, swap, Some(d), l, r, g);
+            return self.resolve(work, table, left - 1, Some(d), l, r, g);
         }
-        self.unwrap(work, table, left - 1, swap, Some(d), hint, l, r, g)
+        self.unwrap(work, table, left - 1, Some(d), hint, l, r, g)
     }
 
     // `type_union_resolution_coercion`, after the test for sameness.
@@ -201,28 +164,27 @@ impl<'a> Merger<'a> {
         work: &mut [u8],
         table: &mut [u32],
         left: usize,
-        swap: bool,
         known: Option<usize>,
         l: usize,
         r: usize,
         g: Goal,
     ) -> Out
-        requires room { Room work.old self.now.space × Ready self.now.space g }
+        requires room { Room work.old self.now.sides.space × Ready self.now.sides.space g }
         requires of_list { is_list_question self.now.rules.question ≡ true }
-        requires tabled { Tabled self.now.space self.now.sheet.now work.old table.old }
-        ensures merges_known { MergesKnown known (is_list_question self.now.rules.question) (resolved self.now.rules (coercion self.now.rules)) self.now.space (left + 1) swap self.now.sheet.now work.old work.new l r g result }
-        ensures stays_tabled { Tabled self.now.space self.now.sheet.now work.new table.new }
+        requires tabled { Tabled self.now.sides.space self.now.sides.sheet.now work.old table.old }
+        ensures merges_known { MergesKnown known (is_list_question self.now.rules.question) (resolved self.now.rules (coercion self.now.rules)) self.now.sides.space (left + 1) self.now.sides.swap self.now.sides.sheet.now work.old work.new l r g result }
+        ensures stays_tabled { Tabled self.now.sides.space self.now.sides.sheet.now work.new table.new }
     {
-        let (k, j) = self.kinds(&*work, swap, l, r);
+        let (k, j) = self.sides.kinds(&*work, l, r);
         if k == kind::DICTIONARY || j == kind::DICTIONARY {
             let kind = kind::DICTIONARY;
-            return self.resolve_wrapper(work, table, left, swap, known, kind, l, r, g);
+            return self.resolve_wrapper(work, table, left, known, kind, l, r, g);
         }
         if k == kind::RUN_END_ENCODED || j == kind::RUN_END_ENCODED {
             let kind = kind::RUN_END_ENCODED;
-            return self.resolve_wrapper(work, table, left, swap, known, kind, l, r, g);
+            return self.resolve_wrapper(work, table, left, known, kind, l, r, g);
         }
-        self.nested(work, table, left, swap, known, l, r, g)
+        self.nested(work, table, left, known, l, r, g)
     }
 
     // Two types of a list, of which one at least is a wrapper of a kind.
@@ -232,29 +194,28 @@ impl<'a> Merger<'a> {
         work: &mut [u8],
         table: &mut [u32],
         left: usize,
-        swap: bool,
         known: Option<usize>,
         kind: u8,
         l: usize,
         r: usize,
         g: Goal,
     ) -> Out
-        requires room { Room work.old self.now.space × Ready self.now.space g }
+        requires room { Room work.old self.now.sides.space × Ready self.now.sides.space g }
         requires of_list { is_list_question self.now.rules.question ≡ true }
         requires wrapper { is_wrapper kind ≡ true }
-        requires tabled { Tabled self.now.space self.now.sheet.now work.old table.old }
-        ensures merges_known { MergesKnown known (is_list_question self.now.rules.question) (either_wrapped kind (coercion self.now.rules)) self.now.space (left + 1) swap self.now.sheet.now work.old work.new l r g result }
-        ensures stays_tabled { Tabled self.now.space self.now.sheet.now work.new table.new }
+        requires tabled { Tabled self.now.sides.space self.now.sides.sheet.now work.old table.old }
+        ensures merges_known { MergesKnown known (is_list_question self.now.rules.question) (either_wrapped kind (coercion self.now.rules)) self.now.sides.space (left + 1) self.now.sides.swap self.now.sides.sheet.now work.old work.new l r g result }
+        ensures stays_tabled { Tabled self.now.sides.space self.now.sides.sheet.now work.new table.new }
     {
-        let (k, j) = self.kinds(&*work, swap, l, r);
+        let (k, j) = self.sides.kinds(&*work, l, r);
         if k == kind {
             if j == kind {
-                return self.both_parts(work, table, left, swap, known, l, r, g);
+                return self.both_parts(work, table, left, known, l, r, g);
             }
-            return self.rewrapped(work, table, left, swap, kind, l, r, g);
+            return self.rewrapped(work, table, left, kind, l, r, g);
         }
         if j == kind {
-            return self.rewrapped(work, table, left, !swap, kind, r, l, g);
+            return self.swapped().rewrapped(work, table, left, kind, r, l, g);
         }
         Err(Failure::NoType)
     }
@@ -266,27 +227,25 @@ impl<'a> Merger<'a> {
         work: &mut [u8],
         table: &mut [u32],
         left: usize,
-        swap: bool,
         known: Option<usize>,
         l: usize,
         r: usize,
         g: Goal,
     ) -> Out
-        requires room { Room work.old self.now.space × Ready self.now.space g }
-        requires tabled { Tabled self.now.space self.now.sheet.now work.old table.old }
-        ensures merges_known { MergesKnown known (is_list_question self.now.rules.question) (both_wrapped (coercion self.now.rules)) self.now.space (left + 1) swap self.now.sheet.now work.old work.new l r g result }
-        ensures stays_tabled { Tabled self.now.space self.now.sheet.now work.new table.new }
+        requires room { Room work.old self.now.sides.space × Ready self.now.sides.space g }
+        requires tabled { Tabled self.now.sides.space self.now.sides.sheet.now work.old table.old }
+        ensures merges_known { MergesKnown known (is_list_question self.now.rules.question) (both_wrapped (coercion self.now.rules)) self.now.sides.space (left + 1) self.now.sides.swap self.now.sides.sheet.now work.old work.new l r g result }
+        ensures stays_tabled { Tabled self.now.sides.space self.now.sides.sheet.now work.new table.new }
     {
-        if self.space.n <= g.at {
+        if self.sides.space.n <= g.at {
             return Err(Failure::Full);
         }
-        let (x, y) = self.heads(&*work, swap, l, r);
-        let d = copy_head(self.sheet, work, self.space, swap, x, l, g, 0)?;
+        let (x, y) = self.sides.heads(&*work, l, r);
+        let d = self.sides.copy_head(work, x, l, g, 0)?;
         self.rows(
             work,
             table,
             left,
-            swap,
             known,
             Feed::Own,
             x.first,
@@ -305,30 +264,28 @@ impl<'a> Merger<'a> {
         work: &mut [u8],
         table: &mut [u32],
         left: usize,
-        swap: bool,
         kind: u8,
         l: usize,
         r: usize,
         g: Goal,
     ) -> Out
-        requires room { Room work.old self.now.space × Ready self.now.space g }
+        requires room { Room work.old self.now.sides.space × Ready self.now.sides.space g }
         requires of_list { is_list_question self.now.rules.question ≡ true }
-        requires wrapper { (is_wrapper kind ≡ true) × ((head_at (side swap self.now.sheet.now work.old) l).kind ≡ kind) }
-        requires tabled { Tabled self.now.space self.now.sheet.now work.old table.old }
-        ensures merges { Merges (rewrapped kind (coercion self.now.rules)) self.now.space (left + 1) swap self.now.sheet.now work.old work.new l r g result }
-        ensures stays_tabled { Tabled self.now.space self.now.sheet.now work.new table.new }
+        requires wrapper { (is_wrapper kind ≡ true) × ((head_at (side self.now.sides.swap self.now.sides.sheet.now work.old) l).kind ≡ kind) }
+        requires tabled { Tabled self.now.sides.space self.now.sides.sheet.now work.old table.old }
+        ensures merges { Merges (rewrapped kind (coercion self.now.rules)) self.now.sides.space (left + 1) self.now.sides.swap self.now.sides.sheet.now work.old work.new l r g result }
+        ensures stays_tabled { Tabled self.now.sides.space self.now.sides.sheet.now work.new table.new }
     {
-        let space = self.space;
-        if space.n <= g.at {
+        if self.sides.space.n <= g.at {
             return Err(Failure::Full);
         }
-        let x = look(self.sheet, &*work, swap, l);
-        let descent = self.descend(&*work, swap, kind, l, r);
+        let x = self.sides.head(&*work, l);
+        let descent = self.descend(&*work, kind, l, r);
         let core = descent.core;
-        let a = copy_parent(self.sheet, work, space, swap, x, l, g)?;
-        let b = copy_span(self.sheet, work, space, swap, descent.first, core, a)?;
-        let e = self.coerce_field(work, table, left, swap, core, r, b)?;
-        self.settle(work, swap, descent, a, g, b.at, e)
+        let a = self.sides.copy_parent(work, x, l, g)?;
+        let b = self.sides.copy_span(work, descent.first, core, a)?;
+        let e = self.coerce_field(work, table, left, core, r, b)?;
+        self.settle(work, descent, a, g, b.at, e)
     }
 
     // The value of a wrapper, coerced with a type of the other side under its own name and
@@ -339,20 +296,19 @@ impl<'a> Merger<'a> {
         work: &mut [u8],
         table: &mut [u32],
         left: usize,
-        swap: bool,
         l: usize,
         r: usize,
         to: Spot,
     ) -> Out
-        requires room { Room work.old self.now.space × Inside self.now.space to }
+        requires room { Room work.old self.now.sides.space × Inside self.now.sides.space to }
         requires of_list { is_list_question self.now.rules.question ≡ true }
-        requires tabled { Tabled self.now.space self.now.sheet.now work.old table.old }
-        ensures merges_field { MergesField None (is_list_question self.now.rules.question) (coercion self.now.rules) self.now.space left swap self.now.sheet.now work.old work.new l r to result }
-        ensures stays_tabled { Tabled self.now.space self.now.sheet.now work.new table.new }
+        requires tabled { Tabled self.now.sides.space self.now.sides.sheet.now work.old table.old }
+        ensures merges_field { MergesField None (is_list_question self.now.rules.question) (coercion self.now.rules) self.now.sides.space left self.now.sides.swap self.now.sides.sheet.now work.old work.new l r to result }
+        ensures stays_tabled { Tabled self.now.sides.space self.now.sides.sheet.now work.new table.new }
     {
-        let x = look(self.sheet, &*work, swap, l);
-        let g = name_goal(self.sheet, work, self.space, swap, x, x.nullable(), to)?;
-        self.coerce_value(work, table, left, swap, l, r, g)
+        let x = self.sides.head(&*work, l);
+        let g = self.sides.name_goal(work, x, x.nullable(), to)?;
+        self.coerce_value(work, table, left, l, r, g)
     }
 
     // The common type of a value and another type, or none. A wrapper that is passed and the other
@@ -363,28 +319,27 @@ impl<'a> Merger<'a> {
         work: &mut [u8],
         table: &mut [u32],
         left: usize,
-        swap: bool,
         l: usize,
         r: usize,
         g: Goal,
     ) -> Out
-        requires room { Room work.old self.now.space × Ready self.now.space g }
+        requires room { Room work.old self.now.sides.space × Ready self.now.sides.space g }
         requires of_list { is_list_question self.now.rules.question ≡ true }
-        requires tabled { Tabled self.now.space self.now.sheet.now work.old table.old }
-        ensures merges { Merges (coercion self.now.rules) self.now.space left swap self.now.sheet.now work.old work.new l r g result }
-        ensures stays_tabled { Tabled self.now.space self.now.sheet.now work.new table.new }
+        requires tabled { Tabled self.now.sides.space self.now.sides.sheet.now work.old table.old }
+        ensures merges { Merges (coercion self.now.rules) self.now.sides.space left self.now.sides.swap self.now.sides.sheet.now work.old work.new l r g result }
+        ensures stays_tabled { Tabled self.now.sides.space self.now.sides.sheet.now work.new table.new }
     {
         if left == 0 {
             return Err(Failure::NoType);
         }
-        let (k, j) = self.kinds(&*work, swap, l, r);
+        let (k, j) = self.sides.kinds(&*work, l, r);
         if passes(k, j) {
-            return self.rewrapped(work, table, left - 1, swap, k, l, r, g);
+            return self.rewrapped(work, table, left - 1, k, l, r, g);
         }
         if k != j && k < kind::LIST && j < kind::LIST {
-            return self.plain(work, swap, l, r, g);
+            return self.sides.plain_rule(work, self.rules, l, r, g);
         }
-        self.common(work, table, left, swap, None, 0, l, r, g)
+        self.common(work, table, left, None, 0, l, r, g)
     }
 
     // The rules of union and compare, after the test for alikeness. Of the two rules for wrappers
@@ -395,23 +350,22 @@ impl<'a> Merger<'a> {
         work: &mut [u8],
         table: &mut [u32],
         left: usize,
-        swap: bool,
         known: Option<usize>,
         hint: u8,
         l: usize,
         r: usize,
         g: Goal,
     ) -> Out
-        requires room { Room work.old self.now.space × Ready self.now.space g }
+        requires room { Room work.old self.now.sides.space × Ready self.now.sides.space g }
         requires of_pair { is_list_question self.now.rules.question ≡ false }
-        requires tabled { Tabled self.now.space self.now.sheet.now work.old table.old }
-        ensures merges_hinted { MergesHinted hint self.now.rules.mask known (is_list_question self.now.rules.question) (unwrapped self.now.rules (coercion self.now.rules)) self.now.space (left + 1) swap self.now.sheet.now work.old work.new l r g result }
-        ensures stays_tabled { Tabled self.now.space self.now.sheet.now work.new table.new }
+        requires tabled { Tabled self.now.sides.space self.now.sides.sheet.now work.old table.old }
+        ensures merges_hinted { MergesHinted hint self.now.rules.mask known (is_list_question self.now.rules.question) (unwrapped self.now.rules (coercion self.now.rules)) self.now.sides.space (left + 1) self.now.sides.swap self.now.sides.sheet.now work.old work.new l r g result }
+        ensures stays_tabled { Tabled self.now.sides.space self.now.sides.sheet.now work.new table.new }
     {
         // Each answer has an arm of its own, since the proof goes by cases.
-        match self.wrapper(work, table, left, swap, known, hint, l, r, g) {
+        match self.wrapper(work, table, left, known, hint, l, r, g) {
             Ok(d) => Ok(d),
-            Err(Failure::NoType) => self.nested(work, table, left, swap, known, l, r, g),
+            Err(Failure::NoType) => self.nested(work, table, left, known, l, r, g),
             Err(Failure::Full) => Err(Failure::Full),
         }
     }
@@ -424,42 +378,41 @@ impl<'a> Merger<'a> {
         work: &mut [u8],
         table: &mut [u32],
         left: usize,
-        swap: bool,
         known: Option<usize>,
         hint: u8,
         l: usize,
         r: usize,
         g: Goal,
     ) -> Out
-        requires room { Room work.old self.now.space × Ready self.now.space g }
-        requires tabled { Tabled self.now.space self.now.sheet.now work.old table.old }
-        ensures merges_hinted { MergesHinted hint self.now.rules.mask known (is_list_question self.now.rules.question) (wrapper_rule self.now.rules (coercion self.now.rules)) self.now.space (left + 1) swap self.now.sheet.now work.old work.new l r g result }
-        ensures stays_tabled { Tabled self.now.space self.now.sheet.now work.new table.new }
+        requires room { Room work.old self.now.sides.space × Ready self.now.sides.space g }
+        requires tabled { Tabled self.now.sides.space self.now.sides.sheet.now work.old table.old }
+        ensures merges_hinted { MergesHinted hint self.now.rules.mask known (is_list_question self.now.rules.question) (wrapper_rule self.now.rules (coercion self.now.rules)) self.now.sides.space (left + 1) self.now.sides.swap self.now.sides.sheet.now work.old work.new l r g result }
+        ensures stays_tabled { Tabled self.now.sides.space self.now.sides.sheet.now work.new table.new }
     {
-        let n = self.space.n;
-        let Some(t) = way(self.sheet, &*work, swap, self.rules.mask, left, hint, l, r) else {
+        let Some(t) = way(&self.sides, &*work, self.rules.mask, left, hint, l, r) else {
             return Err(Failure::NoType);
         };
         let kind = t.kind;
-        let (k, j) = self.kinds(&*work, swap, l, r);
-        let a = value_at(self.sheet, &*work, swap, l);
-        let b = value_at(self.sheet, &*work, !swap, r);
+        let (k, j) = self.sides.kinds(&*work, l, r);
+        let a = self.sides.value(&*work, l);
+        let b = self.sides.right_value(&*work, r);
         if k == kind {
             if j == kind {
                 let own = row_known(known, a, 0, b, b);
-                return self.common(work, table, left, swap, own, t.hint, a, b, g);
+                return self.common(work, table, left, own, t.hint, a, b, g);
             }
-            if same_sides(self.sheet, &*work, n, swap, a, r, true) {
-                return copy_type(self.sheet, work, self.space, swap, l, g);
+            if self.sides.same_sides(&*work, a, r, true) {
+                return self.sides.copy_type(work, l, g);
             }
-            return self.common(work, table, left, swap, None, t.hint, a, r, g);
+            return self.common(work, table, left, None, t.hint, a, r, g);
         }
         // The common type takes the left's names, so the value is asked on its own side.
         if j == kind {
-            if same_sides(self.sheet, &*work, n, !swap, b, l, true) {
-                return copy_type(self.sheet, work, self.space, !swap, r, g);
+            let turned = self.sides.swapped();
+            if turned.same_sides(&*work, b, l, true) {
+                return turned.copy_type(work, r, g);
             }
-            return self.common(work, table, left, swap, None, t.hint, l, b, g);
+            return self.common(work, table, left, None, t.hint, l, b, g);
         }
         Err(Failure::NoType)
     }
@@ -471,31 +424,30 @@ impl<'a> Merger<'a> {
         work: &mut [u8],
         table: &mut [u32],
         left: usize,
-        swap: bool,
         known: Option<usize>,
         l: usize,
         r: usize,
         g: Goal,
     ) -> Out
-        requires room { Room work.old self.now.space × Ready self.now.space g }
-        requires tabled { Tabled self.now.space self.now.sheet.now work.old table.old }
-        ensures merges_known { MergesKnown known (is_list_question self.now.rules.question) (nested_of self.now.rules (coercion self.now.rules)) self.now.space (left + 1) swap self.now.sheet.now work.old work.new l r g result }
-        ensures stays_tabled { Tabled self.now.space self.now.sheet.now work.new table.new }
+        requires room { Room work.old self.now.sides.space × Ready self.now.sides.space g }
+        requires tabled { Tabled self.now.sides.space self.now.sides.sheet.now work.old table.old }
+        ensures merges_known { MergesKnown known (is_list_question self.now.rules.question) (nested_of self.now.rules (coercion self.now.rules)) self.now.sides.space (left + 1) self.now.sides.swap self.now.sides.sheet.now work.old work.new l r g result }
+        ensures stays_tabled { Tabled self.now.sides.space self.now.sides.sheet.now work.new table.new }
     {
-        let (k, j) = self.kinds(&*work, swap, l, r);
+        let (k, j) = self.sides.kinds(&*work, l, r);
         if is_list(k) && is_list(j) {
-            return self.list_rule(work, table, left, swap, known, l, r, g);
+            return self.list_rule(work, table, left, known, l, r, g);
         }
         if k == kind::STRUCT && j == kind::STRUCT {
             if self.rules.is_list_question() {
-                return self.list_struct(work, table, left, swap, known, l, r, g);
+                return self.list_struct(work, table, left, known, l, r, g);
             }
-            return self.struct_rule(work, table, left, swap, known, l, r, g);
+            return self.struct_rule(work, table, left, known, l, r, g);
         }
         if k == kind::MAP && j == kind::MAP {
-            return self.map_rule(work, table, left, swap, known, l, r, g);
+            return self.map_rule(work, table, left, known, l, r, g);
         }
-        self.plain(work, swap, l, r, g)
+        self.sides.plain_rule(work, self.rules, l, r, g)
     }
 
     // The record of a type with parts, and its parts after it.
@@ -505,7 +457,6 @@ impl<'a> Merger<'a> {
         work: &mut [u8],
         table: &mut [u32],
         left: usize,
-        swap: bool,
         known: Option<usize>,
         feed: Feed,
         shape: Shape,
@@ -513,19 +464,19 @@ impl<'a> Merger<'a> {
         r: usize,
         g: Goal,
     ) -> Out
-        requires room { (Room work.old self.now.space × Ready self.now.space g) × (shape.size < 4294967296) }
-        requires tabled { Tabled self.now.space self.now.sheet.now work.old table.old }
-        ensures under { Under known (is_list_question self.now.rules.question) (coercion self.now.rules) self.now.space left swap self.now.sheet.now work.old work.new feed (shape_for shape.kind shape.figure shape.scale shape.size shape.sorted) l r r g result }
-        ensures stays_tabled { Tabled self.now.space self.now.sheet.now work.new table.new }
+        requires room { (Room work.old self.now.sides.space × Ready self.now.sides.space g) × (shape.size < 4294967296) }
+        requires tabled { Tabled self.now.sides.space self.now.sides.sheet.now work.old table.old }
+        ensures under { Under known (is_list_question self.now.rules.question) (coercion self.now.rules) self.now.sides.space left self.now.sides.swap self.now.sides.sheet.now work.old work.new feed (shape_for shape.kind shape.figure shape.scale shape.size shape.sorted) l r r g result }
+        ensures stays_tabled { Tabled self.now.sides.space self.now.sides.sheet.now work.new table.new }
     {
         let at = g.at;
         let label = g.label + g.nlen;
-        if self.space.n <= at {
+        if self.sides.space.n <= at {
             return Err(Failure::Full);
         }
-        lay(work, self.space, g, shape, first_link(at, l));
+        lay(work, self.sides.space, g, shape, first_link(at, l));
         let to = Spot { at: at + 1, label };
-        self.rows(work, table, left, swap, known, feed, l, r, r, to)
+        self.rows(work, table, left, known, feed, l, r, r, to)
     }
 
     // `list_coercion`, of two lists.
@@ -535,24 +486,23 @@ impl<'a> Merger<'a> {
         work: &mut [u8],
         table: &mut [u32],
         left: usize,
-        swap: bool,
         known: Option<usize>,
         l: usize,
         r: usize,
         g: Goal,
     ) -> Out
-        requires room { Room work.old self.now.space × Ready self.now.space g }
-        requires tabled { Tabled self.now.space self.now.sheet.now work.old table.old }
-        ensures merges_known { MergesKnown known (is_list_question self.now.rules.question) (list_rule (coercion self.now.rules)) self.now.space (left + 1) swap self.now.sheet.now work.old work.new l r g result }
-        ensures stays_tabled { Tabled self.now.space self.now.sheet.now work.new table.new }
+        requires room { Room work.old self.now.sides.space × Ready self.now.sides.space g }
+        requires tabled { Tabled self.now.sides.space self.now.sides.sheet.now work.old table.old }
+        ensures merges_known { MergesKnown known (is_list_question self.now.rules.question) (list_rule (coercion self.now.rules)) self.now.sides.space (left + 1) self.now.sides.swap self.now.sides.sheet.now work.old work.new l r g result }
+        ensures stays_tabled { Tabled self.now.sides.space self.now.sides.sheet.now work.new table.new }
     {
-        let (x, y) = self.heads(&*work, swap, l, r);
+        let (x, y) = self.sides.heads(&*work, l, r);
         let (a, b) = (x.first, y.first);
         let shape = Shape {
             size: list_size(x, y),
             ..Shape::from(Figures::of_kind(list_kind(x, y)))
         };
-        self.under(work, table, left, swap, known, Feed::Place, shape, a, b, g)
+        self.under(work, table, left, known, Feed::Place, shape, a, b, g)
     }
 
     // `struct_coercion`, of two types.
@@ -562,28 +512,27 @@ impl<'a> Merger<'a> {
         work: &mut [u8],
         table: &mut [u32],
         left: usize,
-        swap: bool,
         known: Option<usize>,
         l: usize,
         r: usize,
         g: Goal,
     ) -> Out
-        requires room { Room work.old self.now.space × Ready self.now.space g }
-        requires tabled { Tabled self.now.space self.now.sheet.now work.old table.old }
-        ensures merges_known { MergesKnown known (is_list_question self.now.rules.question) (struct_coercion (coercion self.now.rules)) self.now.space (left + 1) swap self.now.sheet.now work.old work.new l r g result }
-        ensures stays_tabled { Tabled self.now.space self.now.sheet.now work.new table.new }
+        requires room { Room work.old self.now.sides.space × Ready self.now.sides.space g }
+        requires tabled { Tabled self.now.sides.space self.now.sides.sheet.now work.old table.old }
+        ensures merges_known { MergesKnown known (is_list_question self.now.rules.question) (struct_coercion (coercion self.now.rules)) self.now.sides.space (left + 1) self.now.sides.swap self.now.sides.sheet.now work.old work.new l r g result }
+        ensures stays_tabled { Tabled self.now.sides.space self.now.sides.sheet.now work.new table.new }
     {
-        let (x, y) = self.heads(&*work, swap, l, r);
+        let (x, y) = self.sides.heads(&*work, l, r);
         let (a, b) = (x.first, y.first);
         if x.kind == kind::STRUCT
             && y.kind == kind::STRUCT
-            && same_arity(self.sheet, &*work, self.space, swap, l, a, b)
+            && same_arity(&self.sides, &*work, l, a, b)
         {
             let feed = self
-                .struct_feed(&*work, table, swap, known, Feed::Name, l, a, b)
+                .struct_feed(&*work, table, known, Feed::Name, l, a, b)
                 .unwrap_or(Feed::Place);
             let shape = Shape::from(Figures::of_kind(kind::STRUCT));
-            return self.under(work, table, left, swap, known, feed, shape, a, b, g);
+            return self.under(work, table, left, known, feed, shape, a, b, g);
         }
         Err(Failure::NoType)
     }
@@ -595,26 +544,25 @@ impl<'a> Merger<'a> {
         work: &mut [u8],
         table: &mut [u32],
         left: usize,
-        swap: bool,
         known: Option<usize>,
         l: usize,
         r: usize,
         g: Goal,
     ) -> Out
-        requires room { Room work.old self.now.space × Ready self.now.space g }
-        requires structs { ((head_at (side swap self.now.sheet.now work.old) l).kind ≡ 35) × ((head_at (side (not swap) self.now.sheet.now work.old) r).kind ≡ 35) }
-        requires tabled { Tabled self.now.space self.now.sheet.now work.old table.old }
-        ensures merges_known { MergesKnown known (is_list_question self.now.rules.question) (list_struct (coercion self.now.rules)) self.now.space (left + 1) swap self.now.sheet.now work.old work.new l r g result }
-        ensures stays_tabled { Tabled self.now.space self.now.sheet.now work.new table.new }
+        requires room { Room work.old self.now.sides.space × Ready self.now.sides.space g }
+        requires structs { ((head_at (side self.now.sides.swap self.now.sides.sheet.now work.old) l).kind ≡ 35) × ((head_at (side (not self.now.sides.swap) self.now.sides.sheet.now work.old) r).kind ≡ 35) }
+        requires tabled { Tabled self.now.sides.space self.now.sides.sheet.now work.old table.old }
+        ensures merges_known { MergesKnown known (is_list_question self.now.rules.question) (list_struct (coercion self.now.rules)) self.now.sides.space (left + 1) self.now.sides.swap self.now.sides.sheet.now work.old work.new l r g result }
+        ensures stays_tabled { Tabled self.now.sides.space self.now.sides.sheet.now work.new table.new }
     {
-        let (x, y) = self.heads(&*work, swap, l, r);
+        let (x, y) = self.sides.heads(&*work, l, r);
         let (a, b) = (x.first, y.first);
-        if !same_arity(self.sheet, &*work, self.space, swap, l, a, b) {
+        if !same_arity(&self.sides, &*work, l, a, b) {
             return Err(Failure::NoType);
         }
         let shape = Shape::from(Figures::of_kind(kind::STRUCT));
-        match self.struct_feed(&*work, table, swap, known, Feed::NameThenPlace, l, a, b) {
-            Some(feed) => self.under(work, table, left, swap, known, feed, shape, a, b, g),
+        match self.struct_feed(&*work, table, known, Feed::NameThenPlace, l, a, b) {
+            Some(feed) => self.under(work, table, left, known, feed, shape, a, b, g),
             None => Err(Failure::NoType),
         }
     }
@@ -626,23 +574,22 @@ impl<'a> Merger<'a> {
         work: &mut [u8],
         table: &mut [u32],
         left: usize,
-        swap: bool,
         known: Option<usize>,
         l: usize,
         r: usize,
         g: Goal,
     ) -> Out
-        requires room { Room work.old self.now.space × Ready self.now.space g }
-        requires tabled { Tabled self.now.space self.now.sheet.now work.old table.old }
-        ensures merges_known { MergesKnown known (is_list_question self.now.rules.question) (map_rule (coercion self.now.rules)) self.now.space (left + 1) swap self.now.sheet.now work.old work.new l r g result }
-        ensures stays_tabled { Tabled self.now.space self.now.sheet.now work.new table.new }
+        requires room { Room work.old self.now.sides.space × Ready self.now.sides.space g }
+        requires tabled { Tabled self.now.sides.space self.now.sides.sheet.now work.old table.old }
+        ensures merges_known { MergesKnown known (is_list_question self.now.rules.question) (map_rule (coercion self.now.rules)) self.now.sides.space (left + 1) self.now.sides.swap self.now.sides.sheet.now work.old work.new l r g result }
+        ensures stays_tabled { Tabled self.now.sides.space self.now.sides.sheet.now work.new table.new }
     {
         let at = g.at;
         let label = g.label + g.nlen;
-        if self.space.n <= at {
+        if self.sides.space.n <= at {
             return Err(Failure::Full);
         }
-        let (x, y) = self.heads(&*work, swap, l, r);
+        let (x, y) = self.sides.heads(&*work, l, r);
         let (a, b) = (x.first, y.first);
         if a == 0 || b == 0 {
             return Err(Failure::NoType);
@@ -651,17 +598,8 @@ impl<'a> Merger<'a> {
             sorted: are_sorted(x, y),
             ..Shape::from(Figures::of_kind(kind::MAP))
         };
-        lay(work, self.space, g, shape, at + 1);
-        self.entry(
-            work,
-            table,
-            left,
-            swap,
-            known,
-            a,
-            b,
-            Spot { at: at + 1, label },
-        )
+        lay(work, self.sides.space, g, shape, at + 1);
+        self.entry(work, table, left, known, a, b, Spot { at: at + 1, label })
     }
 
     // The entries of two maps under the left's name and nullability.
@@ -671,21 +609,20 @@ impl<'a> Merger<'a> {
         work: &mut [u8],
         table: &mut [u32],
         left: usize,
-        swap: bool,
         known: Option<usize>,
         l: usize,
         r: usize,
         to: Spot,
     ) -> Out
-        requires room { Room work.old self.now.space × Inside self.now.space to }
-        requires tabled { Tabled self.now.space self.now.sheet.now work.old table.old }
-        ensures merges_field { MergesField known (is_list_question self.now.rules.question) (struct_coercion (coercion self.now.rules)) self.now.space (left + 1) swap self.now.sheet.now work.old work.new l r to result }
-        ensures stays_tabled { Tabled self.now.space self.now.sheet.now work.new table.new }
+        requires room { Room work.old self.now.sides.space × Inside self.now.sides.space to }
+        requires tabled { Tabled self.now.sides.space self.now.sides.sheet.now work.old table.old }
+        ensures merges_field { MergesField known (is_list_question self.now.rules.question) (struct_coercion (coercion self.now.rules)) self.now.sides.space (left + 1) self.now.sides.swap self.now.sides.sheet.now work.old work.new l r to result }
+        ensures stays_tabled { Tabled self.now.sides.space self.now.sides.sheet.now work.new table.new }
     {
-        let x = look(self.sheet, &*work, swap, l);
+        let x = self.sides.head(&*work, l);
         let own = row_known(known, l, x.next, r, r);
-        let g = name_goal(self.sheet, work, self.space, swap, x, x.nullable(), to)?;
-        self.struct_rule(work, table, left, swap, own, l, r, g)
+        let g = self.sides.name_goal(work, x, x.nullable(), to)?;
+        self.struct_rule(work, table, left, own, l, r, g)
     }
 
     // The rows of two chains: each field of the left is coerced with the one that feeds it, and
@@ -696,7 +633,6 @@ impl<'a> Merger<'a> {
         work: &mut [u8],
         table: &mut [u32],
         left: usize,
-        swap: bool,
         known: Option<usize>,
         feed: Feed,
         l: usize,
@@ -704,10 +640,10 @@ impl<'a> Merger<'a> {
         p: usize,
         to: Spot,
     ) -> Out
-        requires room { Room work.old self.now.space × Inside self.now.space to }
-        requires tabled { Tabled self.now.space self.now.sheet.now work.old table.old }
-        ensures rowed { Rowed known (is_list_question self.now.rules.question) (coercion self.now.rules) self.now.space left swap self.now.sheet.now work.old work.new feed l r p to result }
-        ensures stays_tabled { Tabled self.now.space self.now.sheet.now work.new table.new }
+        requires room { Room work.old self.now.sides.space × Inside self.now.sides.space to }
+        requires tabled { Tabled self.now.sides.space self.now.sides.sheet.now work.old table.old }
+        ensures rowed { Rowed known (is_list_question self.now.rules.question) (coercion self.now.rules) self.now.sides.space left self.now.sides.swap self.now.sides.sheet.now work.old work.new feed l r p to result }
+        ensures stays_tabled { Tabled self.now.sides.space self.now.sides.sheet.now work.new table.new }
     {
         if l == 0 {
             return row_end(p, to);
@@ -715,31 +651,18 @@ impl<'a> Merger<'a> {
         if left == 0 {
             return Err(Failure::NoType);
         }
-        let x = look(self.sheet, &*work, swap, l);
+        let x = self.sides.head(&*work, l);
         let names = self.known_names(known);
-        let row = row(
-            self.sheet, &*work, self.space, swap, names, feed, l, r, p, &*table,
-        );
+        let row = row(&self.sides, &*work, names, feed, l, r, p, &*table);
         let partner = row.partner;
         let own = row_known(known, l, x.next, partner, p);
         if partner == 0 {
             return Err(Failure::NoType);
         }
-        let g = name_goal(self.sheet, work, self.space, swap, x, row.nullable, to)?;
-        let d = self.common(work, table, left, swap, own, 0, l, partner, g)?;
-        let e = self.rows(
-            work,
-            table,
-            left - 1,
-            swap,
-            known,
-            feed,
-            x.next,
-            r,
-            row.next,
-            d,
-        )?;
-        tie(work, self.space, to.at, next_link(d, e));
+        let g = self.sides.name_goal(work, x, row.nullable, to)?;
+        let d = self.common(work, table, left, own, 0, l, partner, g)?;
+        let e = self.rows(work, table, left - 1, known, feed, x.next, r, row.next, d)?;
+        tie(work, self.sides.space, to.at, next_link(d, e));
         Ok(e)
     }
 }

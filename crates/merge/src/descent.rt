@@ -9,10 +9,7 @@ ghost use Rattle.sheet.specs.Kind.{is_wrapper};
 ghost use Rattle.merge.specs.Descent.{passes, run_gives_way, Descended, Stops, NamedView, PlacedView, Settled};
 
 use crate::Merger;
-use buffers::field::name_goal;
 use buffers::lay::lay_plain;
-use buffers::span::copy_span;
-use buffers::write::{kind_at, look, sides};
 use buffers::{Goal, Out, Space, Spot};
 use coercion::Figures;
 use sheet::kind;
@@ -97,35 +94,35 @@ fn run_gives_way(work: &[u8], space: Space, descent: Descent, i: usize) -> bool
 
 impl<'a> Merger<'a> {
     /// The way down from the wrapper of a kind at a link towards a type of the other side.
-    pub(crate) fn descend(&self, work: &[u8], swap: bool, kind: u8, l: usize, r: usize) -> Descent
+    pub(crate) fn descend(&self, work: &[u8], kind: u8, l: usize, r: usize) -> Descent
         requires { is_wrapper kind ≡ true }
-        ensures descended { Descended self.now.space (side swap self.now.sheet.now work.now) kind (head_at (side (not swap) self.now.sheet.now work.now) r).kind l result }
-        ensures stops { Stops self.now.space (side swap self.now.sheet.now work.now) kind (head_at (side (not swap) self.now.sheet.now work.now) r).kind l result }
+        ensures descended { Descended self.now.sides.space (side self.now.sides.swap self.now.sides.sheet.now work.now) kind (head_at (side (not self.now.sides.swap) self.now.sides.sheet.now work.now) r).kind l result }
+        ensures stops { Stops self.now.sides.space (side self.now.sides.swap self.now.sides.sheet.now work.now) kind (head_at (side (not self.now.sides.swap) self.now.sides.sheet.now work.now) r).kind l result }
     {
-        let j = kind_at(self.sheet, work, !swap, r);
-        let s = sides(self.sheet, work, swap).0;
-        walk_down(s, self.space, kind, j, l)
+        let j = self.sides.right_head(work, r).kind;
+        let s = self.sides.slices(work).0;
+        walk_down(s, self.sides.space, kind, j, l)
     }
 
     // Utf8View under the name and nullability of a record.
-    fn named_view(&self, work: &mut [u8], swap: bool, link: usize, to: Spot) -> Out
-        requires { Room work.old self.now.space × Inside self.now.space to }
-        ensures { NamedView self.now.space (side swap self.now.sheet.now work.old) work.old work.new link to result }
+    fn named_view(&self, work: &mut [u8], link: usize, to: Spot) -> Out
+        requires { Room work.old self.now.sides.space × Inside self.now.sides.space to }
+        ensures { NamedView self.now.sides.space (side self.now.sides.swap self.now.sides.sheet.now work.old) work.old work.new link to result }
     {
-        let h = look(self.sheet, &*work, swap, link);
-        let g = name_goal(self.sheet, work, self.space, swap, h, h.nullable(), to)?;
-        lay_plain(work, self.space, g, Figures::of_kind(kind::UTF8_VIEW))
+        let h = self.sides.head(&*work, link);
+        let g = self.sides.name_goal(work, h, h.nullable(), to)?;
+        lay_plain(work, self.sides.space, g, Figures::of_kind(kind::UTF8_VIEW))
     }
 
     // The parts of a wrapper, the first of which is record r, with Utf8View in the place of record
     // i.
     #[inline(never)]
-    fn place_view(&self, work: &mut [u8], swap: bool, r: usize, i: usize, to: Spot) -> Out
-        requires { Room work.old self.now.space × Inside self.now.space to }
-        ensures { PlacedView self.now.space (side swap self.now.sheet.now work.old) work.old work.new r i to result }
+    fn place_view(&self, work: &mut [u8], r: usize, i: usize, to: Spot) -> Out
+        requires { Room work.old self.now.sides.space × Inside self.now.sides.space to }
+        ensures { PlacedView self.now.sides.space (side self.now.sides.swap self.now.sides.sheet.now work.old) work.old work.new r i to result }
     {
-        let d = copy_span(self.sheet, work, self.space, swap, r, i, to)?;
-        self.named_view(work, swap, i, d)
+        let d = self.sides.copy_span(work, r, i, to)?;
+        self.named_view(work, i, d)
     }
 
     /// A wrapper that was written at `g`, its parts from `a` up to `e`, about a core at record `i`.
@@ -133,22 +130,21 @@ impl<'a> Merger<'a> {
     pub(crate) fn settle(
         &self,
         work: &mut [u8],
-        swap: bool,
         descent: Descent,
         a: Spot,
         g: Goal,
         i: usize,
         e: Spot,
     ) -> Out
-        requires { Room work.old self.now.space × (Inside self.now.space a × Ready self.now.space g) }
-        ensures { Settled self.now.space (side swap self.now.sheet.now work.old) work.old work.new descent a g i e result }
+        requires { Room work.old self.now.sides.space × (Inside self.now.sides.space a × Ready self.now.sides.space g) }
+        ensures { Settled self.now.sides.space (side self.now.sides.swap self.now.sides.sheet.now work.old) work.old work.new descent a g i e result }
     {
-        if !run_gives_way(&*work, self.space, descent, i) {
+        if !run_gives_way(&*work, self.sides.space, descent, i) {
             return Ok(e);
         }
         if descent.run < descent.first {
-            return lay_plain(work, self.space, g, Figures::of_kind(kind::UTF8_VIEW));
+            return lay_plain(work, self.sides.space, g, Figures::of_kind(kind::UTF8_VIEW));
         }
-        self.place_view(work, swap, descent.first, descent.run, a)
+        self.place_view(work, descent.first, descent.run, a)
     }
 }

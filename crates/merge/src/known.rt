@@ -6,7 +6,6 @@ ghost use Rattle.merge.specs.Known.{row_known, known_names, FirstDifference};
 ghost use Rattle.coercion.specs.Data.{is_list_question};
 
 use crate::Merger;
-use buffers::alike::differ_sides;
 
 impl<'a> Merger<'a> {
     /// The record at which two types first differ, or 0; they are compared only where it is not
@@ -14,19 +13,18 @@ impl<'a> Merger<'a> {
     pub(crate) fn first_difference(
         &self,
         work: &[u8],
-        swap: bool,
         known: Option<usize>,
         l: usize,
         r: usize,
     ) -> usize
-        requires { self.now.space.n < 65536 }
-        ensures { FirstDifference known (is_list_question self.now.rules.question) self.now.space (side swap self.now.sheet.now work.now) l (side (not swap) self.now.sheet.now work.now) r result }
+        requires { self.now.sides.space.n < 65536 }
+        ensures { FirstDifference known (is_list_question self.now.rules.question) self.now.sides.space (side self.now.sides.swap self.now.sides.sheet.now work.now) l (side (not self.now.sides.swap) self.now.sides.sheet.now work.now) r result }
     {
         if let Some(d) = known {
             return d;
         }
         let named = self.rules.is_list_question();
-        differ_sides(self.sheet, work, self.space.n, swap, l, r, named)
+        self.sides.differ_sides(work, l, r, named)
     }
 
     /// What is known of the names of two chains by where they differ: in a list alone names are

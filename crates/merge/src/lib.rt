@@ -6,14 +6,27 @@ pub mod coerce;
 mod descent;
 mod known;
 
-use buffers::Space;
+ghost use Rattle.std.specs.Prelude.{◌≡◌, not};
+
+use buffers::sides::Sides;
 use coercion::Rules;
 
-/// What all calls of one merge share: the sheet and its sizes, what is asked, and the mask of the
-/// kinds that Null may become, bit k for kind k.
+/// A merge of two types: where they are read from, what is asked, and the mask of the kinds that
+/// Null may become, bit k for kind k.
 #[derive(Clone, Copy)]
 pub struct Merger<'a> {
-    pub sheet: &'a [u8],
-    pub space: Space,
+    pub sides: Sides<'a>,
     pub rules: Rules,
+}
+
+impl<'a> Merger<'a> {
+    /// The same with the sides exchanged.
+    pub(crate) fn swapped(&self) -> Merger<'a>
+        ensures { result ≡ record { sides = record { sheet = self.now.sides.sheet; space = self.now.sides.space; swap = not self.now.sides.swap }; rules = self.now.rules } }
+    {
+        Merger {
+            sides: self.sides.swapped(),
+            ..*self
+        }
+    }
 }

@@ -13,8 +13,8 @@ use crate::index::Index;
 use crate::order::are_found_in_order;
 use crate::search::{are_known, find, is_field_named};
 use crate::table::{key_of, note};
-use buffers::write::sides;
-use buffers::{Feed, Space};
+use buffers::Feed;
+use buffers::sides::Sides;
 use sheet::label::label_at;
 use sheet::record::head_at;
 
@@ -155,10 +155,8 @@ fn feed_along(
 /// differ, the names before it are not compared. Partners whose names were compared are noted in
 /// the table.
 pub fn struct_feed(
-    sheet: &[u8],
+    sides: &Sides,
     work: &[u8],
-    space: Space,
-    swap: bool,
     known: Option<usize>,
     by_name: Feed,
     floor: usize,
@@ -166,23 +164,14 @@ pub fn struct_feed(
     r: usize,
     table: &mut [u32],
 ) -> Option<Feed>
-    requires { space.n ≤ 1024 }
-    ensures fed { StructsFed known by_name space (side swap sheet.now work.now) (side (not swap) sheet.now work.now) floor l r result }
-    ensures table_stays { (length table.new ≡ length table.old) × (Partners space sheet.now work.now table.old → Partners space sheet.now work.now table.new) }
+    requires { sides.now.space.n ≤ 1024 }
+    ensures fed { StructsFed known by_name sides.now.space (side sides.now.swap sides.now.sheet.now work.now) (side (not sides.now.swap) sides.now.sheet.now work.now) floor l r result }
+    ensures table_stays { (length table.new ≡ length table.old) × (Partners sides.now.space sides.now.sheet.now work.now table.old → Partners sides.now.space sides.now.sheet.now work.now table.new) }
 {
-    let (s, t) = sides(sheet, work, swap);
-    feed_along(
-        s,
-        t,
-        space.n,
-        known,
-        by_name,
-        floor,
-        l,
-        r,
-        key_of(swap, 0),
-        table,
-    )
+    let (s, t) = sides.slices(work);
+    let n = sides.space.n;
+    let key = key_of(sides.swap, 0);
+    feed_along(s, t, n, known, by_name, floor, l, r, key, table)
 }
 
 // Whether the chains at a link of s and at one of t have as many fields.
@@ -207,17 +196,9 @@ fn are_as_many(s: &[u8], t: &[u8], n: usize, floor: usize, l: usize, r: usize) -
 }
 
 /// Whether the chains at two links have as many fields.
-pub fn same_arity(
-    sheet: &[u8],
-    work: &[u8],
-    space: Space,
-    swap: bool,
-    floor: usize,
-    l: usize,
-    r: usize,
-) -> bool
-    ensures { (a o up : ℕ) (lf rf : Fields) → Held space (side swap sheet.now work.now) floor l a o up lf → Chain space (side (not swap) sheet.now work.now) r rf → result ≡ eqb (arity lf) (arity rf) }
+pub fn same_arity(sides: &Sides, work: &[u8], floor: usize, l: usize, r: usize) -> bool
+    ensures { (a o up : ℕ) (lf rf : Fields) → Held sides.now.space (side sides.now.swap sides.now.sheet.now work.now) floor l a o up lf → Chain sides.now.space (side (not sides.now.swap) sides.now.sheet.now work.now) r rf → result ≡ eqb (arity lf) (arity rf) }
 {
-    let (s, t) = sides(sheet, work, swap);
-    are_as_many(s, t, space.n, floor, l, r)
+    let (s, t) = sides.slices(work);
+    are_as_many(s, t, sides.space.n, floor, l, r)
 }

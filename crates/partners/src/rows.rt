@@ -11,22 +11,19 @@ ghost use Rattle.partners.specs.Naming.{Finds, RowPairs, row_of};
 
 use crate::search::{are_known, find};
 use crate::table::partner_in;
-use buffers::write::{look, sides};
-use buffers::{Feed, Row, Space};
+use buffers::sides::Sides;
+use buffers::{Feed, Row};
 use sheet::Head;
 use sheet::label::label_at;
 
-// The sources of two chains, the left in the work space where swap is set, what is known of their
-// names, and a table of partners.
+// The sources of two chains, what is known of their names, and a table of partners.
 #[derive(Clone, Copy)]
 struct Rows<'a> {
-    sheet: &'a [u8],
+    sides: Sides<'a>,
     work: &'a [u8],
-    space: Space,
-    swap: bool,
     known: Option<usize>,
     table: &'a [u32],
-    ghost few: { space.n ≤ 1024 },
+    ghost few: { sides.space.n ≤ 1024 },
 }
 
 // The row of a field whose type and nullability come from one record of the right, or from two.
@@ -45,10 +42,10 @@ impl Rows<'_> {
     // chain at r; 0 where there is none.
     fn searched(&self, x: Head, r: usize) -> usize
         requires { Bounded x }
-        ensures { Finds self.now.space.n (side (not self.now.swap) self.now.sheet.now self.now.work.now) (label_at (side self.now.swap self.now.sheet.now self.now.work.now) self.now.space.n x.name x.nlen) r result }
+        ensures { Finds self.now.sides.space.n (side (not self.now.sides.swap) self.now.sides.sheet.now self.now.work.now) (label_at (side self.now.sides.swap self.now.sides.sheet.now self.now.work.now) self.now.sides.space.n x.name x.nlen) r result }
     {
-        let n = self.space.n;
-        let (s, t) = sides(self.sheet, self.work, self.swap);
+        let n = self.sides.space.n;
+        let (s, t) = self.sides.slices(self.work);
         find(t, n, label_at(s, n, x.name, x.nlen), r)
     }
 
@@ -56,12 +53,12 @@ impl Rows<'_> {
     // which it is, no name is compared.
     fn partner(&self, x: Head, l: usize, r: usize, p: usize) -> usize
         requires { Bounded x }
-        ensures { x ≡ head_at (side self.now.swap self.now.sheet.now self.now.work.now) l → Partners self.now.space self.now.sheet.now self.now.work.now self.now.table.now → RowPairs self.now.known self.now.space (side self.now.swap self.now.sheet.now self.now.work.now) (side (not self.now.swap) self.now.sheet.now self.now.work.now) l r p result }
+        ensures { x ≡ head_at (side self.now.sides.swap self.now.sides.sheet.now self.now.work.now) l → Partners self.now.sides.space self.now.sides.sheet.now self.now.work.now self.now.table.now → RowPairs self.now.known self.now.sides.space (side self.now.sides.swap self.now.sides.sheet.now self.now.work.now) (side (not self.now.sides.swap) self.now.sides.sheet.now self.now.work.now) l r p result }
     {
         if are_known(self.known, l, p) {
             return p;
         }
-        let j = partner_in(self.table, self.swap, l, r);
+        let j = partner_in(self.table, self.sides.swap, l, r);
         if 0 < j {
             return j;
         }
@@ -71,17 +68,17 @@ impl Rows<'_> {
     // The row of a field that is fed by name.
     fn named_row(&self, x: Head, y: Head, l: usize, r: usize, p: usize) -> Row
         requires { Bounded x }
-        ensures { x ≡ head_at (side self.now.swap self.now.sheet.now self.now.work.now) l → y ≡ head_at (side (not self.now.swap) self.now.sheet.now self.now.work.now) p → Partners self.now.space self.now.sheet.now self.now.work.now self.now.table.now → RowIs self.now.known self.now.space self.now.swap self.now.sheet.now self.now.work.now Feed.Name l r p result }
+        ensures { x ≡ head_at (side self.now.sides.swap self.now.sides.sheet.now self.now.work.now) l → y ≡ head_at (side (not self.now.sides.swap) self.now.sides.sheet.now self.now.work.now) p → Partners self.now.sides.space self.now.sides.sheet.now self.now.work.now self.now.table.now → RowIs self.now.known self.now.sides.space self.now.sides.swap self.now.sides.sheet.now self.now.work.now Feed.Name l r p result }
     {
         let j = self.partner(x, l, r, p);
-        let h = look(self.sheet, self.work, !self.swap, j);
+        let h = self.sides.right_head(self.work, j);
         row_of(j, x, h, y.next)
     }
 
     // The row of a field that takes its type by name and its nullability by place.
     fn named_place(&self, x: Head, y: Head, l: usize, r: usize, p: usize) -> Row
         requires { Bounded x }
-        ensures { x ≡ head_at (side self.now.swap self.now.sheet.now self.now.work.now) l → y ≡ head_at (side (not self.now.swap) self.now.sheet.now self.now.work.now) p → Partners self.now.space self.now.sheet.now self.now.work.now self.now.table.now → RowIs self.now.known self.now.space self.now.swap self.now.sheet.now self.now.work.now Feed.NameThenPlace l r p result }
+        ensures { x ≡ head_at (side self.now.sides.swap self.now.sides.sheet.now self.now.work.now) l → y ≡ head_at (side (not self.now.sides.swap) self.now.sides.sheet.now self.now.work.now) p → Partners self.now.sides.space self.now.sides.sheet.now self.now.work.now self.now.table.now → RowIs self.now.known self.now.sides.space self.now.sides.swap self.now.sides.sheet.now self.now.work.now Feed.NameThenPlace l r p result }
     {
         let next = y.next;
         if p == 0 {
@@ -96,10 +93,8 @@ impl Rows<'_> {
 /// is past the field, the names of `l` and `p` are taken to be the same. Nothing is said for a
 /// table with an entry that is not true (`Partners`).
 pub fn row(
-    sheet: &[u8],
+    sides: &Sides,
     work: &[u8],
-    space: Space,
-    swap: bool,
     known: Option<usize>,
     feed: Feed,
     l: usize,
@@ -107,16 +102,13 @@ pub fn row(
     p: usize,
     table: &[u32],
 ) -> Row
-    requires { space.n ≤ 1024 }
-    ensures { Partners space sheet.now work.now table.now → RowIs known space swap sheet.now work.now feed l r p result }
+    requires { sides.now.space.n ≤ 1024 }
+    ensures { Partners sides.now.space sides.now.sheet.now work.now table.now → RowIs known sides.now.space sides.now.swap sides.now.sheet.now work.now feed l r p result }
 {
-    let x = look(sheet, work, swap, l);
-    let y = look(sheet, work, !swap, p);
+    let (x, y) = sides.heads(work, l, p);
     let rows = Rows {
-        sheet,
+        sides: *sides,
         work,
-        space,
-        swap,
         known,
         table,
     };

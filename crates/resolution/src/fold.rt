@@ -4,7 +4,7 @@ ghost use Rattle.std.specs.Prelude.{◌≡◌, Some, true, ◌<◌};
 ghost use Rattle.coercion.specs.Answers.{coercion, fold_from, fold_types, type_union_resolution, pair_answer};
 ghost use Rattle.coercion.specs.Data.{for_list, is_list_question};
 ghost use Rattle.buffers.specs.Region.{Room, region, Inside};
-ghost use Rattle.buffers.specs.Typed.{Typed};
+ghost use Rattle.buffers.specs.Typed.{Typed, CopiedField};
 ghost use Rattle.resolution.specs.Reached.{Reached, Candidate, Entry, Compared, Steps, Folds, fold_behind};
 ghost use Rattle.plain.specs.Value.{Valued};
 ghost use Rattle.resolution.specs.Keeps.{CoreAt};
@@ -13,7 +13,7 @@ use crate::front::{FRONT, UNNAMED};
 use crate::keep::{bottom_of, is_core_alone, keeps};
 use crate::resolver::Resolver;
 use buffers::alike::{differ_heads, differ_type};
-use buffers::field::copy_field;
+use buffers::sides::Sides;
 use buffers::{Failure, Out, Spot};
 use coercion::Rules;
 use merge::Merger;
@@ -23,15 +23,32 @@ use sheet::kind;
 use sheet::record::head_at;
 
 impl<'a> Resolver<'a> {
-    /// What a merge of two types shares.
-    pub(crate) fn merger(&self, rules: Rules) -> Merger<'a>
-        ensures { result ≡ record { sheet = self.now.sheet; space = self.now.space; rules = rules } }
+    /// The merge of a type of the sheet, on the left, and one of the work space; where `swap` is
+    /// set the other way round.
+    pub(crate) fn merger(&self, rules: Rules, swap: bool) -> Merger<'a>
+        ensures { result ≡ record { sides = record { sheet = self.now.sheet; space = self.now.space; swap = swap }; rules = rules } }
     {
         Merger {
-            sheet: self.sheet,
-            space: self.space,
+            sides: Sides {
+                sheet: self.sheet,
+                space: self.space,
+                swap,
+            },
             rules,
         }
+    }
+
+    // Copies the type at a link of the sheet to the front, with its name and nullability.
+    fn copy_listed(&self, work: &mut [u8], link: usize) -> Out
+        requires { Room work.old self.now.space }
+        ensures { CopiedField self.now.space self.now.sheet.now work.old work.new link (record { at = 1; label = 0 }) result }
+    {
+        let sides = Sides {
+            sheet: self.sheet,
+            space: self.space,
+            swap: false,
+        };
+        sides.copy_field(work, link, FRONT)
     }
 
     // The common type, in a list, of the type at a link and the candidate that ends at d, of which
@@ -42,9 +59,9 @@ impl<'a> Resolver<'a> {
         ensures { Steps (coercion (for_list self.now.rules)) self.now.space (Candidate self.now.space work.old d) self.now.sheet.now work.old work.new at result }
     {
         self.shift(work, d);
-        let merger = self.merger(self.rules.for_list());
+        let merger = self.merger(self.rules.for_list(), false);
         let left = 2 * self.space.n;
-        merger.coerce(work, left, false, Some(known), at, 1, UNNAMED)
+        merger.coerce(work, left, Some(known), at, 1, UNNAMED)
     }
 
     // The same of a candidate whose core is at a record. Where the core alone changes, only that is
@@ -90,8 +107,8 @@ impl<'a> Resolver<'a> {
         ensures { Steps (coercion rules) self.now.space (Typed self.now.space self.now.sheet.now other) self.now.sheet.now work.old work.new link result }
     {
         self.mirror(work);
-        let merger = self.merger(rules);
-        merger.coerce(work, 2 * self.space.n, false, known, link, other, UNNAMED)
+        let merger = self.merger(rules, false);
+        merger.coerce(work, 2 * self.space.n, known, link, other, UNNAMED)
     }
 
     // The candidate that ends at d, folded with the types at a link past floor. Nulls are skipped.
@@ -157,7 +174,7 @@ impl<'a> Resolver<'a> {
             last = at;
             at = h.next;
         }
-        copy_field(self.sheet, work, self.space, false, first, FRONT)
+        self.copy_listed(work, first)
     }
 
     // A type without parts, written as a candidate and folded with the types at a link past floor.
@@ -288,7 +305,7 @@ impl<'a> Resolver<'a> {
             last = at;
             at = h.next;
         }
-        copy_field(self.sheet, work, self.space, false, link, FRONT)
+        self.copy_listed(work, link)
     }
 
     /// The common type of the two types at a link, where there are two.

@@ -35,7 +35,7 @@ impl Resolver<'_> {
             nullable: h.nullable(),
         };
         self.shift(work, d);
-        let merger = self.merger(self.rules.for_list());
-        merger.coerce(work, 2 * self.space.n, true, None, at, link, g)
+        let merger = self.merger(self.rules.for_list(), true);
+        merger.coerce(work, 2 * self.space.n, None, at, link, g)
     }
 }

@@ -5,16 +5,15 @@ ghost use Rattle.buffers.specs.Writes.{side};
 ghost use Rattle.wrappers.specs.Ways.{wrappers_of, allows, meets, hint_of, wrappers_may};
 ghost use Rattle.wrappers.specs.Walks.{Core, Tells, TellsBoth, Learns, Way};
 
-use buffers::write::{kind_at, value_at};
+use buffers::sides::Sides;
 use plain::sides::may_become;
 use sheet::kind::{self, is_wrapper, one_is};
 
-// The sources of two types, the left in the work space where swap is set, and the kinds that Null may become.
+// The sources of two types, and the kinds that Null may become.
 #[derive(Clone, Copy)]
 struct Walk<'a> {
-    sheet: &'a [u8],
+    sides: Sides<'a>,
     work: &'a [u8],
-    swap: bool,
     mask: u64,
 }
 
@@ -64,10 +63,10 @@ fn core_hint(mask: u64, k: u8, j: u8) -> u8
 impl<'a> Walk<'a> {
     // The same with the sides exchanged.
     fn swapped(&self) -> Walk<'a>
-        ensures { result ≡ record { sheet = self.now.sheet; work = self.now.work; swap = not self.now.swap; mask = self.now.mask } }
+        ensures { result ≡ record { sides = record { sheet = self.now.sides.sheet; space = self.now.sides.space; swap = not self.now.sides.swap }; work = self.now.work; mask = self.now.mask } }
     {
         Walk {
-            swap: !self.swap,
+            sides: self.sides.swapped(),
             ..*self
         }
     }
@@ -75,50 +74,49 @@ impl<'a> Walk<'a> {
     // The kind of the value below all wrappers of a type of the left; 0, as no type has it, where no record is left
     // or the byte is no kind.
     fn core_kind(&self, left: usize, l: usize) -> u8
-        ensures { Core left (side self.now.swap self.now.sheet.now self.now.work.now) l result }
+        ensures { Core left (side self.now.sides.swap self.now.sides.sheet.now self.now.work.now) l result }
     {
         if left == 0 {
             return 0;
         }
-        let k = kind_at(self.sheet, self.work, self.swap, l);
+        let k = self.sides.kind(self.work, l);
         if is_wrapper(k) {
-            return self.core_kind(left - 1, value_at(self.sheet, self.work, self.swap, l));
+            return self.core_kind(left - 1, self.sides.value(self.work, l));
         }
         if k < 64 { k } else { 0 }
     }
 
     // Whether Null may become one of the wrappers of a type of the left.
     fn allows(&self, left: usize, l: usize) -> bool
-        ensures { Tells (λ x. allows self.now.mask (wrappers_of x.shape x.parts)) left (side self.now.swap self.now.sheet.now self.now.work.now) l result }
+        ensures { Tells (λ x. allows self.now.mask (wrappers_of x.shape x.parts)) left (side self.now.sides.swap self.now.sides.sheet.now self.now.work.now) l result }
     {
         if left == 0 {
             return false;
         }
-        let k = kind_at(self.sheet, self.work, self.swap, l);
+        let k = self.sides.kind(self.work, l);
         if is_wrapper(k) {
             if may_become(self.mask, k) {
                 return true;
             }
-            return self.allows(left - 1, value_at(self.sheet, self.work, self.swap, l));
+            return self.allows(left - 1, self.sides.value(self.work, l));
         }
         false
     }
 
     // Takes the wrappers off Null, at r, and off a value that Null may not become, at l, until Null stands alone.
     fn meets(&self, left: usize, l: usize, r: usize) -> bool
-        ensures { TellsBoth (λ x y. meets self.now.mask (wrappers_of x.shape x.parts) (wrappers_of y.shape y.parts)) (left + 1) self.now.swap self.now.sheet.now self.now.work.now l r result }
+        ensures { TellsBoth (λ x y. meets self.now.mask (wrappers_of x.shape x.parts) (wrappers_of y.shape y.parts)) (left + 1) self.now.sides.swap self.now.sides.sheet.now self.now.work.now l r result }
     {
         if left == 0 {
             return false;
         }
-        let k = kind_at(self.sheet, self.work, self.swap, l);
-        let j = kind_at(self.sheet, self.work, !self.swap, r);
+        let (k, j) = self.sides.kinds(self.work, l, r);
         if !is_wrapper(j) {
             return self.allows(left, l);
         }
-        let b = value_at(self.sheet, self.work, !self.swap, r);
+        let b = self.sides.right_value(self.work, r);
         if k == j {
-            let a = value_at(self.sheet, self.work, self.swap, l);
+            let a = self.sides.value(self.work, l);
             return self.meets(left - 1, a, b);
         }
         if is_wrapper(k) {
@@ -129,7 +127,7 @@ impl<'a> Walk<'a> {
 
     // The walk of a value's wrappers and those of Null, if it is needed.
     fn meets_if(&self, left: usize, needed: bool, l: usize, r: usize) -> bool
-        ensures { TellsBoth (λ x y. cond needed (meets self.now.mask (wrappers_of x.shape x.parts) (wrappers_of y.shape y.parts)) true) (left + 1) self.now.swap self.now.sheet.now self.now.work.now l r result }
+        ensures { TellsBoth (λ x y. cond needed (meets self.now.mask (wrappers_of x.shape x.parts) (wrappers_of y.shape y.parts)) true) (left + 1) self.now.sides.swap self.now.sides.sheet.now self.now.work.now l r result }
     {
         if needed {
             return self.meets(left, l, r);
@@ -139,7 +137,7 @@ impl<'a> Walk<'a> {
 
     // What the wrappers answer, by the walk that a hint asks for.
     fn wrappers_may(&self, left: usize, hint: u8, l: usize, r: usize) -> bool
-        ensures { TellsBoth (wrappers_may hint self.now.mask) (left + 1) self.now.swap self.now.sheet.now self.now.work.now l r result }
+        ensures { TellsBoth (wrappers_may hint self.now.mask) (left + 1) self.now.sides.swap self.now.sides.sheet.now self.now.work.now l r result }
     {
         if hint == 2 {
             return self.meets(left, l, r);
@@ -153,7 +151,7 @@ impl<'a> Walk<'a> {
     // What the cores of two types leave to be asked; none where the types can have no common type.
     fn learn(&self, left: usize, hint: u8, l: usize, r: usize) -> Option<u8>
         ensures some { IfSome result (λ h. 0 < h) }
-        ensures learns { Learns hint self.now.mask (left + 1) self.now.swap self.now.sheet.now self.now.work.now l r (unwrap_or result 0) }
+        ensures learns { Learns hint self.now.mask (left + 1) self.now.sides.swap self.now.sides.sheet.now self.now.work.now l r (unwrap_or result 0) }
     {
         if hint != 0 {
             return Some(hint);
@@ -167,39 +165,36 @@ impl<'a> Walk<'a> {
 
 /// The rule for wrappers that is asked of two types, and none where the types can have no common type.
 ///
-/// The left type is at record l, in the work space where swap is set and else in the sheet; the right is at record r
-/// of the other. At most left + 1 records are left in both. The hint is what is known of the two (`Turn::hint`), 0
-/// for nothing. Where neither type is a wrapper the rule for run ends is named, which has no answer then.
+/// The left type is at record l and the right at record r. At most left + 1 records are left in both. The hint is
+/// what is known of the two (`Turn::hint`), 0 for nothing. Where neither type is a wrapper the rule for run ends is
+/// named, which has no answer then.
 pub fn way(
-    sheet: &[u8],
+    sides: &Sides,
     work: &[u8],
-    swap: bool,
     mask: u64,
     left: usize,
     hint: u8,
     l: usize,
     r: usize,
 ) -> Option<Turn>
-    ensures { Way hint mask (left + 1) swap sheet.now work.now l r result }
+    ensures { Way hint mask (left + 1) sides.now.swap sides.now.sheet.now work.now l r result }
 {
     let walk = Walk {
-        sheet,
+        sides: *sides,
         work,
-        swap,
         mask,
     };
-    let k = kind_at(sheet, work, swap, l);
-    let j = kind_at(sheet, work, !swap, r);
+    let (k, j) = sides.kinds(work, l, r);
     match (k, j) {
         (kind::DICTIONARY, kind::RUN_END_ENCODED) => {
             let h = walk.learn(left, hint, l, r)?;
-            let a = value_at(sheet, work, swap, l);
+            let a = sides.value(work, l);
             let kind = kind_for(walk.meets_if(left, h == 2, a, r));
             Some(Turn { kind, hint: h })
         }
         (kind::RUN_END_ENCODED, kind::DICTIONARY) => {
             let h = walk.learn(left, hint, l, r)?;
-            let b = value_at(sheet, work, !swap, r);
+            let b = sides.right_value(work, r);
             let kind = kind_for(walk.swapped().meets_if(left, h == 3, b, l));
             Some(Turn { kind, hint: h })
         }

@@ -18,7 +18,7 @@ use Rattle.merge.proofs.Merger.+merging.Goals as goal
 
 pub both_parts-returns-in_err-d-clause-merges_known : goal.both_parts-returns-in_err-d-clause-merges_known
 both_parts-returns-in_err-d-clause-merges_known t c =
-    rw (stopped _ c.from_residual.ensures.1) (any_known _ c.args.swap (head_stopped _ _ _ _ _ _ _ _ _ _ c.heads.ensures.left.0 _ _ c.in_err-d.ensures))
+    rw (stopped _ c.from_residual.ensures.1) (any_known _ c.args.self.now.sides.swap (head_stopped _ _ _ _ _ _ _ _ _ _ c.heads.ensures.left.0 _ _ c.in_err-d.ensures))
 
 pub both_parts-returns-in_err-d-clause-stays_tabled : goal.both_parts-returns-in_err-d-clause-stays_tabled
 both_parts-returns-in_err-d-clause-stays_tabled t c =
@@ -38,11 +38,11 @@ coerce_field-returns-in_err-g-clause-stays_tabled t c =
 
 pub coerce_field-coerce_value-requires : goal.coerce_field-coerce_value-requires
 coerce_field-coerce_value-requires t c =
-    (omega (arith, c.decreases), ((room_kept c.name_goal.ensures.named.kept c.requires.room.0, goal_ready c.requires.room.1 c.look-x.ensures.1 c.in_ok-g.ensures), (c.requires.of_list, tabled_over c.requires.room.0 c.name_goal.ensures.named.kept c.requires.tabled)))
+    (omega (arith, c.decreases), ((room_kept c.name_goal.ensures.named.kept c.requires.room.0, goal_ready c.requires.room.1 c.head-x.ensures.1 c.in_ok-g.ensures), (c.requires.of_list, tabled_over c.requires.room.0 c.name_goal.ensures.named.kept c.requires.tabled)))
 
 pub coerce_field-returns-clause-merges_field : goal.coerce_field-returns-clause-merges_field
 coerce_field-returns-clause-merges_field t c =
-    field_alone _ _ _ _ _ _ _ _ _ _ c.look-x.ensures.0 _ _ c.in_ok-g.ensures.named _ _ _ c.requires.room.0 refl c.nullable.ensures (rw c.in_ok-g.ensures.goal at c.coerce_value.ensures.merges)
+    field_alone _ _ _ _ _ _ _ _ _ _ c.head-x.ensures.0 _ _ c.in_ok-g.ensures.named _ _ _ c.requires.room.0 refl c.nullable.ensures (rw c.in_ok-g.ensures.goal at c.coerce_value.ensures.merges)
 
 pub coerce_value-rewrapped-requires : goal.coerce_value-rewrapped-requires
 coerce_value-rewrapped-requires t c =
@@ -50,19 +50,19 @@ coerce_value-rewrapped-requires t c =
 
 pub coerce_value-returns-then-passes-clause-merges : goal.coerce_value-returns-then-passes-clause-merges
 coerce_value-returns-then-passes-clause-merges t c =
-    coerce_wrapper c.args.self.now.rules c.args.self.now.space c.args.left c.args.swap _ _ _ _ _ c.kinds-k.ensures.left c.kinds-k.ensures.right (sym c.passes.ensures ∙ c.if-passes.true) _ _ c.requires.of_list c.rewrapped.ensures.merges
+    coerce_wrapper c.args.self.now.rules c.args.self.now.sides.space c.args.left c.args.self.now.sides.swap _ _ _ _ _ c.kinds-k.ensures.left c.kinds-k.ensures.right (sym c.passes.ensures ∙ c.if-passes.true) _ _ c.requires.of_list c.rewrapped.ensures.merges
 
 pub coerce_value-returns-then-j-lt-LIST-clause-merges : goal.coerce_value-returns-then-j-lt-LIST-clause-merges
 coerce_value-returns-then-j-lt-LIST-clause-merges t c =
-    coerce_unlike c.args.self.now.rules c.args.self.now.space c.args.left c.args.swap _ _ _ _ _ c.kinds-k.ensures.left c.kinds-k.ensures.right c.if-k-j.true _ _ (both_below c.if-k-lt-LIST.true c.if-j-lt-LIST.true) c.plain.ensures
+    coerce_unlike c.args.self.now.rules c.args.self.now.sides.space c.args.left c.args.self.now.sides.swap _ _ _ _ _ c.kinds-k.ensures.left c.kinds-k.ensures.right c.if-k-j.true _ _ (both_below c.if-k-lt-LIST.true c.if-j-lt-LIST.true) c.plain_rule.ensures
 
 pub coerce_value-returns-then-j-lt-LIST-clause-stays_tabled : goal.coerce_value-returns-then-j-lt-LIST-clause-stays_tabled
 coerce_value-returns-then-j-lt-LIST-clause-stays_tabled t c =
-    tabled_over c.requires.room.0 (c.plain.ensures 0).writes.kept c.requires.tabled
+    tabled_over c.requires.room.0 (c.plain_rule.ensures 0).writes.kept c.requires.tabled
 
 pub common-returns-then-d-eq0-clause-merges_hinted : goal.common-returns-then-d-eq0-clause-merges_hinted
 common-returns-then-d-eq0-clause-merges_hinted t c =
-    any_hint _ _ c.args.swap (coerce_same c.args.self.now.rules c.args.self.now.space c.args.left c.args.swap _ _ _ _ _ refl c.first_difference-d.ensures _ _ c.if-d-eq0.true c.copy_type.ensures)
+    any_hint _ _ c.args.self.now.sides.swap (coerce_same c.args.self.now.rules c.args.self.now.sides.space c.args.left c.args.self.now.sides.swap _ _ _ _ _ refl c.first_difference-d.ensures _ _ c.if-d-eq0.true c.copy_type.ensures)
 
 pub common-returns-then-d-eq0-clause-stays_tabled : goal.common-returns-then-d-eq0-clause-stays_tabled
 common-returns-then-d-eq0-clause-stays_tabled t c =
@@ -70,23 +70,23 @@ common-returns-then-d-eq0-clause-stays_tabled t c =
 
 pub common-returns-then-j-lt-LIST-clause-merges_hinted : goal.common-returns-then-j-lt-LIST-clause-merges_hinted
 common-returns-then-j-lt-LIST-clause-merges_hinted t c =
-    any_hint _ _ c.args.swap (coerce_plain c.args.self.now.rules c.args.self.now.space c.args.left c.args.swap _ _ _ _ _ (handed c.args.known _ _ refl c.first_difference-d.ensures c.if-d-eq0.false) _ _ c.kinds-k.ensures.left c.kinds-k.ensures.right (both_below c.if-k-lt-LIST.true c.if-j-lt-LIST.true) c.plain.ensures)
+    any_hint _ _ c.args.self.now.sides.swap (coerce_plain c.args.self.now.rules c.args.self.now.sides.space c.args.left c.args.self.now.sides.swap _ _ _ _ _ (handed c.args.known _ _ refl c.first_difference-d.ensures c.if-d-eq0.false) _ _ c.kinds-k.ensures.left c.kinds-k.ensures.right (both_below c.if-k-lt-LIST.true c.if-j-lt-LIST.true) c.plain_rule.ensures)
 
 pub common-returns-then-j-lt-LIST-clause-stays_tabled : goal.common-returns-then-j-lt-LIST-clause-stays_tabled
 common-returns-then-j-lt-LIST-clause-stays_tabled t c =
-    tabled_over c.requires.room.0 (c.plain.ensures 0).writes.kept c.requires.tabled
+    tabled_over c.requires.room.0 (c.plain_rule.ensures 0).writes.kept c.requires.tabled
 
 pub common-returns-then-j-lt-DICTIONARY-clause-merges_hinted : goal.common-returns-then-j-lt-DICTIONARY-clause-merges_hinted
 common-returns-then-j-lt-DICTIONARY-clause-merges_hinted t c =
-    any_hint _ _ c.args.swap (coerce_bare c.args.self.now.rules c.args.self.now.space c.args.left c.args.swap _ _ _ _ _ (handed c.args.known _ _ refl c.first_difference-d.ensures c.if-d-eq0.false) _ _ c.kinds-k.ensures.left c.kinds-k.ensures.right (both_below c.if-k-lt-DICTIONARY.true c.if-j-lt-DICTIONARY.true) c.if-left-eq0.false c.nested.ensures.merges_known)
+    any_hint _ _ c.args.self.now.sides.swap (coerce_bare c.args.self.now.rules c.args.self.now.sides.space c.args.left c.args.self.now.sides.swap _ _ _ _ _ (handed c.args.known _ _ refl c.first_difference-d.ensures c.if-d-eq0.false) _ _ c.kinds-k.ensures.left c.kinds-k.ensures.right (both_below c.if-k-lt-DICTIONARY.true c.if-j-lt-DICTIONARY.true) c.if-left-eq0.false c.nested.ensures.merges_known)
 
 pub common-returns-then-is_list_question-clause-merges_hinted : goal.common-returns-then-is_list_question-clause-merges_hinted
 common-returns-then-is_list_question-clause-merges_hinted t c =
-    any_hint _ _ c.args.swap (coerce_list c.args.self.now.rules c.args.self.now.space c.args.left c.args.swap _ _ _ _ _ (handed c.args.known _ _ refl c.first_difference-d.ensures c.if-d-eq0.false) _ _ (sym c.is_list_question.ensures ∙ c.if-is_list_question.true) c.if-left-eq0.false c.resolve.ensures.merges_known)
+    any_hint _ _ c.args.self.now.sides.swap (coerce_list c.args.self.now.rules c.args.self.now.sides.space c.args.left c.args.self.now.sides.swap _ _ _ _ _ (handed c.args.known _ _ refl c.first_difference-d.ensures c.if-d-eq0.false) _ _ (sym c.is_list_question.ensures ∙ c.if-is_list_question.true) c.if-left-eq0.false c.resolve.ensures.merges_known)
 
 pub common-returns-clause-merges_hinted : goal.common-returns-clause-merges_hinted
 common-returns-clause-merges_hinted t c =
-    coerce_pair c.args.self.now.rules c.args.self.now.space c.args.left c.args.swap _ _ _ _ _ (handed c.args.known _ _ refl c.first_difference-d.ensures c.if-d-eq0.false) _ _ (sym c.is_list_question.ensures ∙ c.if-is_list_question.false) c.if-left-eq0.false c.unwrap.ensures.merges_hinted
+    coerce_pair c.args.self.now.rules c.args.self.now.sides.space c.args.left c.args.self.now.sides.swap _ _ _ _ _ (handed c.args.known _ _ refl c.first_difference-d.ensures c.if-d-eq0.false) _ _ (sym c.is_list_question.ensures ∙ c.if-is_list_question.false) c.if-left-eq0.false c.unwrap.ensures.merges_hinted
 
 pub entry-returns-in_err-g-clause-stays_tabled : goal.entry-returns-in_err-g-clause-stays_tabled
 entry-returns-in_err-g-clause-stays_tabled t c =
@@ -94,27 +94,27 @@ entry-returns-in_err-g-clause-stays_tabled t c =
 
 pub entry-struct_rule-requires : goal.entry-struct_rule-requires
 entry-struct_rule-requires t c =
-    (omega (arith, c.decreases), ((room_kept c.name_goal.ensures.named.kept c.requires.room.0, goal_ready c.requires.room.1 c.look-x.ensures.1 c.in_ok-g.ensures), tabled_over c.requires.room.0 c.name_goal.ensures.named.kept c.requires.tabled))
+    (omega (arith, c.decreases), ((room_kept c.name_goal.ensures.named.kept c.requires.room.0, goal_ready c.requires.room.1 c.head-x.ensures.1 c.in_ok-g.ensures), tabled_over c.requires.room.0 c.name_goal.ensures.named.kept c.requires.tabled))
 
 pub entry-returns-clause-merges_field : goal.entry-returns-clause-merges_field
 entry-returns-clause-merges_field t c =
-    field_on _ _ _ _ _ _ _ _ _ _ c.look-x.ensures.0 _ _ c.in_ok-g.ensures.named _ _ _ c.requires.room.0 refl c.nullable.ensures c.row_known-own.ensures (rw c.in_ok-g.ensures.goal at c.struct_rule.ensures.merges_known)
+    field_on _ _ _ _ _ _ _ _ _ _ c.head-x.ensures.0 _ _ c.in_ok-g.ensures.named _ _ _ c.requires.room.0 refl c.nullable.ensures c.row_known-own.ensures (rw c.in_ok-g.ensures.goal at c.struct_rule.ensures.merges_known)
 
 pub list_rule-returns-clause-merges_known : goal.list_rule-returns-clause-merges_known
 list_rule-returns-clause-merges_known t c =
-    list_merged _ _ _ c.args.swap _ _ _ _ _ _ _ c.heads.ensures.left.0 c.heads.ensures.right.0 c.list_kind.ensures c.list_size.ensures.0 _ _ (rw c.of_kind.ensures at (rw c.from.ensures at c.under.ensures.under))
+    list_merged _ _ _ c.args.self.now.sides.swap _ _ _ _ _ _ _ c.heads.ensures.left.0 c.heads.ensures.right.0 c.list_kind.ensures c.list_size.ensures.0 _ _ (rw c.of_kind.ensures at (rw c.from.ensures at c.under.ensures.under))
 
 pub list_struct-returns-then-not-same_arity-clause-merges_known : goal.list_struct-returns-then-not-same_arity-clause-merges_known
 list_struct-returns-then-not-same_arity-clause-merges_known t c =
-    listed_unlike _ _ _ c.args.swap _ _ _ _ _ _ _ c.heads.ensures.left.0 c.heads.ensures.right.0 c.same_arity.ensures c.if-not-same_arity.true
+    listed_unlike _ _ _ c.args.self.now.sides.swap _ _ _ _ _ _ _ c.heads.ensures.left.0 c.heads.ensures.right.0 c.same_arity.ensures c.if-not-same_arity.true
 
 pub list_struct-returns-in-Some-clause-merges_known : goal.list_struct-returns-in-Some-clause-merges_known
 list_struct-returns-in-Some-clause-merges_known t c =
-    listed_fed _ _ _ c.args.swap _ _ _ _ _ _ _ c.heads.ensures.left.0 c.heads.ensures.right.0 c.same_arity.ensures c.if-not-same_arity.false c.args.known _ c.in-Some.ensures.struct_fed c.requires.structs.0 c.requires.structs.1 _ _ (rw c.of_kind.ensures at (rw c.from-shape.ensures at c.under.ensures.under))
+    listed_fed _ _ _ c.args.self.now.sides.swap _ _ _ _ _ _ _ c.heads.ensures.left.0 c.heads.ensures.right.0 c.same_arity.ensures c.if-not-same_arity.false c.args.known _ c.in-Some.ensures.struct_fed c.requires.structs.0 c.requires.structs.1 _ _ (rw c.of_kind.ensures at (rw c.from-shape.ensures at c.under.ensures.under))
 
 pub list_struct-returns-in-None-clause-merges_known : goal.list_struct-returns-in-None-clause-merges_known
 list_struct-returns-in-None-clause-merges_known t c =
-    listed_none _ _ _ c.args.swap _ _ _ _ _ _ _ c.heads.ensures.left.0 c.heads.ensures.right.0 c.same_arity.ensures c.if-not-same_arity.false c.args.known _ c.in-None.ensures.struct_fed
+    listed_none _ _ _ c.args.self.now.sides.swap _ _ _ _ _ _ _ c.heads.ensures.left.0 c.heads.ensures.right.0 c.same_arity.ensures c.if-not-same_arity.false c.args.known _ c.in-None.ensures.struct_fed
 
 pub map_rule-returns-then-a-eq0-clause-merges_known : goal.map_rule-returns-then-a-eq0-clause-merges_known
 map_rule-returns-then-a-eq0-clause-merges_known t c =
@@ -130,59 +130,59 @@ map_rule-returns-clause-merges_known t c =
 
 pub nested-returns-then-is_list-2-clause-merges_known : goal.nested-returns-then-is_list-2-clause-merges_known
 nested-returns-then-is_list-2-clause-merges_known t c =
-    nested_list c.args.known _ _ _ _ _ c.args.swap _ _ _ _ _ c.kinds-k.ensures.left c.kinds-k.ensures.right _ _ (both_true (sym c.is_list.ensures ∙ c.if-is_list.true) (sym c.is_list-then-is_list.ensures ∙ c.if-is_list-2.true)) c.list_rule.ensures.merges_known
+    nested_list c.args.known _ _ _ _ _ c.args.self.now.sides.swap _ _ _ _ _ c.kinds-k.ensures.left c.kinds-k.ensures.right _ _ (both_true (sym c.is_list.ensures ∙ c.if-is_list.true) (sym c.is_list-then-is_list.ensures ∙ c.if-is_list-2.true)) c.list_rule.ensures.merges_known
 
 pub nested-returns-then-is_list_question-clause-merges_known : goal.nested-returns-then-is_list_question-clause-merges_known
 nested-returns-then-is_list_question-clause-merges_known t c =
-    nested_listed c.args.known _ _ _ _ _ c.args.swap _ _ _ _ _ c.kinds-k.ensures.left c.kinds-k.ensures.right _ _ (elim c.else-is_list.branch [ nested-else-is_list-via-then-is_list+else-is_list-2 w ↦ right_false _ (sym w.is_list-then-is_list.ensures ∙ w.if-is_list-2.false) | nested-else-is_list-via-else-is_list w ↦ left_false _ (sym c.is_list.ensures ∙ w.if-is_list.false) ]) (both_are c.if-k-eq-STRUCT.true c.if-j-eq-STRUCT.true) (sym c.is_list_question.ensures ∙ c.if-is_list_question.true) c.list_struct.ensures.merges_known
+    nested_listed c.args.known _ _ _ _ _ c.args.self.now.sides.swap _ _ _ _ _ c.kinds-k.ensures.left c.kinds-k.ensures.right _ _ (elim c.else-is_list.branch [ nested-else-is_list-via-then-is_list+else-is_list-2 w ↦ right_false _ (sym w.is_list-then-is_list.ensures ∙ w.if-is_list-2.false) | nested-else-is_list-via-else-is_list w ↦ left_false _ (sym c.is_list.ensures ∙ w.if-is_list.false) ]) (both_are c.if-k-eq-STRUCT.true c.if-j-eq-STRUCT.true) (sym c.is_list_question.ensures ∙ c.if-is_list_question.true) c.list_struct.ensures.merges_known
 
 pub nested-returns-then-j-eq-STRUCT-clause-merges_known : goal.nested-returns-then-j-eq-STRUCT-clause-merges_known
 nested-returns-then-j-eq-STRUCT-clause-merges_known t c =
-    nested_struct c.args.known _ _ _ _ _ c.args.swap _ _ _ _ _ c.kinds-k.ensures.left c.kinds-k.ensures.right _ _ (elim c.else-is_list.branch [ nested-else-is_list-via-then-is_list+else-is_list-2 w ↦ right_false _ (sym w.is_list-then-is_list.ensures ∙ w.if-is_list-2.false) | nested-else-is_list-via-else-is_list w ↦ left_false _ (sym c.is_list.ensures ∙ w.if-is_list.false) ]) (both_are c.if-k-eq-STRUCT.true c.if-j-eq-STRUCT.true) (sym c.is_list_question.ensures ∙ c.if-is_list_question.false) c.struct_rule.ensures.merges_known
+    nested_struct c.args.known _ _ _ _ _ c.args.self.now.sides.swap _ _ _ _ _ c.kinds-k.ensures.left c.kinds-k.ensures.right _ _ (elim c.else-is_list.branch [ nested-else-is_list-via-then-is_list+else-is_list-2 w ↦ right_false _ (sym w.is_list-then-is_list.ensures ∙ w.if-is_list-2.false) | nested-else-is_list-via-else-is_list w ↦ left_false _ (sym c.is_list.ensures ∙ w.if-is_list.false) ]) (both_are c.if-k-eq-STRUCT.true c.if-j-eq-STRUCT.true) (sym c.is_list_question.ensures ∙ c.if-is_list_question.false) c.struct_rule.ensures.merges_known
 
 pub nested-returns-then-j-eq-MAP-clause-merges_known : goal.nested-returns-then-j-eq-MAP-clause-merges_known
 nested-returns-then-j-eq-MAP-clause-merges_known t c =
-    nested_map c.args.known _ _ _ _ _ c.args.swap _ _ _ _ _ c.kinds-k.ensures.left c.kinds-k.ensures.right _ _ (elim c.else-is_list.branch [ nested-else-is_list-via-then-is_list+else-is_list-2 w ↦ right_false _ (sym w.is_list-then-is_list.ensures ∙ w.if-is_list-2.false) | nested-else-is_list-via-else-is_list w ↦ left_false _ (sym c.is_list.ensures ∙ w.if-is_list.false) ]) (not_both c.else-k-eq-STRUCT.either) (both_are c.if-k-eq-MAP.true c.if-j-eq-MAP.true) c.map_rule.ensures.merges_known
+    nested_map c.args.known _ _ _ _ _ c.args.self.now.sides.swap _ _ _ _ _ c.kinds-k.ensures.left c.kinds-k.ensures.right _ _ (elim c.else-is_list.branch [ nested-else-is_list-via-then-is_list+else-is_list-2 w ↦ right_false _ (sym w.is_list-then-is_list.ensures ∙ w.if-is_list-2.false) | nested-else-is_list-via-else-is_list w ↦ left_false _ (sym c.is_list.ensures ∙ w.if-is_list.false) ]) (not_both c.else-k-eq-STRUCT.either) (both_are c.if-k-eq-MAP.true c.if-j-eq-MAP.true) c.map_rule.ensures.merges_known
 
 pub nested-returns-clause-merges_known : goal.nested-returns-clause-merges_known
 nested-returns-clause-merges_known t c =
-    nested_plain c.args.known _ _ _ _ _ c.args.swap _ _ _ _ _ c.kinds-k.ensures.left c.kinds-k.ensures.right _ _ (elim c.else-is_list.branch [ nested-else-is_list-via-then-is_list+else-is_list-2 w ↦ right_false _ (sym w.is_list-then-is_list.ensures ∙ w.if-is_list-2.false) | nested-else-is_list-via-else-is_list w ↦ left_false _ (sym c.is_list.ensures ∙ w.if-is_list.false) ]) (not_both c.else-k-eq-STRUCT.either) (not_both c.else-k-eq-MAP.either) c.plain.ensures
+    nested_plain c.args.known _ _ _ _ _ c.args.self.now.sides.swap _ _ _ _ _ c.kinds-k.ensures.left c.kinds-k.ensures.right _ _ (elim c.else-is_list.branch [ nested-else-is_list-via-then-is_list+else-is_list-2 w ↦ right_false _ (sym w.is_list-then-is_list.ensures ∙ w.if-is_list-2.false) | nested-else-is_list-via-else-is_list w ↦ left_false _ (sym c.is_list.ensures ∙ w.if-is_list.false) ]) (not_both c.else-k-eq-STRUCT.either) (not_both c.else-k-eq-MAP.either) c.plain_rule.ensures
 
 pub nested-returns-clause-stays_tabled : goal.nested-returns-clause-stays_tabled
 nested-returns-clause-stays_tabled t c =
-    tabled_over c.requires.room.0 (c.plain.ensures 0).writes.kept c.requires.tabled
+    tabled_over c.requires.room.0 (c.plain_rule.ensures 0).writes.kept c.requires.tabled
 
 pub resolve-returns-then-k-eq-DICTIONARY-clause-merges_known : goal.resolve-returns-then-k-eq-DICTIONARY-clause-merges_known
 resolve-returns-then-k-eq-DICTIONARY-clause-merges_known t c =
-    resolve_dictionary c.args.known _ _ _ _ _ c.args.swap _ _ _ _ _ c.kinds-k.ensures.left c.kinds-k.ensures.right _ _ (one_is c.then-k-eq-DICTIONARY.either) c.resolve_wrapper.ensures.merges_known
+    resolve_dictionary c.args.known _ _ _ _ _ c.args.self.now.sides.swap _ _ _ _ _ c.kinds-k.ensures.left c.kinds-k.ensures.right _ _ (one_is c.then-k-eq-DICTIONARY.either) c.resolve_wrapper.ensures.merges_known
 
 pub resolve-returns-then-k-eq-RUN_END_ENCODED-clause-merges_known : goal.resolve-returns-then-k-eq-RUN_END_ENCODED-clause-merges_known
 resolve-returns-then-k-eq-RUN_END_ENCODED-clause-merges_known t c =
-    resolve_runs c.args.known _ _ _ _ _ c.args.swap _ _ _ _ _ c.kinds-k.ensures.left c.kinds-k.ensures.right _ _ (none_is c.if-k-eq-DICTIONARY.false c.if-j-eq-DICTIONARY.false) (one_is c.then-k-eq-RUN_END_ENCODED.either) c.resolve_wrapper-then-k-eq-RUN_END_ENCODED.ensures.merges_known
+    resolve_runs c.args.known _ _ _ _ _ c.args.self.now.sides.swap _ _ _ _ _ c.kinds-k.ensures.left c.kinds-k.ensures.right _ _ (none_is c.if-k-eq-DICTIONARY.false c.if-j-eq-DICTIONARY.false) (one_is c.then-k-eq-RUN_END_ENCODED.either) c.resolve_wrapper-then-k-eq-RUN_END_ENCODED.ensures.merges_known
 
 pub resolve-returns-clause-merges_known : goal.resolve-returns-clause-merges_known
 resolve-returns-clause-merges_known t c =
-    resolve_nested c.args.known _ _ _ _ _ c.args.swap _ _ _ _ _ c.kinds-k.ensures.left c.kinds-k.ensures.right _ _ (none_is c.if-k-eq-DICTIONARY.false c.if-j-eq-DICTIONARY.false) (none_is c.if-k-eq-RUN_END_ENCODED.false c.if-j-eq-RUN_END_ENCODED.false) c.nested.ensures.merges_known
+    resolve_nested c.args.known _ _ _ _ _ c.args.self.now.sides.swap _ _ _ _ _ c.kinds-k.ensures.left c.kinds-k.ensures.right _ _ (none_is c.if-k-eq-DICTIONARY.false c.if-j-eq-DICTIONARY.false) (none_is c.if-k-eq-RUN_END_ENCODED.false c.if-j-eq-RUN_END_ENCODED.false) c.nested.ensures.merges_known
 
 pub resolve_wrapper-returns-then-j-kind-clause-merges_known : goal.resolve_wrapper-returns-then-j-kind-clause-merges_known
 resolve_wrapper-returns-then-j-kind-clause-merges_known t c =
-    wrap_both c.args.known _ _ _ c.args.swap _ _ _ _ _ c.kinds-k.ensures.left c.kinds-k.ensures.right c.requires.wrapper _ _ c.if-k-kind.true c.if-j-kind.true c.both_parts.ensures.merges_known
+    wrap_both c.args.known _ _ _ c.args.self.now.sides.swap _ _ _ _ _ c.kinds-k.ensures.left c.kinds-k.ensures.right c.requires.wrapper _ _ c.if-k-kind.true c.if-j-kind.true c.both_parts.ensures.merges_known
 
 pub resolve_wrapper-returns-then-k-kind-clause-merges_known : goal.resolve_wrapper-returns-then-k-kind-clause-merges_known
 resolve_wrapper-returns-then-k-kind-clause-merges_known t c =
-    wrap_left c.args.known _ _ _ c.args.swap _ _ _ _ _ c.kinds-k.ensures.left c.kinds-k.ensures.right c.requires.wrapper _ _ c.if-k-kind.true c.if-j-kind.false (any_known _ c.args.swap c.rewrapped.ensures.merges)
+    wrap_left c.args.known _ _ _ c.args.self.now.sides.swap _ _ _ _ _ c.kinds-k.ensures.left c.kinds-k.ensures.right c.requires.wrapper _ _ c.if-k-kind.true c.if-j-kind.false (any_known _ c.args.self.now.sides.swap c.rewrapped.ensures.merges)
 
 pub resolve_wrapper-returns-then-j-kind-2-clause-merges_known : goal.resolve_wrapper-returns-then-j-kind-2-clause-merges_known
 resolve_wrapper-returns-then-j-kind-2-clause-merges_known t c =
-    wrap_right c.args.known _ _ _ c.args.swap _ _ _ _ _ c.kinds-k.ensures.left c.kinds-k.ensures.right c.requires.wrapper _ _ c.if-k-kind.false c.if-j-kind-2.true c.rewrapped-then-j-kind-2.ensures.merges
+    wrap_right c.args.known _ _ _ c.args.self.now.sides.swap _ _ _ _ _ c.kinds-k.ensures.left c.kinds-k.ensures.right c.requires.wrapper _ _ c.if-k-kind.false c.if-j-kind-2.true (rw c.swapped.ensures at c.rewrapped-then-j-kind-2.ensures.merges)
 
 pub resolve_wrapper-returns-clause-merges_known : goal.resolve_wrapper-returns-clause-merges_known
 resolve_wrapper-returns-clause-merges_known t c =
-    wrap_none c.args.known _ _ _ c.args.swap _ _ _ _ _ c.kinds-k.ensures.left c.kinds-k.ensures.right c.requires.wrapper c.if-k-kind.false c.if-j-kind-2.false
+    wrap_none c.args.known _ _ _ c.args.self.now.sides.swap _ _ _ _ _ c.kinds-k.ensures.left c.kinds-k.ensures.right c.requires.wrapper c.if-k-kind.false c.if-j-kind-2.false
 
 pub rewrapped-returns-in_err-a-clause-merges : goal.rewrapped-returns-in_err-a-clause-merges
 rewrapped-returns-in_err-a-clause-merges t c =
-    rw (stopped _ c.from_residual.ensures.1) (head_stopped _ _ _ _ _ _ _ _ _ _ c.look-x.ensures.0 _ _ c.in_err-a.ensures)
+    rw (stopped _ c.from_residual.ensures.1) (head_stopped _ _ _ _ _ _ _ _ _ _ c.head-x.ensures.0 _ _ c.in_err-a.ensures)
 
 pub rewrapped-returns-in_err-a-clause-stays_tabled : goal.rewrapped-returns-in_err-a-clause-stays_tabled
 rewrapped-returns-in_err-a-clause-stays_tabled t c =
@@ -190,7 +190,7 @@ rewrapped-returns-in_err-a-clause-stays_tabled t c =
 
 pub rewrapped-returns-in_err-b-clause-merges : goal.rewrapped-returns-in_err-b-clause-merges
 rewrapped-returns-in_err-b-clause-merges t c =
-    rw (stopped _ c.from_residual-in_err-b.ensures.1) (span_stopped _ c.requires.of_list _ _ _ _ _ _ _ _ _ c.requires.room.0 c.requires.wrapper.0 _ c.look-x.ensures.0 c.requires.wrapper.1 _ c.descend-descent.ensures.descended _ _ c.in_ok-a.ensures _ _ c.in_err-b.ensures)
+    rw (stopped _ c.from_residual-in_err-b.ensures.1) (span_stopped _ c.requires.of_list _ _ _ _ _ _ _ _ _ c.requires.room.0 c.requires.wrapper.0 _ c.head-x.ensures.0 c.requires.wrapper.1 _ c.descend-descent.ensures.descended _ _ c.in_ok-a.ensures _ _ c.in_err-b.ensures)
 
 pub rewrapped-returns-in_err-b-clause-stays_tabled : goal.rewrapped-returns-in_err-b-clause-stays_tabled
 rewrapped-returns-in_err-b-clause-stays_tabled t c =
@@ -202,31 +202,31 @@ rewrapped-coerce_field-requires t c =
 
 pub rewrapped-returns-in_err-e-clause-merges : goal.rewrapped-returns-in_err-e-clause-merges
 rewrapped-returns-in_err-e-clause-merges t c =
-    rw (stopped _ c.from_residual-in_err-e.ensures.1) (core_stopped _ c.requires.of_list _ _ _ _ _ _ _ _ _ c.requires.room.0 c.requires.wrapper.0 _ c.look-x.ensures.0 c.requires.wrapper.1 _ c.descend-descent.ensures.descended _ _ c.in_ok-a.ensures _ _ c.in_ok-b.ensures _ _ c.in_err-e.ensures.merges_field)
+    rw (stopped _ c.from_residual-in_err-e.ensures.1) (core_stopped _ c.requires.of_list _ _ _ _ _ _ _ _ _ c.requires.room.0 c.requires.wrapper.0 _ c.head-x.ensures.0 c.requires.wrapper.1 _ c.descend-descent.ensures.descended _ _ c.in_ok-a.ensures _ _ c.in_ok-b.ensures _ _ c.in_err-e.ensures.merges_field)
 
 pub rewrapped-returns-clause-merges : goal.rewrapped-returns-clause-merges
 rewrapped-returns-clause-merges t c =
-    settled_on _ c.requires.of_list _ _ _ _ _ _ _ _ _ c.requires.room.0 c.requires.wrapper.0 _ c.look-x.ensures.0 c.requires.wrapper.1 _ c.descend-descent.ensures.descended _ _ c.in_ok-a.ensures _ _ c.in_ok-b.ensures _ _ c.in_ok-e.ensures.merges_field _ _ c.settle.ensures
+    settled_on _ c.requires.of_list _ _ _ _ _ _ _ _ _ c.requires.room.0 c.requires.wrapper.0 _ c.head-x.ensures.0 c.requires.wrapper.1 _ c.descend-descent.ensures.descended _ _ c.in_ok-a.ensures _ _ c.in_ok-b.ensures _ _ c.in_ok-e.ensures.merges_field _ _ c.settle.ensures
 
 pub rewrapped-returns-clause-stays_tabled : goal.rewrapped-returns-clause-stays_tabled
 rewrapped-returns-clause-stays_tabled t c =
-    settled_tabled _ c.requires.of_list _ _ _ _ _ _ _ _ _ c.requires.room.0 c.requires.wrapper.0 _ c.look-x.ensures.0 c.requires.wrapper.1 _ c.descend-descent.ensures.descended _ _ c.in_ok-a.ensures _ _ c.in_ok-b.ensures _ _ c.in_ok-e.ensures.merges_field _ _ c.settle.ensures c.coerce_field.ensures.stays_tabled
+    settled_tabled _ c.requires.of_list _ _ _ _ _ _ _ _ _ c.requires.room.0 c.requires.wrapper.0 _ c.head-x.ensures.0 c.requires.wrapper.1 _ c.descend-descent.ensures.descended _ _ c.in_ok-a.ensures _ _ c.in_ok-b.ensures _ _ c.in_ok-e.ensures.merges_field _ _ c.settle.ensures c.coerce_field.ensures.stays_tabled
 
 pub rows-returns-then-l-eq0-clause-rowed : goal.rows-returns-then-l-eq0-clause-rowed
 rows-returns-then-l-eq0-clause-rowed t c =
-    rows_end c.args.known _ _ c.args.self.now.space c.args.left c.args.swap _ _ c.args.feed _ _ _ _ _ c.requires.room.1 c.if-l-eq0.true c.row_end.ensures
+    rows_end c.args.known _ _ c.args.self.now.sides.space c.args.left c.args.self.now.sides.swap _ _ c.args.feed _ _ _ _ _ c.requires.room.1 c.if-l-eq0.true c.row_end.ensures
 
 pub rows-returns-then-left-eq0-clause-rowed : goal.rows-returns-then-left-eq0-clause-rowed
 rows-returns-then-left-eq0-clause-rowed t c =
-    rows_spent c.args.known _ _ c.args.self.now.space c.args.left c.args.swap _ _ c.args.feed _ _ _ _ c.if-l-eq0.false c.if-left-eq0.true
+    rows_spent c.args.known _ _ c.args.self.now.sides.space c.args.left c.args.self.now.sides.swap _ _ c.args.feed _ _ _ _ c.if-l-eq0.false c.if-left-eq0.true
 
 pub rows-returns-then-partner-eq0-clause-rowed : goal.rows-returns-then-partner-eq0-clause-rowed
 rows-returns-then-partner-eq0-clause-rowed t c =
-    rows_unfed c.args.known _ _ c.args.self.now.space c.args.left c.args.swap _ _ c.args.feed _ _ _ _ _ c.if-l-eq0.false (rw c.known_names-names.ensures at (c.row-row.ensures c.requires.tabled.partners)) c.if-partner-eq0.true
+    rows_unfed c.args.known _ _ c.args.self.now.sides.space c.args.left c.args.self.now.sides.swap _ _ c.args.feed _ _ _ _ _ c.if-l-eq0.false (rw c.known_names-names.ensures at (c.row-row.ensures c.requires.tabled.partners)) c.if-partner-eq0.true
 
 pub rows-returns-in_err-g-clause-rowed : goal.rows-returns-in_err-g-clause-rowed
 rows-returns-in_err-g-clause-rowed t c =
-    rw (stopped _ c.from_residual.ensures.1) (rw c.in_err-g.ensures.goal (rows_crowded c.args.known _ _ c.args.self.now.space c.args.left c.args.swap _ _ c.args.feed _ _ _ _ c.requires.room.0 c.requires.room.1 _ c.look-x.ensures.0 c.if-l-eq0.false _ (rw c.known_names-names.ensures at (c.row-row.ensures c.requires.tabled.partners)) c.if-partner-eq0.false _ _ c.in_err-g.ensures.named refl))
+    rw (stopped _ c.from_residual.ensures.1) (rw c.in_err-g.ensures.goal (rows_crowded c.args.known _ _ c.args.self.now.sides.space c.args.left c.args.self.now.sides.swap _ _ c.args.feed _ _ _ _ c.requires.room.0 c.requires.room.1 _ c.head-x.ensures.0 c.if-l-eq0.false _ (rw c.known_names-names.ensures at (c.row-row.ensures c.requires.tabled.partners)) c.if-partner-eq0.false _ _ c.in_err-g.ensures.named refl))
 
 pub rows-returns-in_err-g-clause-stays_tabled : goal.rows-returns-in_err-g-clause-stays_tabled
 rows-returns-in_err-g-clause-stays_tabled t c =
@@ -234,35 +234,35 @@ rows-returns-in_err-g-clause-stays_tabled t c =
 
 pub rows-common-requires : goal.rows-common-requires
 rows-common-requires t c =
-    (omega (arith, c.decreases), ((room_kept c.name_goal.ensures.named.kept c.requires.room.0, goal_ready c.requires.room.1 c.look-x.ensures.1 c.in_ok-g.ensures), tabled_over c.requires.room.0 c.name_goal.ensures.named.kept c.requires.tabled))
+    (omega (arith, c.decreases), ((room_kept c.name_goal.ensures.named.kept c.requires.room.0, goal_ready c.requires.room.1 c.head-x.ensures.1 c.in_ok-g.ensures), tabled_over c.requires.room.0 c.name_goal.ensures.named.kept c.requires.tabled))
 
 pub rows-returns-in_err-d-clause-rowed : goal.rows-returns-in_err-d-clause-rowed
 rows-returns-in_err-d-clause-rowed t c =
-    let one = none_hint c.args.swap (rw c.in_ok-g.ensures.goal at c.in_err-d.ensures.merges_hinted) in
-    rw (stopped _ c.from_residual-in_err-d.ensures.1) (rows_stopped c.args.known _ _ c.args.self.now.space c.args.left c.args.swap _ _ c.args.feed _ _ _ _ c.requires.room.0 c.requires.room.1 _ c.look-x.ensures.0 c.if-l-eq0.false _ (rw c.known_names-names.ensures at (c.row-row.ensures c.requires.tabled.partners)) c.if-partner-eq0.false _ _ c.in_ok-g.ensures.named _ c.row_known-own.ensures refl _ _ one)
+    let one = none_hint c.args.self.now.sides.swap (rw c.in_ok-g.ensures.goal at c.in_err-d.ensures.merges_hinted) in
+    rw (stopped _ c.from_residual-in_err-d.ensures.1) (rows_stopped c.args.known _ _ c.args.self.now.sides.space c.args.left c.args.self.now.sides.swap _ _ c.args.feed _ _ _ _ c.requires.room.0 c.requires.room.1 _ c.head-x.ensures.0 c.if-l-eq0.false _ (rw c.known_names-names.ensures at (c.row-row.ensures c.requires.tabled.partners)) c.if-partner-eq0.false _ _ c.in_ok-g.ensures.named _ c.row_known-own.ensures refl _ _ one)
 
 pub rows-returns-in_err-e-clause-rowed : goal.rows-returns-in_err-e-clause-rowed
 rows-returns-in_err-e-clause-rowed t c =
-    let one = none_hint c.args.swap (rw c.in_ok-g.ensures.goal at c.in_ok-d.ensures.merges_hinted) in
-    rw (stopped _ c.from_residual-in_err-e.ensures.1) (rows_rest_stopped c.args.known _ _ c.args.self.now.space c.args.left c.args.swap _ _ c.args.feed _ _ _ _ c.requires.room.0 c.requires.room.1 _ c.look-x.ensures.0 c.if-l-eq0.false _ (rw c.known_names-names.ensures at (c.row-row.ensures c.requires.tabled.partners)) c.if-partner-eq0.false _ _ c.in_ok-g.ensures.named _ c.row_known-own.ensures refl _ _ one _ _ c.in_err-e.ensures.rowed)
+    let one = none_hint c.args.self.now.sides.swap (rw c.in_ok-g.ensures.goal at c.in_ok-d.ensures.merges_hinted) in
+    rw (stopped _ c.from_residual-in_err-e.ensures.1) (rows_rest_stopped c.args.known _ _ c.args.self.now.sides.space c.args.left c.args.self.now.sides.swap _ _ c.args.feed _ _ _ _ c.requires.room.0 c.requires.room.1 _ c.head-x.ensures.0 c.if-l-eq0.false _ (rw c.known_names-names.ensures at (c.row-row.ensures c.requires.tabled.partners)) c.if-partner-eq0.false _ _ c.in_ok-g.ensures.named _ c.row_known-own.ensures refl _ _ one _ _ c.in_err-e.ensures.rowed)
 
 pub rows-returns-clause-rowed : goal.rows-returns-clause-rowed
 rows-returns-clause-rowed t c =
-    let one = none_hint c.args.swap (rw c.in_ok-g.ensures.goal at c.in_ok-d.ensures.merges_hinted) in
-    rows_done c.args.known _ _ c.args.self.now.space c.args.left c.args.swap _ _ c.args.feed _ _ _ _ c.requires.room.0 c.requires.room.1 _ c.look-x.ensures.0 c.if-l-eq0.false _ (rw c.known_names-names.ensures at (c.row-row.ensures c.requires.tabled.partners)) c.if-partner-eq0.false _ _ c.in_ok-g.ensures.named _ c.row_known-own.ensures refl _ _ one _ _ _ _ c.in_ok-e.ensures.rowed c.next_link.ensures.0 c.tie.ensures
+    let one = none_hint c.args.self.now.sides.swap (rw c.in_ok-g.ensures.goal at c.in_ok-d.ensures.merges_hinted) in
+    rows_done c.args.known _ _ c.args.self.now.sides.space c.args.left c.args.self.now.sides.swap _ _ c.args.feed _ _ _ _ c.requires.room.0 c.requires.room.1 _ c.head-x.ensures.0 c.if-l-eq0.false _ (rw c.known_names-names.ensures at (c.row-row.ensures c.requires.tabled.partners)) c.if-partner-eq0.false _ _ c.in_ok-g.ensures.named _ c.row_known-own.ensures refl _ _ one _ _ _ _ c.in_ok-e.ensures.rowed c.next_link.ensures.0 c.tie.ensures
 
 pub rows-returns-clause-stays_tabled : goal.rows-returns-clause-stays_tabled
 rows-returns-clause-stays_tabled t c =
-    let one = none_hint c.args.swap (rw c.in_ok-g.ensures.goal at c.in_ok-d.ensures.merges_hinted) in
+    let one = none_hint c.args.self.now.sides.swap (rw c.in_ok-g.ensures.goal at c.in_ok-d.ensures.merges_hinted) in
     tabled_over c.requires.room.0 (tied_kept _ _ _ _ _ c.tie.ensures 0 (omega (arith, one.writes.passes.1.0, one.writes.passes.0.records))) c.rows.ensures.stays_tabled
 
 pub struct_rule-returns-then-same_arity-clause-merges_known : goal.struct_rule-returns-then-same_arity-clause-merges_known
 struct_rule-returns-then-same_arity-clause-merges_known t c =
-    struct_merged _ _ _ c.args.swap _ _ _ _ _ _ _ c.heads.ensures.left.0 c.heads.ensures.right.0 c.same_arity.ensures (both_true (both_true (eq-eqb _ 35 c.if-x-eq-STRUCT.true) (eq-eqb _ 35 c.if-y-eq-STRUCT.true)) c.if-same_arity.true) c.args.known _ (fed_or_placed c.unwrap_or-feed.ensures c.struct_feed.ensures.struct_fed) _ _ (rw c.of_kind.ensures at (rw c.from-shape.ensures at c.under.ensures.under))
+    struct_merged _ _ _ c.args.self.now.sides.swap _ _ _ _ _ _ _ c.heads.ensures.left.0 c.heads.ensures.right.0 c.same_arity.ensures (both_true (both_true (eq-eqb _ 35 c.if-x-eq-STRUCT.true) (eq-eqb _ 35 c.if-y-eq-STRUCT.true)) c.if-same_arity.true) c.args.known _ (fed_or_placed c.unwrap_or-feed.ensures c.struct_feed.ensures.struct_fed) _ _ (rw c.of_kind.ensures at (rw c.from-shape.ensures at c.under.ensures.under))
 
 pub struct_rule-returns-clause-merges_known : goal.struct_rule-returns-clause-merges_known
 struct_rule-returns-clause-merges_known t c =
-    elim c.else-x-eq-STRUCT.branch [ struct_rule-else-x-eq-STRUCT-via-then-x-eq-STRUCT+then-y-eq-STRUCT+else-same_arity w ↦ struct_none _ _ _ c.args.swap _ _ _ _ _ _ _ c.heads.ensures.left.0 c.heads.ensures.right.0 w.same_arity.ensures (right_false _ w.if-same_arity.false) | struct_rule-else-x-eq-STRUCT-via-then-x-eq-STRUCT+else-y-eq-STRUCT w ↦ struct_other _ _ _ c.args.swap _ _ _ _ _ _ _ c.heads.ensures.left.0 c.heads.ensures.right.0 (right_false _ (ne_eqb _ 35 w.if-y-eq-STRUCT.false)) | struct_rule-else-x-eq-STRUCT-via-else-x-eq-STRUCT w ↦ struct_other _ _ _ c.args.swap _ _ _ _ _ _ _ c.heads.ensures.left.0 c.heads.ensures.right.0 (left_false _ (ne_eqb _ 35 w.if-x-eq-STRUCT.false)) ]
+    elim c.else-x-eq-STRUCT.branch [ struct_rule-else-x-eq-STRUCT-via-then-x-eq-STRUCT+then-y-eq-STRUCT+else-same_arity w ↦ struct_none _ _ _ c.args.self.now.sides.swap _ _ _ _ _ _ _ c.heads.ensures.left.0 c.heads.ensures.right.0 w.same_arity.ensures (right_false _ w.if-same_arity.false) | struct_rule-else-x-eq-STRUCT-via-then-x-eq-STRUCT+else-y-eq-STRUCT w ↦ struct_other _ _ _ c.args.self.now.sides.swap _ _ _ _ _ _ _ c.heads.ensures.left.0 c.heads.ensures.right.0 (right_false _ (ne_eqb _ 35 w.if-y-eq-STRUCT.false)) | struct_rule-else-x-eq-STRUCT-via-else-x-eq-STRUCT w ↦ struct_other _ _ _ c.args.self.now.sides.swap _ _ _ _ _ _ _ c.heads.ensures.left.0 c.heads.ensures.right.0 (left_false _ (ne_eqb _ 35 w.if-x-eq-STRUCT.false)) ]
 
 pub under-rows-requires : goal.under-rows-requires
 under-rows-requires t c =
@@ -274,27 +274,27 @@ under-returns-clause-under t c =
 
 pub unwrap-returns-in-Err-NoType-clause-merges_hinted : goal.unwrap-returns-in-Err-NoType-clause-merges_hinted
 unwrap-returns-in-Err-NoType-clause-merges_hinted t c =
-    unwrap_nested c.args.known _ _ c.requires.of_pair _ _ c.args.swap _ _ _ _ _ _ c.requires.room.0 _ _ (rw c.in-Err-NoType.field-0-is at c.in-Err-NoType.ensures.merges_hinted) c.nested.ensures.merges_known
+    unwrap_nested c.args.known _ _ c.requires.of_pair _ _ c.args.self.now.sides.swap _ _ _ _ _ _ c.requires.room.0 _ _ (rw c.in-Err-NoType.field-0-is at c.in-Err-NoType.ensures.merges_hinted) c.nested.ensures.merges_known
 
 pub unwrap-returns-in-Ok-clause-merges_hinted : goal.unwrap-returns-in-Ok-clause-merges_hinted
 unwrap-returns-in-Ok-clause-merges_hinted t c =
-    unwrap_done c.args.known _ _ c.requires.of_pair _ _ c.args.swap _ _ _ _ _ _ _ c.in-Ok.ensures.merges_hinted
+    unwrap_done c.args.known _ _ c.requires.of_pair _ _ c.args.self.now.sides.swap _ _ _ _ _ _ _ c.in-Ok.ensures.merges_hinted
 
 pub unwrap-returns-in-Err-Full-clause-merges_hinted : goal.unwrap-returns-in-Err-Full-clause-merges_hinted
 unwrap-returns-in-Err-Full-clause-merges_hinted t c =
-    unwrap_full c.args.known _ _ c.requires.of_pair _ _ c.args.swap _ _ _ _ _ _ (rw c.in-Err-Full.field-0-is at c.in-Err-Full.ensures.merges_hinted)
+    unwrap_full c.args.known _ _ c.requires.of_pair _ _ c.args.self.now.sides.swap _ _ _ _ _ _ (rw c.in-Err-Full.field-0-is at c.in-Err-Full.ensures.merges_hinted)
 
 pub wrapper-returns-in_default-clause-merges_hinted : goal.wrapper-returns-in_default-clause-merges_hinted
 wrapper-returns-in_default-clause-merges_hinted t c =
-    way_spent c.args.self.now.rules _ _ _ c.args.swap _ _ _ _ _ c.in_default.ensures refl
+    way_spent c.args.self.now.rules _ _ _ c.args.self.now.sides.swap _ _ _ _ _ c.in_default.ensures refl
 
 pub wrapper-returns-then-j-kind-clause-merges_hinted : goal.wrapper-returns-then-j-kind-clause-merges_hinted
 wrapper-returns-then-j-kind-clause-merges_hinted t c =
-    way_merged c.args.self.now.rules _ _ _ c.args.swap _ _ _ _ _ c.in-Some.ensures _ _ (wrapper_both _ _ _ c.args.swap _ _ _ _ _ c.kinds-k.ensures.left c.kinds-k.ensures.right (c.in-Some.ensures.wrapper) _ _ c.args.self.now.rules.mask c.args.hint c.in-Some.t.hint (c.in-Some.ensures.on c.args.self.now.space) c.args.known _ c.value_at-a.ensures c.value_at-b.ensures c.if-k-kind.true c.if-j-kind.true c.row_known-own.ensures c.common.ensures.merges_hinted)
+    way_merged c.args.self.now.rules _ _ _ c.args.self.now.sides.swap _ _ _ _ _ c.in-Some.ensures _ _ (wrapper_both _ _ _ c.args.self.now.sides.swap _ _ _ _ _ c.kinds-k.ensures.left c.kinds-k.ensures.right (c.in-Some.ensures.wrapper) _ _ c.args.self.now.rules.mask c.args.hint c.in-Some.t.hint (c.in-Some.ensures.on c.args.self.now.sides.space) c.args.known _ c.value-a.ensures c.right_value-b.ensures c.if-k-kind.true c.if-j-kind.true c.row_known-own.ensures c.common.ensures.merges_hinted)
 
 pub wrapper-returns-then-same_sides-clause-merges_hinted : goal.wrapper-returns-then-same_sides-clause-merges_hinted
 wrapper-returns-then-same_sides-clause-merges_hinted t c =
-    way_merged c.args.self.now.rules _ _ _ c.args.swap _ _ _ _ _ c.in-Some.ensures _ _ (any_hint _ _ c.args.swap (any_known _ c.args.swap (wrapper_left_same _ _ _ c.args.swap _ _ _ _ _ c.kinds-k.ensures.left c.kinds-k.ensures.right (c.in-Some.ensures.wrapper) _ _ c.if-k-kind.true c.if-j-kind.false c.value_at-a.ensures c.same_sides.ensures c.if-same_sides.true c.copy_type.ensures)))
+    way_merged c.args.self.now.rules _ _ _ c.args.self.now.sides.swap _ _ _ _ _ c.in-Some.ensures _ _ (any_hint _ _ c.args.self.now.sides.swap (any_known _ c.args.self.now.sides.swap (wrapper_left_same _ _ _ c.args.self.now.sides.swap _ _ _ _ _ c.kinds-k.ensures.left c.kinds-k.ensures.right (c.in-Some.ensures.wrapper) _ _ c.if-k-kind.true c.if-j-kind.false c.value-a.ensures c.same_sides.ensures c.if-same_sides.true c.copy_type.ensures)))
 
 pub wrapper-returns-then-same_sides-clause-stays_tabled : goal.wrapper-returns-then-same_sides-clause-stays_tabled
 wrapper-returns-then-same_sides-clause-stays_tabled t c =
@@ -302,20 +302,20 @@ wrapper-returns-then-same_sides-clause-stays_tabled t c =
 
 pub wrapper-returns-then-k-kind-clause-merges_hinted : goal.wrapper-returns-then-k-kind-clause-merges_hinted
 wrapper-returns-then-k-kind-clause-merges_hinted t c =
-    way_merged c.args.self.now.rules _ _ _ c.args.swap _ _ _ _ _ c.in-Some.ensures _ _ (wrapper_left _ _ _ c.args.swap _ _ _ _ _ c.kinds-k.ensures.left c.kinds-k.ensures.right (c.in-Some.ensures.wrapper) _ _ c.if-k-kind.true c.if-j-kind.false c.value_at-a.ensures c.same_sides.ensures c.args.self.now.rules.mask c.args.hint c.in-Some.t.hint (c.in-Some.ensures.on c.args.self.now.space) c.args.known c.if-same_sides.false c.common-then-k-kind.ensures.merges_hinted)
+    way_merged c.args.self.now.rules _ _ _ c.args.self.now.sides.swap _ _ _ _ _ c.in-Some.ensures _ _ (wrapper_left _ _ _ c.args.self.now.sides.swap _ _ _ _ _ c.kinds-k.ensures.left c.kinds-k.ensures.right (c.in-Some.ensures.wrapper) _ _ c.if-k-kind.true c.if-j-kind.false c.value-a.ensures c.same_sides.ensures c.args.self.now.rules.mask c.args.hint c.in-Some.t.hint (c.in-Some.ensures.on c.args.self.now.sides.space) c.args.known c.if-same_sides.false c.common-then-k-kind.ensures.merges_hinted)
 
 pub wrapper-returns-then-same_sides-2-clause-merges_hinted : goal.wrapper-returns-then-same_sides-2-clause-merges_hinted
 wrapper-returns-then-same_sides-2-clause-merges_hinted t c =
-    way_merged c.args.self.now.rules _ _ _ c.args.swap _ _ _ _ _ c.in-Some.ensures _ _ (any_hint _ _ c.args.swap (any_known _ c.args.swap (wrapper_right_same _ _ _ c.args.swap _ _ _ _ _ c.kinds-k.ensures.left c.kinds-k.ensures.right (c.in-Some.ensures.wrapper) _ _ c.if-k-kind.false c.if-j-kind-2.true c.value_at-b.ensures c.same_sides-then-j-kind-2.ensures c.if-same_sides-2.true c.copy_type-then-same_sides-2.ensures)))
+    way_merged c.args.self.now.rules _ _ _ c.args.self.now.sides.swap _ _ _ _ _ c.in-Some.ensures _ _ (any_hint _ _ c.args.self.now.sides.swap (any_known _ c.args.self.now.sides.swap (wrapper_right_same _ _ _ c.args.self.now.sides.swap _ _ _ _ _ c.kinds-k.ensures.left c.kinds-k.ensures.right (c.in-Some.ensures.wrapper) _ _ c.if-k-kind.false c.if-j-kind-2.true c.right_value-b.ensures (rw c.swapped-turned.ensures at c.same_sides-then-j-kind-2.ensures) c.if-same_sides-2.true (rw c.swapped-turned.ensures at c.copy_type-then-same_sides-2.ensures))))
 
 pub wrapper-returns-then-same_sides-2-clause-stays_tabled : goal.wrapper-returns-then-same_sides-2-clause-stays_tabled
 wrapper-returns-then-same_sides-2-clause-stays_tabled t c =
-    tabled_over c.requires.room.0 c.copy_type-then-same_sides-2.ensures.writes.kept c.requires.tabled
+    tabled_over c.requires.room.0 (rw c.swapped-turned.ensures at c.copy_type-then-same_sides-2.ensures).writes.kept c.requires.tabled
 
 pub wrapper-returns-then-j-kind-2-clause-merges_hinted : goal.wrapper-returns-then-j-kind-2-clause-merges_hinted
 wrapper-returns-then-j-kind-2-clause-merges_hinted t c =
-    way_merged c.args.self.now.rules _ _ _ c.args.swap _ _ _ _ _ c.in-Some.ensures _ _ (wrapper_right _ _ _ c.args.swap _ _ _ _ _ c.kinds-k.ensures.left c.kinds-k.ensures.right (c.in-Some.ensures.wrapper) _ _ c.if-k-kind.false c.if-j-kind-2.true c.value_at-b.ensures c.same_sides-then-j-kind-2.ensures c.args.self.now.rules.mask c.args.hint c.in-Some.t.hint (c.in-Some.ensures.on c.args.self.now.space) c.args.known c.if-same_sides-2.false c.common-then-j-kind-2.ensures.merges_hinted)
+    way_merged c.args.self.now.rules _ _ _ c.args.self.now.sides.swap _ _ _ _ _ c.in-Some.ensures _ _ (wrapper_right _ _ _ c.args.self.now.sides.swap _ _ _ _ _ c.kinds-k.ensures.left c.kinds-k.ensures.right (c.in-Some.ensures.wrapper) _ _ c.if-k-kind.false c.if-j-kind-2.true c.right_value-b.ensures (rw c.swapped-turned.ensures at c.same_sides-then-j-kind-2.ensures) c.args.self.now.rules.mask c.args.hint c.in-Some.t.hint (c.in-Some.ensures.on c.args.self.now.sides.space) c.args.known c.if-same_sides-2.false c.common-then-j-kind-2.ensures.merges_hinted)
 
 pub wrapper-returns-clause-merges_hinted : goal.wrapper-returns-clause-merges_hinted
 wrapper-returns-clause-merges_hinted t c =
-    way_merged c.args.self.now.rules _ _ _ c.args.swap _ _ _ _ _ c.in-Some.ensures _ _ (any_hint _ _ c.args.swap (any_known _ c.args.swap (wrapper_none _ _ _ c.args.swap _ _ _ _ _ c.kinds-k.ensures.left c.kinds-k.ensures.right (c.in-Some.ensures.wrapper) c.if-k-kind.false c.if-j-kind-2.false)))
+    way_merged c.args.self.now.rules _ _ _ c.args.self.now.sides.swap _ _ _ _ _ c.in-Some.ensures _ _ (any_hint _ _ c.args.self.now.sides.swap (any_known _ c.args.self.now.sides.swap (wrapper_none _ _ _ c.args.self.now.sides.swap _ _ _ _ _ c.kinds-k.ensures.left c.kinds-k.ensures.right (c.in-Some.ensures.wrapper) c.if-k-kind.false c.if-j-kind-2.false)))

@@ -2,4 +2,4 @@ use Rattle.merge.proofs.Merger.descend.Goals as goal
 
 pub returns-clause-stops : goal.returns-clause-stops
 returns-clause-stops c =
-    rw c.kind_at-j.ensures at (rw c.sides.ensures.0 at c.walk_down.ensures.stops)
+    rw c.right_head-j.ensures.0 at (rw c.slices.ensures.0 at c.walk_down.ensures.stops)

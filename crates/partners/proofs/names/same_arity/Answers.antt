@@ -3,4 +3,4 @@ use Rattle.partners.proofs.names.same_arity.Goals as goal
 
 pub returns : goal.returns
 returns c =
-    rw (← c.sides.ensures.0, ← c.sides.ensures.1) (c.are_as_many.ensures _ refl)
+    rw (← c.slices.ensures.0, ← c.slices.ensures.1) (c.are_as_many.ensures _ refl)

@@ -7,8 +7,8 @@ returns-then-are_known c =
 
 pub returns-then-j-gt0 : goal.returns-then-j-gt0
 returns-then-j-gt0 c =
-    λ ex f. row_pairs _ _ _ _ _ _ _ (pairs_noted _ c.args.self.now.swap _ _ c.args.self.now.table.now c.args.x _ _ _ c.partner_in-j.ensures c.if-j-gt0.true f)
+    λ ex f. row_pairs _ _ _ _ _ _ _ (pairs_noted _ c.args.self.now.sides.swap _ _ c.args.self.now.table.now c.args.x _ _ _ c.partner_in-j.ensures c.if-j-gt0.true f)
 
 pub returns : goal.returns
 returns c =
-    λ ex f. row_pairs _ _ _ _ _ _ _ (pairs_searched _ c.args.self.now.swap _ _ c.args.self.now.table.now _ _ _ ex c.searched.ensures)
+    λ ex f. row_pairs _ _ _ _ _ _ _ (pairs_searched _ c.args.self.now.sides.swap _ _ c.args.self.now.table.now _ _ _ ex c.searched.ensures)

@@ -26,4 +26,4 @@ loop-last-preserved c =
 
 pub returns : goal.returns
 returns c =
-    c.loop-last.invariant.onward _ _ (folds_alone (for_list c.args.self.now.rules) _ _ c.loop-last.invariant.room c.loop-last-test.false c.copy_field.ensures)
+    c.loop-last.invariant.onward _ _ (folds_alone (for_list c.args.self.now.rules) _ _ c.loop-last.invariant.room c.loop-last-test.false c.copy_listed.ensures)

@@ -38,4 +38,4 @@ loop-last-preserved c =
 
 pub returns : goal.returns
 returns c =
-    reached_as c.loop-last.invariant.untouched (union_same (for_list c.args.self.now.rules) _ c.requires.1 _ c.head_at-first.ensures.0 (λ t x. c.loop-last.invariant.same.0 t x _ (equal_none _ _ _ _ c.loop-last-test.false t)) _ c.loop-last.invariant.room c.copy_field.ensures)
+    reached_as c.loop-last.invariant.untouched (union_same (for_list c.args.self.now.rules) _ c.requires.1 _ c.head_at-first.ensures.0 (λ t x. c.loop-last.invariant.same.0 t x _ (equal_none _ _ _ _ c.loop-last-test.false t)) _ c.loop-last.invariant.room c.copy_listed.ensures)

@@ -13,7 +13,7 @@ may_become-requires t c =
 
 pub returns-then-may_become : goal.returns-then-may_become
 returns-then-may_become t c =
-    allows_now _ _ c.kind_at-k.ensures c.is_wrapper.ensures c.if-is_wrapper.true c.may_become.ensures refl c.if-may_become.true
+    allows_now _ _ c.kind-k.ensures c.is_wrapper.ensures c.if-is_wrapper.true c.may_become.ensures refl c.if-may_become.true
 
 pub overflow_sub-left : goal.overflow_sub-left
 overflow_sub-left t c =
@@ -25,8 +25,8 @@ allows-requires t c =
 
 pub returns-then-is_wrapper : goal.returns-then-is_wrapper
 returns-then-is_wrapper t c =
-    allows_down _ _ c.kind_at-k.ensures c.is_wrapper.ensures c.if-is_wrapper.true c.may_become.ensures c.value_at.ensures c.if-may_become.false c.if-left-eq0.false c.allows.ensures
+    allows_down _ _ c.kind-k.ensures c.is_wrapper.ensures c.if-is_wrapper.true c.may_become.ensures c.value.ensures c.if-may_become.false c.if-left-eq0.false c.allows.ensures
 
 pub returns : goal.returns
 returns t c =
-    allows_none _ _ c.kind_at-k.ensures c.is_wrapper.ensures c.if-is_wrapper.false
+    allows_none _ _ c.kind-k.ensures c.is_wrapper.ensures c.if-is_wrapper.false

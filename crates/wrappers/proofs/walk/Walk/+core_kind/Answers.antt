@@ -16,12 +16,12 @@ core_kind-requires t c =
 
 pub returns-then-is_wrapper : goal.returns-then-is_wrapper
 returns-then-is_wrapper t c =
-    core_down c.kind_at-k.ensures c.is_wrapper.ensures c.if-is_wrapper.true c.value_at.ensures c.if-left-eq0.false c.core_kind.ensures
+    core_down c.kind-k.ensures c.is_wrapper.ensures c.if-is_wrapper.true c.value.ensures c.if-left-eq0.false c.core_kind.ensures
 
 pub returns-then-k-lt64 : goal.returns-then-k-lt64
 returns-then-k-lt64 t c =
-    core_found c.kind_at-k.ensures c.is_wrapper.ensures c.if-is_wrapper.false c.if-k-lt64.true
+    core_found c.kind-k.ensures c.is_wrapper.ensures c.if-is_wrapper.false c.if-k-lt64.true
 
 pub returns-else-k-lt64 : goal.returns-else-k-lt64
 returns-else-k-lt64 t c =
-    core_strange c.kind_at-k.ensures c.is_wrapper.ensures c.if-k-lt64.false
+    core_strange c.kind-k.ensures c.is_wrapper.ensures c.if-k-lt64.false

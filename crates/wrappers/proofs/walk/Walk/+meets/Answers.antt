@@ -9,7 +9,7 @@ returns-then-left-eq0 t c =
 
 pub returns-then-not-is_wrapper : goal.returns-then-not-is_wrapper
 returns-then-not-is_wrapper t c =
-    meets_alone _ _ c.args.self.now.swap _ _ c.kind_at-k.ensures c.kind_at-j.ensures refl c.is_wrapper.ensures c.if-not-is_wrapper.true c.allows.ensures
+    meets_alone _ _ c.args.self.now.sides.swap _ _ c.kinds-k.ensures.left c.kinds-k.ensures.right refl c.is_wrapper.ensures c.if-not-is_wrapper.true c.allows.ensures
 
 pub overflow_sub-left : goal.overflow_sub-left
 overflow_sub-left t c =
@@ -21,7 +21,7 @@ meets-requires t c =
 
 pub returns-then-k-j : goal.returns-then-k-j
 returns-then-k-j t c =
-    meets_both _ _ c.args.self.now.swap _ _ c.kind_at-k.ensures c.kind_at-j.ensures refl c.is_wrapper.ensures c.if-not-is_wrapper.false c.value_at-b.ensures c.value_at-a.ensures c.if-k-j.true c.if-left-eq0.false c.meets.ensures
+    meets_both _ _ c.args.self.now.sides.swap _ _ c.kinds-k.ensures.left c.kinds-k.ensures.right refl c.is_wrapper.ensures c.if-not-is_wrapper.false c.right_value-b.ensures c.value-a.ensures c.if-k-j.true c.if-left-eq0.false c.meets.ensures
 
 pub overflow_sub-left-then-is_wrapper : goal.overflow_sub-left-then-is_wrapper
 overflow_sub-left-then-is_wrapper t c =
@@ -33,8 +33,8 @@ meets-requires-then-is_wrapper t c =
 
 pub returns-then-is_wrapper : goal.returns-then-is_wrapper
 returns-then-is_wrapper t c =
-    meets_off _ _ c.args.self.now.swap _ _ c.kind_at-k.ensures c.kind_at-j.ensures c.is_wrapper-2.ensures c.is_wrapper.ensures c.if-not-is_wrapper.false c.value_at-b.ensures c.if-is_wrapper.true c.if-k-j.false c.if-left-eq0.false c.meets-then-is_wrapper.ensures
+    meets_off _ _ c.args.self.now.sides.swap _ _ c.kinds-k.ensures.left c.kinds-k.ensures.right c.is_wrapper-2.ensures c.is_wrapper.ensures c.if-not-is_wrapper.false c.right_value-b.ensures c.if-is_wrapper.true c.if-k-j.false c.if-left-eq0.false c.meets-then-is_wrapper.ensures
 
 pub returns : goal.returns
 returns t c =
-    meets_bare _ _ c.args.self.now.swap _ _ c.kind_at-k.ensures c.kind_at-j.ensures c.is_wrapper-2.ensures c.is_wrapper.ensures c.if-not-is_wrapper.false c.value_at-b.ensures c.if-is_wrapper.false
+    meets_bare _ _ c.args.self.now.sides.swap _ _ c.kinds-k.ensures.left c.kinds-k.ensures.right c.is_wrapper-2.ensures c.is_wrapper.ensures c.if-not-is_wrapper.false c.right_value-b.ensures c.if-is_wrapper.false

@@ -1,5 +1,0 @@
-use Rattle.buffers.proofs.copy.copy_parent.Goals as goal
-
-pub returns : goal.returns
-returns c =
-    c.copy_bare.ensures _

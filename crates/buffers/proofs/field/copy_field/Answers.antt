@@ -1,9 +1,0 @@
-use mathlib.Core.Path.{ap, ◌∙◌}
-use mathlib.Core.Bool.{Bool}
-use Rattle.buffers.specs.Typed.{goal_at}
-use Rattle.buffers.proofs.Fielding.{field_copied}
-use Rattle.buffers.proofs.field.copy_field.Goals as goal
-
-pub returns : goal.returns
-returns c =
-    field_copied c.args.space c.args.sheet.now c.args.work.now c.args.swap c.args.link c.args.to c.requires.0 c.look-h.result c.look-h.ensures.0 _ c.in_ok-g.ensures.named (c.in_ok-g.ensures.goal ∙ ap (λ (b : Bool). goal_at c.args.to c.look-h.result.nlen b) c.nullable.ensures) _ c.copy_type.result c.copy_type.ensures
