@@ -23,7 +23,7 @@ use Rattle.buffers.specs.Typed.{Typed, Merges}
 use Rattle.plain.specs.Plain.{plain_rules}
 use Rattle.turns.specs.Turns.{nested_of, resolved, unwrapped, either_wrapped, rewrapped, turns_for, turns_of}
 use Rattle.merge.specs.Descent.{passes}
-use Rattle.merge.specs.Known.{Known, FirstDifference}
+use Rattle.merge.specs.Known.{Differs, FirstDifference}
 use Rattle.merge.specs.Merge.{MergesKnown, MergesHinted}
 use Rattle.buffers.specs.declared.Space.{Space}
 use Rattle.buffers.specs.declared.Goal.{Goal}
@@ -94,13 +94,13 @@ module _ (rules : Rules) (of_list : is_list_question rules.question ≡ true) wh
 
 -- where two types first differ, by the flag for their names
 pub told : {space : Space} {s t : List ℕ} {l r e : ℕ} {known : Option ℕ} {flag names : Bool} → flag ≡ names → FirstDifference known flag space s l t r e
-    → (x y : DataType) → Typed space s l x → Typed space t r y → Known known names l x y → e ≡ type_differs names l x y
+    → (x y : DataType) → Typed space s l x → Typed space t r y → Differs known names l x y → e ≡ type_differs names l x y
 told {space} {s} {t} {l} {r} {e} {known} ef f = subst (λ (n : Bool). FirstDifference known n space s l t r e) ef f
 
 -- two types that are not the same, of which something may be known, and what is handed down of them
 abbrev Handed : Bool → Space → List ℕ → ℕ → List ℕ → ℕ → Option ℕ → Option ℕ → Type 0
 Handed names space s l t r known d =
-    (x y : DataType) → Typed space s l x → Typed space t r y → Known known names l x y → (same_type names x y ≡ false) × Known d names l x y
+    (x y : DataType) → Typed space s l x → Typed space t r y → Differs known names l x y → (same_type names x y ≡ false) × Differs d names l x y
 
 pub handed : {space : Space} {s t : List ℕ} {l r : ℕ} (known : Option ℕ) (e : ℕ) {flag : Bool} (names : Bool) → flag ≡ names → FirstDifference known flag space s l t r e → ¬ (e ≡ 0) → Handed names space s l t r known (Some e)
 handed {l = l} known e names ef f z x y a b d =
@@ -127,7 +127,7 @@ module _ (rules : Rules) (space : Space) (left : ℕ) (swap : Bool) (s w : List 
 
   -- two types that are not
   module _ {known d : Option ℕ} (apart : Handed names space (side swap s w) l (side (not swap) s w) r known d) where
-    differ : (x y : DataType) → Typed space (side swap s w) l x → Typed space (side (not swap) s w) r y → Known known names l x y → turns_of rules both x y ≡ both x y
+    differ : (x y : DataType) → Typed space (side swap s w) l x → Typed space (side (not swap) s w) r y → Differs known names l x y → turns_of rules both x y ≡ both x y
     differ x y a b k = sym (turns x y ∙ rw (apart x y a b k).0 refl)
 
     pub coerce_list : (v : List ℕ) (o : Out) → names ≡ true → ¬ (left ≡ 0)

@@ -24,7 +24,7 @@ use Rattle.buffers.specs.Goal.{letters, spot_of, field_for, Means, Tied}
 use Rattle.buffers.specs.Feeds.{Feeds, Fed, Unfed, RowIs}
 use Rattle.buffers.specs.Typed.{Chain, Typed, ChainIs, goal_at, NamedAt}
 use Rattle.buffers.specs.Differ.{RowsKnown}
-use Rattle.merge.specs.Known.{Known, row_known, known_names}
+use Rattle.merge.specs.Known.{Differs, row_known, known_names}
 use Rattle.merge.specs.Merge.{MergesKnown, Rowed}
 use Rattle.buffers.specs.declared.Space.{Space}
 use Rattle.buffers.specs.declared.Spot.{Spot}
@@ -185,9 +185,9 @@ module _ (known : Option ℕ) (named : Bool) (rules : Rules) (space : Space) (le
     -- what is known of the first types
     differs : (name : List ℕ) (nullable : Bool) (shape : Shape) (parts rest : Fields) {rf tf nf : Fields} (pf : Fields) → Chain space (side swap s w) l (field name nullable shape parts rest)
         → Chain space (side (not swap) s w) p pf → (f : Fed space (side (not swap) s w) feed nullable rest rf row tf nf)
-        → RowsKnown known named l (field name nullable shape parts rest) pf → Known first-known named l (record { shape = shape; parts = parts }) f.type
+        → RowsKnown known named l (field name nullable shape parts rest) pf → Differs first-known named l (record { shape = shape; parts = parts }) f.type
     differs name nullable shape parts rest pf a c f k =
-        subst (λ (i : Option ℕ). Known i named l (record { shape = shape; parts = parts }) f.type) (sym ek)
+        subst (λ (i : Option ℕ). Differs i named l (record { shape = shape; parts = parts }) f.type) (sym ek)
         (row_known_lem known named name nullable shape parts rest a h.next (next_at_lem a h eh) pf c f.partner k)
 
     kept : Kept space v u to.at (to.label + h.nlen) → Kept space w u to.at to.label
@@ -249,7 +249,7 @@ module _ (known : Option ℕ) (named : Bool) (rules : Rules) (space : Space) (le
 
       first_type : {nullable : Bool} {shape : Shape} {parts rest : Fields} (name : List ℕ) (t : DataType) → Chain space (side swap s w) l (field name nullable shape parts rest)
           → Typed space (side (not swap) s w) row.partner t → size (record { shape = shape; parts = parts }) + size t ≤ left
-          → Known first-known named l (record { shape = shape; parts = parts }) t → First name (record { shape = shape; parts = parts }) t
+          → Differs first-known named l (record { shape = shape; parts = parts }) t → First name (record { shape = shape; parts = parts }) t
       unfolding count
       first_type {nullable} {shape} {parts} {rest} name t a q g df = go (both x t) refl (m.means x t (first a) (feeder q) g df)
         where

@@ -29,7 +29,7 @@ use Rattle.buffers.proofs.Known.{row_begins, row_follows, next_at_lem, behind_kn
 use Rattle.partners.proofs.Naming.{end_next}
 use Rattle.buffers.proofs.Rows.{chain_next}
 use Rattle.wrappers.proofs.Values.{chain_first, Two}
-use Rattle.merge.specs.Known.{Known, row_known, known_names}
+use Rattle.merge.specs.Known.{Differs, row_known, known_names}
 
 -- one chain stands at a link
 chain_one : {space : Space} {s : List ℕ} {link : ℕ} (a b : Fields) → Chain space s link a → Chain space s link b → a ≡ b
@@ -70,7 +70,7 @@ names_known known true l lf pf k = k
 names_known known false l lf pf k = λ d e. absurd (none-some d e)
 
 -- what is known of two types, of their parts
-pub parts_known : (known : Option ℕ) (named : Bool) {space : Space} {s : List ℕ} {l : ℕ} (x y : DataType) → Typed space s l x → (h : Head) → h ≡ head_at s l → Known known named l x y
+pub parts_known : (known : Option ℕ) (named : Bool) {space : Space} {s : List ℕ} {l : ℕ} (x y : DataType) → Typed space s l x → (h : Head) → h ≡ head_at s l → Differs known named l x y
     → RowsKnown known named h.first x.parts y.parts
 parts_known known named {l = l} x y a h e k d f pos le =
     let p = first_at_lem a.chain h e in
@@ -148,7 +148,7 @@ module _ (known : Option ℕ) (named : Bool) {space : Space} {s : List ℕ} {l :
           (row_same named l d name nullable shape parts rest n c sh p q e lt (omega (arith, ltb-false d next ev))).0
 
   pub row_known_lem : {t : List ℕ} {partner p : ℕ} (pf : Fields) {y : DataType} → Chain space t p pf → Typed space t partner y
-      → RowsKnown known named l (field name nullable shape parts rest) pf → Known (row_known known l next partner p) named l (type_of shape parts) y
+      → RowsKnown known named l (field name nullable shape parts rest) pf → Differs (row_known known l next partner p) named l (type_of shape parts) y
   row_known_lem {t} {partner} {p} pf {y} b c k = go known k
     where
       fed : (d : ℕ) (pf : Fields) → partner ≡ p → Chain space t p pf → RowsKnown (Some d) named l (field name nullable shape parts rest) pf → l < d
@@ -159,19 +159,19 @@ module _ (known : Option ℕ) (named : Bool) {space : Space} {s : List ℕ} {l :
           ∙ of_types d n nb sh ps q (k d refl begins (omega arith)) lt
 
       found : (d : ℕ) → RowsKnown (Some d) named l (field name nullable shape parts rest) pf → (u : Bool) → eqb partner p ≡ u → (v : Bool) → ltb l d ≡ v
-          → Known (cond (u && v) (Some (cond (eqb next 0 || ltb d next) d 0)) None) named l (type_of shape parts) y
+          → Differs (cond (u && v) (Some (cond (eqb next 0 || ltb d next) d 0)) None) named l (type_of shape parts) y
       found d k true eu true ev i f = fed d pf (eqb-true partner p eu) b k (ltb-true l d ev) ∙ same_Some _ i f
       found d k true eu false ev i f = absurd (none-some i f)
       found d k false eu v ev i f = absurd (none-some i f)
 
-      go : (o : Option ℕ) → RowsKnown o named l (field name nullable shape parts rest) pf → Known (row_known o l next partner p) named l (type_of shape parts) y
+      go : (o : Option ℕ) → RowsKnown o named l (field name nullable shape parts rest) pf → Differs (row_known o l next partner p) named l (type_of shape parts) y
       go None k i f = absurd (none-some i f)
       go (Some d) k i f = found d k (eqb partner p) refl (ltb l d) refl i f
 
 -- what is known of two wrappers, of their values
 pub value_known : (known : Option ℕ) (named : Bool) {space : Space} {s t : List ℕ} {l r i j : ℕ} (x y : DataType) {u v : DataType} → Two x.parts → Two y.parts → Typed space s l x → Typed space t r y
-    → i ≡ (head_at s (head_at s l).first).next → j ≡ (head_at t (head_at t r).first).next → Typed space s i u → Typed space t j v → Known known named l x y
-    → Known (row_known known i 0 j j) named i u v
+    → i ≡ (head_at s (head_at s l).first).next → j ≡ (head_at t (head_at t r).first).next → Typed space s i u → Typed space t j v → Differs known named l x y
+    → Differs (row_known known i 0 j j) named i u v
 value_known known named {space} {s} {t} {l} {r} {i} {j} x y {u} {v} p q a b ei ej c d k =
     let f = subst (Chain space s (head_at s l).first) p.is (chain_first (head_at s l) refl a.chain) in
     let g = subst (Chain space t (head_at t r).first) q.is (chain_first (head_at t r) refl b.chain) in
@@ -180,5 +180,5 @@ value_known known named {space} {s} {t} {l} {r} {i} {j} x y {u} {v} p q a b ei e
     let rows = subst (λ (e : Fields). RowsKnown known named (head_at s l).first x.parts e) q.is (parts_known known named x y a (head_at s l) refl k) in
     let both = subst (λ (e : Fields). RowsKnown known named (head_at s l).first e (field q.n q.b q.s q.p (field q.n₂ q.b₂ q.s₂ q.p₂ end))) p.is rows in
     let behind = behind_known known named p.n p.b p.s p.p (field p.n₂ p.b₂ p.s₂ p.p₂ end) f i (ei ∙ next_at_lem f (head_at s (head_at s l).first) refl) q.n q.b q.s q.p _ both in
-    subst (λ (z : DataType). Known (row_known known i 0 j j) named i z v) (sym (typed_one p.n₂ p.b₂ p.s₂ p.p₂ end c m))
+    subst (λ (z : DataType). Differs (row_known known i 0 j j) named i z v) (sym (typed_one p.n₂ p.b₂ p.s₂ p.p₂ end c m))
     (row_known_lem known named p.n₂ p.b₂ p.s₂ p.p₂ end m 0 refl _ n d behind)

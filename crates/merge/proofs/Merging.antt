@@ -23,7 +23,7 @@ use Rattle.buffers.specs.Region.{Room, Kept}
 use Rattle.buffers.specs.Goal.{letters, Means, CopiedType}
 use Rattle.buffers.specs.Typed.{Chain, Typed, Merges}
 use Rattle.buffers.specs.Differ.{type_differs, DifferTypes}
-use Rattle.merge.specs.Known.{Known}
+use Rattle.merge.specs.Known.{Differs}
 use Rattle.merge.specs.Merge.{Tabled, MergesKnown, MergesHinted}
 use Rattle.buffers.specs.declared.Space.{Space}
 use Rattle.buffers.specs.declared.Goal.{Goal}
@@ -93,7 +93,7 @@ pub chain_some : {space : Space} {s : List ℕ} {link : ℕ} {name : List ℕ} {
 chain_some a = omega (arith, a.held.source.leads.is, a.held.source.leads.above)
 
 -- nothing is known of two types
-pub nothing_known : (named : Bool) (l : ℕ) (x y : DataType) → Known None named l x y
+pub nothing_known : (named : Bool) (l : ℕ) (x y : DataType) → Differs None named l x y
 nothing_known named l x y d e = absurd (none-some d e)
 
 -- two types of which something may be known, and of which nothing is
@@ -117,8 +117,8 @@ none_hint swap m = record { writes = m.writes; means = λ x y a b q d. m.means x
 module _ {A : DataType → DataType → Option DataType} (B : DataType → DataType → Option DataType) (space : Space) (swap : Bool) (s w v : List ℕ) (l r : ℕ) (g : Goal) (o : Out) where
   -- a rule that says the same of the types at hand, of which as much is known, where no more records are left in them
   pub hinted_within : {hint mask : ℕ} {known : Option ℕ} (known' : Option ℕ) {named : Bool} {left : ℕ} (left' : ℕ) → left' ≤ left
-      → ((x y : DataType) → Typed space (side swap s w) l x → Typed space (side (not swap) s w) r y → size x + size y ≤ left' → Known known' named l x y → Hint hint mask x y
-      → (A x y ≡ B x y) × Known known named l x y)
+      → ((x y : DataType) → Typed space (side swap s w) l x → Typed space (side (not swap) s w) r y → size x + size y ≤ left' → Differs known' named l x y → Hint hint mask x y
+      → (A x y ≡ B x y) × Differs known named l x y)
       → MergesHinted hint mask known named A space left swap s w v l r g o → MergesHinted hint mask known' named B space left' swap s w v l r g o
   hinted_within known' left' h f m =
       record {
@@ -130,12 +130,12 @@ module _ {A : DataType → DataType → Option DataType} (B : DataType → DataT
       }
 
   pub known_as : {known : Option ℕ} (known' : Option ℕ) {named : Bool} {left : ℕ} (left' : ℕ) → left' ≤ left
-      → ((x y : DataType) → Typed space (side swap s w) l x → Typed space (side (not swap) s w) r y → Known known' named l x y → (A x y ≡ B x y) × Known known named l x y)
+      → ((x y : DataType) → Typed space (side swap s w) l x → Typed space (side (not swap) s w) r y → Differs known' named l x y → (A x y ≡ B x y) × Differs known named l x y)
       → MergesKnown known named A space left swap s w v l r g o → MergesKnown known' named B space left' swap s w v l r g o
   known_as known' left' h f m = none_hint {mask = 0} swap (hinted_within known' left' h (λ x y a b q d n. f x y a b d) (any_hint 0 0 swap m))
 
   pub as_known : (known : Option ℕ) {named : Bool} {left : ℕ} (left' : ℕ) → left' ≤ left
-      → ((x y : DataType) → Typed space (side swap s w) l x → Typed space (side (not swap) s w) r y → Known known named l x y → A x y ≡ B x y)
+      → ((x y : DataType) → Typed space (side swap s w) l x → Typed space (side (not swap) s w) r y → Differs known named l x y → A x y ≡ B x y)
       → Merges A space left swap s w v l r g o → MergesKnown known named B space left' swap s w v l r g o
   as_known known {named} left' h f m = known_as {known = None} known left' h (λ x y a b d. (f x y a b d, nothing_known named l x y)) (any_known None swap m)
 
@@ -178,7 +178,7 @@ module _ (B : DataType → DataType → Option DataType) (space : Space) (left :
 
   -- no common type
   pub known_none : (known : Option ℕ) (named : Bool) → ((x y : DataType) → Typed space (side swap s w) l x → Typed space (side (not swap) s w) r y → size x + size y ≤ left
-      → Known known named l x y → None ≡ B x y) → MergesKnown known named B space left swap s w w l r g (Err NoType)
+      → Differs known named l x y → None ≡ B x y) → MergesKnown known named B space left swap s w w l r g (Err NoType)
   known_none known named f =
       record {
         writes = record { kept = kept_self w g.at (g.label + g.nlen); passes = tt };

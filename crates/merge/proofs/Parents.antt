@@ -23,7 +23,7 @@ use Rattle.buffers.specs.Goal.{letters, spot_of, field_for, Means, Writes, Laid,
 use Rattle.turns.specs.Turns.{both_wrapped, map_rule}
 use Rattle.buffers.specs.Typed.{Chain, Typed, Merges, ChainIs, goal_at, NamedAt}
 use Rattle.buffers.specs.Differ.{RowsKnown}
-use Rattle.merge.specs.Known.{Known, row_known}
+use Rattle.merge.specs.Known.{Differs, row_known}
 use Rattle.merge.specs.Merge.{MergesKnown, MergesField, field_of, Rowed, Under}
 use Rattle.buffers.specs.declared.Space.{Space}
 use Rattle.buffers.specs.declared.Spot.{Spot}
@@ -211,7 +211,7 @@ module _ (A : DataType → DataType → Option DataType) (space : Space) (left :
     (v : List ℕ) (b : Bool) (named : NamedAt space (side swap s w) w v h to b) where
   field_merged : {known own-known : Option ℕ} {by_names : Bool}
       → ((name : List ℕ) (nullable : Bool) (x y : DataType) (rest : Fields) → Chain space (side swap s w) l (field name nullable x.shape x.parts rest) → (t : Typed space (side (not swap) s w) r y)
-      → RowsKnown known by_names l (field name nullable x.shape x.parts rest) (field t.name t.nullable y.shape y.parts t.rest) → Known own-known by_names l x y)
+      → RowsKnown known by_names l (field name nullable x.shape x.parts rest) (field t.name t.nullable y.shape y.parts t.rest) → Differs own-known by_names l x y)
       → (u : List ℕ) (o : Out) (own : Bool) → Room w space → b ≡ true → own ≡ nullable_in h → MergesKnown own-known by_names A space left swap s v u l r (goal_at to h.nlen own) o
       → MergesField known by_names A space left swap s w u l r to o
   field_merged told-known u o own room z eo m =
@@ -235,7 +235,7 @@ module _ (A : DataType → DataType → Option DataType) (space : Space) (left :
         → MergesField known by_names A space left swap s w u l r to o
     field_on {known} ek m =
         field_merged (λ name nullable x y rest a t k.
-        subst (λ (i : Option ℕ). Known i by_names l x y) (sym ek) (row_known_lem known by_names name nullable x.shape x.parts rest a h.next (next_at_lem a h eh) _ t.chain t k))
+        subst (λ (i : Option ℕ). Differs i by_names l x y) (sym ek) (row_known_lem known by_names name nullable x.shape x.parts rest a h.next (next_at_lem a h eh) _ t.chain t k))
         u o own room z eo m
 
 -- two maps

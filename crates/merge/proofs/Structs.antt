@@ -24,7 +24,7 @@ use Rattle.buffers.specs.Typed.{Chain, Typed}
 use Rattle.buffers.specs.Differ.{RowsKnown}
 use Rattle.buffers.specs.Feeds.{Feeds}
 use Rattle.buffers.specs.Partners.{same_order}
-use Rattle.merge.specs.Known.{Known, known_names}
+use Rattle.merge.specs.Known.{Differs, known_names}
 use Rattle.partners.specs.Naming.{structs_feed, StructsFed}
 use Rattle.merge.specs.Merge.{MergesKnown, Under}
 use Rattle.buffers.specs.declared.Space.{Space}
@@ -129,7 +129,7 @@ module _ (c : DataType → DataType → Option DataType) (space : Space) (left :
   module _ (h : ((eqb x.kind 35 && eqb y.kind 35) && alike) ≡ true) (known : Option ℕ) (by_names : Bool) {feed : Feed}
       (ff : StructFed (known_names by_names known) space (side swap s w) (side (not swap) s w) l x.first y.first feed) (v : List ℕ) (o : Out)
       (u : Under known by_names c space left swap s w v feed (shape_for 35 0 0 0 false) x.first y.first y.first g o) where
-    module _ {X Y : DataType} (a : Typed space (side swap s w) l X) (b : Typed space (side (not swap) s w) r Y) (q : size X + size Y ≤ left + 1) (d : Known known by_names l X Y) where
+    module _ {X Y : DataType} (a : Typed space (side swap s w) l X) (b : Typed space (side (not swap) s w) r Y) (q : size X + size Y ≤ left + 1) (d : Differs known by_names l X Y) where
       abbrev Merged : Type 0
       Merged = Means space w v g (size X + size Y) (letters X + letters Y) o (struct_coercion c X Y)
 
@@ -182,7 +182,7 @@ module _ (c : DataType → DataType → Option DataType) (space : Space) (left :
     abbrev FedBy : Option Feed → Type 0
     FedBy o = StructsFed (known_names by_names known) Feed.NameThenPlace space (side swap s w) (side (not swap) s w) l x.first y.first o
 
-    fed_by : {o : Option Feed} → FedBy o → {X Y : DataType} → Typed space (side swap s w) l X → Typed space (side (not swap) s w) r Y → Known known by_names l X Y
+    fed_by : {o : Option Feed} → FedBy o → {X Y : DataType} → Typed space (side swap s w) l X → Typed space (side (not swap) s w) r Y → Differs known by_names l X Y
         → o ≡ structs_feed Feed.NameThenPlace X.parts Y.parts
     fed_by f {X} {Y} a b d =
         f _ _ _ X.parts Y.parts (held_first a.chain.held x ex) (chain_first y ey b.chain) (names_known known by_names x.first X.parts Y.parts (parts_known known by_names X Y a x ex d))
@@ -195,7 +195,7 @@ module _ (c : DataType → DataType → Option DataType) (space : Space) (left :
 
     module _ {feed : Feed} (f : FedBy (Some feed)) (k : (head_at (side swap s w) l).kind ≡ 35) (k' : (head_at (side (not swap) s w) r).kind ≡ 35) (v : List ℕ) (o : Out)
         (u : Under known by_names c space left swap s w v feed (shape_for 35 0 0 0 false) x.first y.first y.first g o) where
-      module _ {X Y : DataType} (a : Typed space (side swap s w) l X) (b : Typed space (side (not swap) s w) r Y) (q : size X + size Y ≤ left + 1) (d : Known known by_names l X Y) where
+      module _ {X Y : DataType} (a : Typed space (side swap s w) l X) (b : Typed space (side (not swap) s w) r Y) (q : size X + size Y ≤ left + 1) (d : Differs known by_names l X Y) where
         abbrev ListMerged : Type 0
         ListMerged = Means space w v g (size X + size Y) (letters X + letters Y) o (list_struct c X Y)
 

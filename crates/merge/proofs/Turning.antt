@@ -31,7 +31,7 @@ use Rattle.plain.specs.Plain.{plain_rules}
 use Rattle.turns.proofs.Orders.{map_turns}
 use Rattle.turns.specs.Turns.{struct_rule, nested_of, list_rule, map_rule, both_wrapped, rewrapped, either_wrapped, resolved, wrapper_rule, unwrapped}
 use Rattle.buffers.specs.Typed.{Typed, Merges}
-use Rattle.merge.specs.Known.{Known, row_known}
+use Rattle.merge.specs.Known.{Differs, row_known}
 use Rattle.merge.specs.Merge.{MergesKnown, MergesHinted, Under}
 use Rattle.buffers.specs.declared.Space.{Space}
 use Rattle.buffers.specs.declared.Spot.{Spot}
@@ -273,7 +273,7 @@ module _ (c : DataType → DataType → Option DataType) (space : Space) (left :
               means_for space w v g (size x + size y) (letters x + letters y) o (omega (arith, vx.smaller, vy.smaller)) (omega (arith, vx.shorter, vy.shorter))
               (rw (kind_is ek i a ∙ eq-eqb k i p) (rw (kind_is ej i b ∙ eq-eqb j i q) (rw vx.is (rw vy.is refl))))
               (m.means vx.type vy.type vx.typed vy.typed (omega (arith, vx.smaller, vy.smaller))
-              (subst (λ (i : Option ℕ). Known i named m₁ vx.type vy.type) (sym eo)
+              (subst (λ (i : Option ℕ). Differs i named m₁ vx.type vy.type) (sym eo)
               (value_known known named x y (typed_two is (kind_of_lem ek a ∙ p) a) (typed_two is (kind_of_lem ej b ∙ q) b) a b ea eb vx.typed vy.typed d))
               (hint_for own mask (without_value i x vx.type (kind_is ek i a ∙ eq-eqb k i p) vx.is) (without_value i y vy.type (kind_is ej i b ∙ eq-eqb j i q) vy.is) (on x y a b h n)));
         }

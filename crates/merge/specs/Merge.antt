@@ -11,7 +11,7 @@ use Rattle.buffers.specs.Feeds.{Feeds}
 use Rattle.buffers.specs.Partners.{Partners}
 use Rattle.wrappers.specs.Ways.{Hint}
 use Rattle.buffers.specs.Differ.{RowsKnown}
-use Rattle.merge.specs.Known.{Known}
+use Rattle.merge.specs.Known.{Differs}
 use Rattle.buffers.specs.declared.Space.{Space}
 use Rattle.buffers.specs.declared.Spot.{Spot}
 use Rattle.buffers.specs.declared.Goal.{Goal}
@@ -26,13 +26,13 @@ pub record Tabled (space : Space) (s w table : List ℕ) : Type 0 where
 -- left in both
 pub record MergesKnown (known : Option ℕ) (named : Bool) (answer : DataType → DataType → Option DataType) (space : Space) (left : ℕ) (swap : Bool) (s w v : List ℕ) (l r : ℕ) (g : Goal) (o : Out) : Type 0 where
   pub writes : Writes space w v g o
-  pub means : (x y : DataType) → Typed space (side swap s w) l x → Typed space (side (not swap) s w) r y → size x + size y ≤ left → Known known named l x y
+  pub means : (x y : DataType) → Typed space (side swap s w) l x → Typed space (side (not swap) s w) r y → size x + size y ≤ left → Differs known named l x y
       → Means space w v g (size x + size y) (letters x + letters y) o (answer x y)
 
 -- the same, where something may be known of their wrappers too
 pub record MergesHinted (hint mask : ℕ) (known : Option ℕ) (named : Bool) (answer : DataType → DataType → Option DataType) (space : Space) (left : ℕ) (swap : Bool) (s w v : List ℕ) (l r : ℕ) (g : Goal) (o : Out) : Type 0 where
   pub writes : Writes space w v g o
-  pub means : (x y : DataType) → Typed space (side swap s w) l x → Typed space (side (not swap) s w) r y → size x + size y ≤ left → Known known named l x y → Hint hint mask x y
+  pub means : (x y : DataType) → Typed space (side swap s w) l x → Typed space (side (not swap) s w) r y → size x + size y ≤ left → Differs known named l x y → Hint hint mask x y
       → Means space w v g (size x + size y) (letters x + letters y) o (answer x y)
 
 -- a type as a field

@@ -4,7 +4,7 @@
 
 pub mod coerce;
 mod descent;
-mod known;
+pub mod known;
 
 ghost use Rattle.std.specs.Prelude.{◌≡◌, not};
 

@@ -16,6 +16,17 @@ use buffers::{Feed, Row};
 use sheet::Head;
 use sheet::label::label_at;
 
+/// Two chains of fields, side by side, as far as a walk along them has come.
+#[derive(Clone, Copy)]
+pub struct Chains {
+    /// The next field of the left; 0 for none.
+    pub l: usize,
+    /// The first field of the right.
+    pub r: usize,
+    /// The field of the right at the place of `l`; 0 for none.
+    pub p: usize,
+}
+
 // The sources of two chains, what is known of their names, and a table of partners.
 #[derive(Clone, Copy)]
 struct Rows<'a> {
@@ -88,23 +99,21 @@ impl Rows<'_> {
     }
 }
 
-/// What feeds the field at `l` of the left, by the chain at `r` of the right, of which record `p`
-/// stands at its place. Where `known` says at which record the chains from there on differ, and it
-/// is past the field, the names of `l` and `p` are taken to be the same. Nothing is said for a
-/// table with an entry that is not true (`Partners`).
+/// What feeds the next field of the left. Where `known` says at which record the chains from there
+/// on differ, and it is past the field, it and the field at its place are taken to have the same
+/// name. Nothing is said for a table with an entry that is not true (`Partners`).
 pub fn row(
     sides: &Sides,
     work: &[u8],
     known: Option<usize>,
     feed: Feed,
-    l: usize,
-    r: usize,
-    p: usize,
+    chains: Chains,
     table: &[u32],
 ) -> Row
     requires { sides.now.space.n ≤ 1024 }
-    ensures { Partners sides.now.space sides.now.sheet.now work.now table.now → RowIs known sides.now.space sides.now.swap sides.now.sheet.now work.now feed l r p result }
+    ensures { Partners sides.now.space sides.now.sheet.now work.now table.now → RowIs known sides.now.space sides.now.swap sides.now.sheet.now work.now feed chains.l chains.r chains.p result }
 {
+    let Chains { l, r, p } = chains;
     let (x, y) = sides.heads(work, l, p);
     let rows = Rows {
         sides: *sides,

@@ -40,9 +40,9 @@ use Rattle.buffers.specs.declared.Failure.{Failure}
 use Rattle.buffers.specs.declared.Failure.TheVariants.{NoType, Full}
 use Rattle.buffers.proofs.Sources.{source_none, link_inside}
 use Rattle.buffers.proofs.Chained.{labels_sum}
-use Rattle.merge.specs.Merge.{MergesKnown}
+use Rattle.merge.specs.Merge.{MergesKnown, MergesHinted}
 use Rattle.merge.specs.declared.Merger.{Merger}
-use Rattle.merge.proofs.Merging.{typed_kind, typed_differs, nothing_known, type_differ, single_letters}
+use Rattle.merge.proofs.Merging.{none_hint, typed_kind, typed_differs, nothing_known, type_differ, single_letters}
 use Rattle.resolution.specs.Reached.{front, Listed, Fits, AnswerIs, Enclosed, Within, Reached, Candidate, Shifted, Mirrored, Entry, Compared, Steps, Folds, fold_behind}
 use Rattle.resolution.proofs.Valued.{typed_right}
 use Rattle.resolution.proofs.Keeping.{by_test, plain_field, equal_kept}
@@ -84,15 +84,15 @@ not_compared {named} = record { is = λ x c a k. nothing_known named _ x c }
 -- a merge, by what it is asked with
 pub merged : {m : Merger} {space : Space} {rules : Rules} {left : ℕ} {known : Option ℕ} {l r : ℕ} {swap : Bool} {sheet : Bor (List ℕ)} {w v : List ℕ} {g : Goal} {o : Out}
     → m ≡ record { sides = record { sheet = sheet; space = space; swap = swap }; rules = rules }
-    → MergesKnown known (is_list_question m.rules.question) (coercion m.rules) m.sides.space left m.sides.swap m.sides.sheet.now w v l r g o
+    → MergesHinted 0 m.rules.mask known (is_list_question m.rules.question) (coercion m.rules) m.sides.space left m.sides.swap m.sides.sheet.now w v l r g o
     → MergesKnown known (is_list_question rules.question) (coercion rules) space left swap sheet.now w v l r g o
-merged {left = left} {known} {l} {r} {swap} {w = w} {v} {g} {o} e =
-    subst (λ (m : Merger). MergesKnown known (is_list_question m.rules.question) (coercion m.rules) m.sides.space left m.sides.swap m.sides.sheet.now w v l r g o) e
+merged {left = left} {known} {l} {r} {swap} {w = w} {v} {g} {o} e told =
+    none_hint swap (subst (λ (m : Merger). MergesHinted 0 m.rules.mask known (is_list_question m.rules.question) (coercion m.rules) m.sides.space left m.sides.swap m.sides.sheet.now w v l r g o) e told)
 
 -- the candidate was moved, then merged
 pub stepped : (rules : Rules) (space : Space) {sheet : Bor (List ℕ)} {w v u : List ℕ} {link : ℕ} {known : Option ℕ} {d : Spot} (o : Out) → Room w space → Inside space d
     → Compared known true space (Candidate space w d) sheet.now link → Shifted space w v d → {k : Merger} → k ≡ record { sides = record { sheet = sheet; space = space; swap = false }; rules = for_list rules }
-    → MergesKnown known (is_list_question k.rules.question) (coercion k.rules) k.sides.space (2 * space.n) k.sides.swap k.sides.sheet.now v u link 1 foremost o
+    → MergesHinted 0 k.rules.mask known (is_list_question k.rules.question) (coercion k.rules) k.sides.space (2 * space.n) k.sides.swap k.sides.sheet.now v u link 1 foremost o
     → Steps (coercion (for_list rules)) space (Candidate space w d) sheet.now w u link o
 stepped rules space {w = w} {v} {u} {d = d} o room inside i a e told =
     let m = merged e told in
@@ -110,7 +110,7 @@ stepped rules space {w = w} {v} {u} {d = d} o room inside i a e told =
 pub met : (space : Space) {sheet : Bor (List ℕ)} {w v u : List ℕ} {rules : Rules} {link other : ℕ} {known : Option ℕ} (o : Out) → Room w space
     → Compared known (is_list_question rules.question) space (Typed space sheet.now other) sheet.now link → Mirrored space sheet.now w v
     → {k : Merger} → k ≡ record { sides = record { sheet = sheet; space = space; swap = false }; rules = rules }
-    → MergesKnown known (is_list_question k.rules.question) (coercion k.rules) k.sides.space (2 * space.n) k.sides.swap k.sides.sheet.now v u link other foremost o
+    → MergesHinted 0 k.rules.mask known (is_list_question k.rules.question) (coercion k.rules) k.sides.space (2 * space.n) k.sides.swap k.sides.sheet.now v u link other foremost o
     → Steps (coercion rules) space (Typed space sheet.now other) sheet.now w u link o
 met space {sheet} {w} {v} {u} {rules} o room i a e told =
     let m = merged e told in

@@ -17,7 +17,7 @@ use Rattle.buffers.specs.declared.Spot.{Spot}
 use Rattle.buffers.specs.Out.{Out}
 use Rattle.std.specs.Prelude.{Ok, Err}
 use Rattle.buffers.specs.declared.Failure.TheVariants.{NoType, Full}
-use Rattle.merge.specs.Known.{Known}
+use Rattle.merge.specs.Known.{Differs}
 use Rattle.plain.specs.declared.value.Leaf.{Leaf}
 use Rattle.plain.specs.Value.{Valued, JointIs}
 use Rattle.resolution.specs.Keeps.{CoreAlone}
@@ -103,7 +103,7 @@ pub record Entry (space : Space) (s : List ℕ) (first : ℕ) (c : DataType) : T
 
 -- what is known of where a type of the sheet differs from a candidate, which stands as `Is` says
 pub record Compared (known : Option ℕ) (named : Bool) (space : Space) (Is : DataType → Type 0) (s : List ℕ) (link : ℕ) : Type 0 where
-  pub is : (x c : DataType) → Typed space s link x → Is c → Known known named link x c
+  pub is : (x c : DataType) → Typed space s link x → Is c → Differs known named link x c
 
 -- a type of the sheet was merged with a candidate, which stands as `Is` says
 pub record Steps (coerce : DataType → DataType → Option DataType) (space : Space) (Is : DataType → Type 0) (s w v : List ℕ) (link : ℕ) (o : Out) : Type 0 where

@@ -17,6 +17,7 @@ use buffers::sides::Sides;
 use buffers::{Failure, Out, Spot};
 use coercion::Rules;
 use merge::Merger;
+use merge::known::Known;
 use plain::taken::{is_taken, taken_kinds};
 use plain::value::{Leaf, common_type, is_plain, leaf_of};
 use sheet::kind;
@@ -61,7 +62,12 @@ impl<'a> Resolver<'a> {
         self.shift(work, d);
         let merger = self.merger(self.rules.for_list(), false);
         let left = 2 * self.space.n;
-        merger.coerce(work, left, Some(known), at, 1, UNNAMED)
+        let known = Known {
+            left,
+            differs: Some(known),
+            hint: 0,
+        };
+        merger.coerce(work, known, at, 1, UNNAMED)
     }
 
     // The same of a candidate whose core is at a record. Where the core alone changes, only that is
@@ -108,7 +114,12 @@ impl<'a> Resolver<'a> {
     {
         self.mirror(work);
         let merger = self.merger(rules, false);
-        merger.coerce(work, 2 * self.space.n, known, link, other, UNNAMED)
+        let known = Known {
+            left: 2 * self.space.n,
+            differs: known,
+            hint: 0,
+        };
+        merger.coerce(work, known, link, other, UNNAMED)
     }
 
     // The candidate that ends at d, folded with the types at a link past floor. Nulls are skipped.

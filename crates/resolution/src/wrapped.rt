@@ -7,6 +7,7 @@ ghost use Rattle.resolution.specs.Reached.{Candidate, Cored, Steps};
 
 use crate::resolver::Resolver;
 use buffers::{Failure, Goal, Out, Spot};
+use merge::known::Known;
 use sheet::figure::label_bytes;
 use sheet::record::head_at;
 
@@ -36,6 +37,11 @@ impl Resolver<'_> {
         };
         self.shift(work, d);
         let merger = self.merger(self.rules.for_list(), true);
-        merger.coerce(work, 2 * self.space.n, None, at, link, g)
+        let known = Known {
+            left: 2 * self.space.n,
+            differs: None,
+            hint: 0,
+        };
+        merger.coerce(work, known, at, link, g)
     }
 }
