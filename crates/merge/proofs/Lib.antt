@@ -3,7 +3,7 @@ pub mod Knowing
 pub mod Joining
 pub mod Asking
 pub mod Turning
-pub mod Structs
+pub mod Pairing
 pub mod Parents
 pub mod Names
 pub mod Rewrapping

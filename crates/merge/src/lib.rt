@@ -5,6 +5,9 @@
 pub mod coerce;
 mod descent;
 pub mod known;
+mod lists;
+mod structs;
+mod wrapped;
 
 ghost use Rattle.std.specs.Prelude.{◌≡◌, not};
 

@@ -11,9 +11,9 @@ use Rattle.merge.proofs.Merging.{any_known, any_hint, none_hint, tabled_over}
 use Rattle.merge.proofs.Names.{stopped, goal_ready}
 use Rattle.merge.proofs.Parents.{head_stopped, both_on, field_alone, field_on, map_left_end, map_right_end, map_on, after_passes, under_on}
 use Rattle.merge.proofs.Rewrapping.{span_stopped, core_stopped, settled_on, settled_tabled}
-use Rattle.merge.proofs.Structs.{fed_or_placed, struct_none, struct_other, struct_merged, listed_unlike, listed_none, listed_fed}
+use Rattle.merge.proofs.Pairing.{fed_or_placed, struct_none, struct_other, struct_merged, listed_unlike, listed_none, listed_fed}
 use Rattle.merge.proofs.Turning.{both_true, left_false, right_false, both_are, not_both, one_is, none_is, both_below, resolve_dictionary, resolve_runs, resolve_nested, wrap_both, wrap_left, wrap_right, wrap_none, unwrap_done, unwrap_full, unwrap_nested, way_merged, way_spent, wrapper_none, wrapper_both, wrapper_left_same, wrapper_left, wrapper_right_same, wrapper_right, nested_list, nested_listed, nested_struct, nested_map, nested_plain, list_merged}
-use Rattle.merge.proofs.Merger.+merging.Goals.{nested-else-is_list-via-else-is_list, nested-else-is_list-via-then-is_list+else-is_list-2, struct_rule-else-x-eq-STRUCT-via-else-x-eq-STRUCT, struct_rule-else-x-eq-STRUCT-via-then-x-eq-STRUCT+else-y-eq-STRUCT, struct_rule-else-x-eq-STRUCT-via-then-x-eq-STRUCT+then-y-eq-STRUCT+else-same_arity}
+use Rattle.merge.proofs.Merger.+merging.Goals.{nested-else-is_list-via-else-is_list, nested-else-is_list-via-then-is_list+else-is_list-2, struct_coercion-else-x-eq-STRUCT-via-else-x-eq-STRUCT, struct_coercion-else-x-eq-STRUCT-via-then-x-eq-STRUCT+else-y-eq-STRUCT, struct_coercion-else-x-eq-STRUCT-via-then-x-eq-STRUCT+then-y-eq-STRUCT+else-same_arity}
 use Rattle.merge.proofs.Merger.+merging.Goals as goal
 
 pub both_parts-returns-in_err-d-clause-merges_known : goal.both_parts-returns-in_err-d-clause-merges_known
@@ -82,7 +82,7 @@ common-returns-then-j-lt-DICTIONARY-clause-merges_hinted t c =
 
 pub common-returns-then-is_list_question-clause-merges_hinted : goal.common-returns-then-is_list_question-clause-merges_hinted
 common-returns-then-is_list_question-clause-merges_hinted t c =
-    any_hint _ _ c.args.self.now.sides.swap (coerce_list c.args.self.now.rules c.args.self.now.sides.space c.args.known.left c.args.self.now.sides.swap _ _ _ _ _ (handed c.args.known.differs _ _ refl c.first_difference-d.ensures c.if-d-eq0.false) _ _ (sym c.is_list_question.ensures ∙ c.if-is_list_question.true) c.if-known-eq0.false c.resolve.ensures.merges_known)
+    any_hint _ _ c.args.self.now.sides.swap (coerce_list c.args.self.now.rules c.args.self.now.sides.space c.args.known.left c.args.self.now.sides.swap _ _ _ _ _ (handed c.args.known.differs _ _ refl c.first_difference-d.ensures c.if-d-eq0.false) _ _ (sym c.is_list_question.ensures ∙ c.if-is_list_question.true) c.if-known-eq0.false c.type_union_resolution_coercion.ensures.merges_known)
 
 pub common-returns-clause-merges_hinted : goal.common-returns-clause-merges_hinted
 common-returns-clause-merges_hinted t c =
@@ -92,16 +92,16 @@ pub entry-returns-in_err-g-clause-stays_tabled : goal.entry-returns-in_err-g-cla
 entry-returns-in_err-g-clause-stays_tabled t c =
     tabled_over c.requires.room.0 c.name_goal.ensures.named.kept c.requires.tabled
 
-pub entry-struct_rule-requires : goal.entry-struct_rule-requires
-entry-struct_rule-requires t c =
+pub entry-struct_coercion-requires : goal.entry-struct_coercion-requires
+entry-struct_coercion-requires t c =
     (omega (arith, c.decreases), ((room_kept c.name_goal.ensures.named.kept c.requires.room.0, goal_ready c.requires.room.1 c.head-x.ensures.1 c.in_ok-g.ensures), tabled_over c.requires.room.0 c.name_goal.ensures.named.kept c.requires.tabled))
 
 pub entry-returns-clause-merges_field : goal.entry-returns-clause-merges_field
 entry-returns-clause-merges_field t c =
-    field_on _ _ _ _ _ _ _ _ _ _ c.head-x.ensures.0 _ _ c.in_ok-g.ensures.named _ _ _ c.requires.room.0 refl c.nullable.ensures c.row_known-own.ensures (rw c.in_ok-g.ensures.goal at c.struct_rule.ensures.merges_known)
+    field_on _ _ _ _ _ _ _ _ _ _ c.head-x.ensures.0 _ _ c.in_ok-g.ensures.named _ _ _ c.requires.room.0 refl c.nullable.ensures c.row_known-own.ensures (rw c.in_ok-g.ensures.goal at c.struct_coercion.ensures.merges_known)
 
-pub list_rule-returns-clause-merges_known : goal.list_rule-returns-clause-merges_known
-list_rule-returns-clause-merges_known t c =
+pub list_coercion-returns-clause-merges_known : goal.list_coercion-returns-clause-merges_known
+list_coercion-returns-clause-merges_known t c =
     list_merged _ _ _ c.args.self.now.sides.swap _ _ _ _ _ _ _ c.heads.ensures.left.0 c.heads.ensures.right.0 c.list_kind.ensures c.list_size.ensures.0 _ _ (rw c.of_kind.ensures at (rw c.from.ensures at c.under.ensures.under))
 
 pub list_struct-returns-then-not-same_arity-clause-merges_known : goal.list_struct-returns-then-not-same_arity-clause-merges_known
@@ -116,21 +116,21 @@ pub list_struct-returns-in-None-clause-merges_known : goal.list_struct-returns-i
 list_struct-returns-in-None-clause-merges_known t c =
     listed_none _ _ _ c.args.self.now.sides.swap _ _ _ _ _ _ _ c.heads.ensures.left.0 c.heads.ensures.right.0 c.same_arity.ensures c.if-not-same_arity.false c.args.known.differs _ c.in-None.ensures.struct_fed
 
-pub map_rule-returns-then-a-eq0-clause-merges_known : goal.map_rule-returns-then-a-eq0-clause-merges_known
-map_rule-returns-then-a-eq0-clause-merges_known t c =
+pub map_coercion-returns-then-a-eq0-clause-merges_known : goal.map_coercion-returns-then-a-eq0-clause-merges_known
+map_coercion-returns-then-a-eq0-clause-merges_known t c =
     ⊎_elim (map_left_end _ _ _ _ _ _ _ _ _ _ _ c.heads.ensures.left.0 c.heads.ensures.right.0) (λ e. map_right_end _ _ _ _ _ _ _ _ _ _ _ c.heads.ensures.left.0 c.heads.ensures.right.0 e.1) c.then-a-eq0.either
 
-pub map_rule-entry-requires : goal.map_rule-entry-requires
-map_rule-entry-requires t c =
+pub map_coercion-entry-requires : goal.map_coercion-entry-requires
+map_coercion-entry-requires t c =
     (omega (arith, c.decreases), ((room_kept c.lay.ensures.kept c.requires.room.0, (after_passes _ c.requires.room.1 c.if-self-at.false).0), tabled_over c.requires.room.0 c.lay.ensures.kept c.requires.tabled))
 
-pub map_rule-returns-clause-merges_known : goal.map_rule-returns-clause-merges_known
-map_rule-returns-clause-merges_known t c =
+pub map_coercion-returns-clause-merges_known : goal.map_coercion-returns-clause-merges_known
+map_coercion-returns-clause-merges_known t c =
     map_on _ _ _ _ _ _ _ _ _ _ _ c.heads.ensures.left.0 c.heads.ensures.right.0 c.requires.room.0 c.requires.room.1 c.if-self-at.false _ _ _ _ c.are_sorted.ensures c.if-a-eq0.false c.if-b-eq0.false (rw c.of_kind.ensures at (rw c.from.ensures at c.lay.ensures)) c.args.known.differs _ c.entry.ensures.merges_field
 
 pub nested-returns-then-is_list-2-clause-merges_known : goal.nested-returns-then-is_list-2-clause-merges_known
 nested-returns-then-is_list-2-clause-merges_known t c =
-    nested_list c.args.known.differs _ _ _ _ _ c.args.self.now.sides.swap _ _ _ _ _ c.kinds-k.ensures.left c.kinds-k.ensures.right _ _ (both_true (sym c.is_list.ensures ∙ c.if-is_list.true) (sym c.is_list-then-is_list.ensures ∙ c.if-is_list-2.true)) c.list_rule.ensures.merges_known
+    nested_list c.args.known.differs _ _ _ _ _ c.args.self.now.sides.swap _ _ _ _ _ c.kinds-k.ensures.left c.kinds-k.ensures.right _ _ (both_true (sym c.is_list.ensures ∙ c.if-is_list.true) (sym c.is_list-then-is_list.ensures ∙ c.if-is_list-2.true)) c.list_coercion.ensures.merges_known
 
 pub nested-returns-then-is_list_question-clause-merges_known : goal.nested-returns-then-is_list_question-clause-merges_known
 nested-returns-then-is_list_question-clause-merges_known t c =
@@ -138,11 +138,11 @@ nested-returns-then-is_list_question-clause-merges_known t c =
 
 pub nested-returns-then-j-eq-STRUCT-clause-merges_known : goal.nested-returns-then-j-eq-STRUCT-clause-merges_known
 nested-returns-then-j-eq-STRUCT-clause-merges_known t c =
-    nested_struct c.args.known.differs _ _ _ _ _ c.args.self.now.sides.swap _ _ _ _ _ c.kinds-k.ensures.left c.kinds-k.ensures.right _ _ (elim c.else-is_list.branch [ nested-else-is_list-via-then-is_list+else-is_list-2 w ↦ right_false _ (sym w.is_list-then-is_list.ensures ∙ w.if-is_list-2.false) | nested-else-is_list-via-else-is_list w ↦ left_false _ (sym c.is_list.ensures ∙ w.if-is_list.false) ]) (both_are c.if-k-eq-STRUCT.true c.if-j-eq-STRUCT.true) (sym c.is_list_question.ensures ∙ c.if-is_list_question.false) c.struct_rule.ensures.merges_known
+    nested_struct c.args.known.differs _ _ _ _ _ c.args.self.now.sides.swap _ _ _ _ _ c.kinds-k.ensures.left c.kinds-k.ensures.right _ _ (elim c.else-is_list.branch [ nested-else-is_list-via-then-is_list+else-is_list-2 w ↦ right_false _ (sym w.is_list-then-is_list.ensures ∙ w.if-is_list-2.false) | nested-else-is_list-via-else-is_list w ↦ left_false _ (sym c.is_list.ensures ∙ w.if-is_list.false) ]) (both_are c.if-k-eq-STRUCT.true c.if-j-eq-STRUCT.true) (sym c.is_list_question.ensures ∙ c.if-is_list_question.false) c.struct_coercion.ensures.merges_known
 
 pub nested-returns-then-j-eq-MAP-clause-merges_known : goal.nested-returns-then-j-eq-MAP-clause-merges_known
 nested-returns-then-j-eq-MAP-clause-merges_known t c =
-    nested_map c.args.known.differs _ _ _ _ _ c.args.self.now.sides.swap _ _ _ _ _ c.kinds-k.ensures.left c.kinds-k.ensures.right _ _ (elim c.else-is_list.branch [ nested-else-is_list-via-then-is_list+else-is_list-2 w ↦ right_false _ (sym w.is_list-then-is_list.ensures ∙ w.if-is_list-2.false) | nested-else-is_list-via-else-is_list w ↦ left_false _ (sym c.is_list.ensures ∙ w.if-is_list.false) ]) (not_both c.else-k-eq-STRUCT.either) (both_are c.if-k-eq-MAP.true c.if-j-eq-MAP.true) c.map_rule.ensures.merges_known
+    nested_map c.args.known.differs _ _ _ _ _ c.args.self.now.sides.swap _ _ _ _ _ c.kinds-k.ensures.left c.kinds-k.ensures.right _ _ (elim c.else-is_list.branch [ nested-else-is_list-via-then-is_list+else-is_list-2 w ↦ right_false _ (sym w.is_list-then-is_list.ensures ∙ w.if-is_list-2.false) | nested-else-is_list-via-else-is_list w ↦ left_false _ (sym c.is_list.ensures ∙ w.if-is_list.false) ]) (not_both c.else-k-eq-STRUCT.either) (both_are c.if-k-eq-MAP.true c.if-j-eq-MAP.true) c.map_coercion.ensures.merges_known
 
 pub nested-returns-clause-merges_known : goal.nested-returns-clause-merges_known
 nested-returns-clause-merges_known t c =
@@ -152,16 +152,16 @@ pub nested-returns-clause-stays_tabled : goal.nested-returns-clause-stays_tabled
 nested-returns-clause-stays_tabled t c =
     tabled_over c.requires.room.0 (c.plain_rule.ensures 0).writes.kept c.requires.tabled
 
-pub resolve-returns-then-k-eq-DICTIONARY-clause-merges_known : goal.resolve-returns-then-k-eq-DICTIONARY-clause-merges_known
-resolve-returns-then-k-eq-DICTIONARY-clause-merges_known t c =
+pub type_union_resolution_coercion-returns-then-k-eq-DICTIONARY-clause-merges_known : goal.type_union_resolution_coercion-returns-then-k-eq-DICTIONARY-clause-merges_known
+type_union_resolution_coercion-returns-then-k-eq-DICTIONARY-clause-merges_known t c =
     resolve_dictionary c.args.known.differs _ _ _ _ _ c.args.self.now.sides.swap _ _ _ _ _ c.kinds-k.ensures.left c.kinds-k.ensures.right _ _ (one_is c.then-k-eq-DICTIONARY.either) c.resolve_wrapper.ensures.merges_known
 
-pub resolve-returns-then-k-eq-RUN_END_ENCODED-clause-merges_known : goal.resolve-returns-then-k-eq-RUN_END_ENCODED-clause-merges_known
-resolve-returns-then-k-eq-RUN_END_ENCODED-clause-merges_known t c =
+pub type_union_resolution_coercion-returns-then-k-eq-RUN_END_ENCODED-clause-merges_known : goal.type_union_resolution_coercion-returns-then-k-eq-RUN_END_ENCODED-clause-merges_known
+type_union_resolution_coercion-returns-then-k-eq-RUN_END_ENCODED-clause-merges_known t c =
     resolve_runs c.args.known.differs _ _ _ _ _ c.args.self.now.sides.swap _ _ _ _ _ c.kinds-k.ensures.left c.kinds-k.ensures.right _ _ (none_is c.if-k-eq-DICTIONARY.false c.if-j-eq-DICTIONARY.false) (one_is c.then-k-eq-RUN_END_ENCODED.either) c.resolve_wrapper-then-k-eq-RUN_END_ENCODED.ensures.merges_known
 
-pub resolve-returns-clause-merges_known : goal.resolve-returns-clause-merges_known
-resolve-returns-clause-merges_known t c =
+pub type_union_resolution_coercion-returns-clause-merges_known : goal.type_union_resolution_coercion-returns-clause-merges_known
+type_union_resolution_coercion-returns-clause-merges_known t c =
     resolve_nested c.args.known.differs _ _ _ _ _ c.args.self.now.sides.swap _ _ _ _ _ c.kinds-k.ensures.left c.kinds-k.ensures.right _ _ (none_is c.if-k-eq-DICTIONARY.false c.if-j-eq-DICTIONARY.false) (none_is c.if-k-eq-RUN_END_ENCODED.false c.if-j-eq-RUN_END_ENCODED.false) c.nested.ensures.merges_known
 
 pub resolve_wrapper-returns-then-j-kind-clause-merges_known : goal.resolve_wrapper-returns-then-j-kind-clause-merges_known
@@ -256,13 +256,13 @@ rows-returns-clause-stays_tabled t c =
     let one = none_hint c.args.self.now.sides.swap (rw c.in_ok-g.ensures.goal at c.in_ok-d.ensures.merges_hinted) in
     tabled_over c.requires.room.0 (tied_kept _ _ _ _ _ c.tie.ensures 0 (omega (arith, one.writes.passes.1.0, one.writes.passes.0.records))) c.rows.ensures.stays_tabled
 
-pub struct_rule-returns-then-same_arity-clause-merges_known : goal.struct_rule-returns-then-same_arity-clause-merges_known
-struct_rule-returns-then-same_arity-clause-merges_known t c =
+pub struct_coercion-returns-then-same_arity-clause-merges_known : goal.struct_coercion-returns-then-same_arity-clause-merges_known
+struct_coercion-returns-then-same_arity-clause-merges_known t c =
     struct_merged _ _ _ c.args.self.now.sides.swap _ _ _ _ _ _ _ c.heads.ensures.left.0 c.heads.ensures.right.0 c.same_arity.ensures (both_true (both_true (eq-eqb _ 35 c.if-x-eq-STRUCT.true) (eq-eqb _ 35 c.if-y-eq-STRUCT.true)) c.if-same_arity.true) c.args.known.differs _ (fed_or_placed c.unwrap_or-feed.ensures c.struct_feed.ensures.struct_fed) _ _ (rw c.of_kind.ensures at (rw c.from-shape.ensures at c.under.ensures.under))
 
-pub struct_rule-returns-clause-merges_known : goal.struct_rule-returns-clause-merges_known
-struct_rule-returns-clause-merges_known t c =
-    elim c.else-x-eq-STRUCT.branch [ struct_rule-else-x-eq-STRUCT-via-then-x-eq-STRUCT+then-y-eq-STRUCT+else-same_arity w ↦ struct_none _ _ _ c.args.self.now.sides.swap _ _ _ _ _ _ _ c.heads.ensures.left.0 c.heads.ensures.right.0 w.same_arity.ensures (right_false _ w.if-same_arity.false) | struct_rule-else-x-eq-STRUCT-via-then-x-eq-STRUCT+else-y-eq-STRUCT w ↦ struct_other _ _ _ c.args.self.now.sides.swap _ _ _ _ _ _ _ c.heads.ensures.left.0 c.heads.ensures.right.0 (right_false _ (ne_eqb _ 35 w.if-y-eq-STRUCT.false)) | struct_rule-else-x-eq-STRUCT-via-else-x-eq-STRUCT w ↦ struct_other _ _ _ c.args.self.now.sides.swap _ _ _ _ _ _ _ c.heads.ensures.left.0 c.heads.ensures.right.0 (left_false _ (ne_eqb _ 35 w.if-x-eq-STRUCT.false)) ]
+pub struct_coercion-returns-clause-merges_known : goal.struct_coercion-returns-clause-merges_known
+struct_coercion-returns-clause-merges_known t c =
+    elim c.else-x-eq-STRUCT.branch [ struct_coercion-else-x-eq-STRUCT-via-then-x-eq-STRUCT+then-y-eq-STRUCT+else-same_arity w ↦ struct_none _ _ _ c.args.self.now.sides.swap _ _ _ _ _ _ _ c.heads.ensures.left.0 c.heads.ensures.right.0 w.same_arity.ensures (right_false _ w.if-same_arity.false) | struct_coercion-else-x-eq-STRUCT-via-then-x-eq-STRUCT+else-y-eq-STRUCT w ↦ struct_other _ _ _ c.args.self.now.sides.swap _ _ _ _ _ _ _ c.heads.ensures.left.0 c.heads.ensures.right.0 (right_false _ (ne_eqb _ 35 w.if-y-eq-STRUCT.false)) | struct_coercion-else-x-eq-STRUCT-via-else-x-eq-STRUCT w ↦ struct_other _ _ _ c.args.self.now.sides.swap _ _ _ _ _ _ _ c.heads.ensures.left.0 c.heads.ensures.right.0 (left_false _ (ne_eqb _ 35 w.if-x-eq-STRUCT.false)) ]
 
 pub under-rows-requires : goal.under-rows-requires
 under-rows-requires t c =

@@ -16,20 +16,20 @@ decreases-common l = 16 * l.known.left + 3
 abbrev pub decreases-entry : goal.decreases-entry
 decreases-entry l = 16 * l.known.left + 10
 
-abbrev pub decreases-list_rule : goal.decreases-list_rule
-decreases-list_rule l = 16 * l.known.left + 11
+abbrev pub decreases-list_coercion : goal.decreases-list_coercion
+decreases-list_coercion l = 16 * l.known.left + 11
 
 abbrev pub decreases-list_struct : goal.decreases-list_struct
 decreases-list_struct l = 16 * l.known.left + 9
 
-abbrev pub decreases-map_rule : goal.decreases-map_rule
-decreases-map_rule l = 16 * l.known.left + 11
+abbrev pub decreases-map_coercion : goal.decreases-map_coercion
+decreases-map_coercion l = 16 * l.known.left + 11
 
 abbrev pub decreases-nested : goal.decreases-nested
 decreases-nested l = 16 * l.known.left + 12
 
-abbrev pub decreases-resolve : goal.decreases-resolve
-decreases-resolve l = 16 * l.known.left + 14
+abbrev pub decreases-type_union_resolution_coercion : goal.decreases-type_union_resolution_coercion
+decreases-type_union_resolution_coercion l = 16 * l.known.left + 14
 
 abbrev pub decreases-resolve_wrapper : goal.decreases-resolve_wrapper
 decreases-resolve_wrapper l = 16 * l.known.left + 13
@@ -40,8 +40,8 @@ decreases-rewrapped l = 16 * l.left + 11
 abbrev pub decreases-rows : goal.decreases-rows
 decreases-rows l = 16 * l.known.left + 5
 
-abbrev pub decreases-struct_rule : goal.decreases-struct_rule
-decreases-struct_rule l = 16 * l.known.left + 9
+abbrev pub decreases-struct_coercion : goal.decreases-struct_coercion
+decreases-struct_coercion l = 16 * l.known.left + 9
 
 abbrev pub decreases-under : goal.decreases-under
 decreases-under l = 16 * l.known.left + 8

@@ -1,0 +1,73 @@
+//! The merge of two lists, and the record of a type with parts.
+
+ghost use Rattle.std.specs.Prelude.{◌+◌, ◌<◌};
+ghost use Rattle.coercion.specs.Answers.{coercion};
+ghost use Rattle.buffers.specs.Region.{Room, Ready};
+ghost use Rattle.buffers.specs.Goal.{shape_for};
+ghost use Rattle.turns.specs.Turns.{list_rule};
+ghost use Rattle.merge.specs.Merge.{Tabled, MergesKnown, Under};
+ghost use Rattle.coercion.specs.Data.{is_list_question};
+
+use crate::Merger;
+use crate::known::Known;
+use buffers::field::first_link;
+use buffers::lay::lay;
+use buffers::lists::{list_kind, list_size};
+use buffers::{Failure, Feed, Goal, Out, Shape, Spot};
+use coercion::Figures;
+use partners::rows::Chains;
+
+impl Merger<'_> {
+    /// `list_coercion`, of two lists.
+    #[cycle(merging)]
+    pub(crate) fn list_coercion(
+        &self,
+        work: &mut [u8],
+        table: &mut [u32],
+        known: Known,
+        l: usize,
+        r: usize,
+        g: Goal,
+    ) -> Out
+        requires room { Room work.old self.now.sides.space × Ready self.now.sides.space g }
+        requires tabled { Tabled self.now.sides.space self.now.sides.sheet.now work.old table.old }
+        ensures merges_known { MergesKnown known.differs (is_list_question self.now.rules.question) (list_rule (coercion self.now.rules)) self.now.sides.space (known.left + 1) self.now.sides.swap self.now.sides.sheet.now work.old work.new l r g result }
+        ensures stays_tabled { Tabled self.now.sides.space self.now.sides.sheet.now work.new table.new }
+    {
+        let (x, y) = self.sides.heads(&*work, l, r);
+        let (a, b) = (x.first, y.first);
+        let chains = Chains { l: a, r: b, p: b };
+        let shape = Shape {
+            size: list_size(x, y),
+            ..Shape::from(Figures::of_kind(list_kind(x, y)))
+        };
+        self.under(work, table, known, Feed::Place, shape, chains, g)
+    }
+
+    /// The record of a type with parts, and its parts after it.
+    #[cycle(merging)]
+    pub(crate) fn under(
+        &self,
+        work: &mut [u8],
+        table: &mut [u32],
+        known: Known,
+        feed: Feed,
+        shape: Shape,
+        chains: Chains,
+        g: Goal,
+    ) -> Out
+        requires room { (Room work.old self.now.sides.space × Ready self.now.sides.space g) × (shape.size < 4294967296) }
+        requires tabled { Tabled self.now.sides.space self.now.sides.sheet.now work.old table.old }
+        ensures under { Under known.differs (is_list_question self.now.rules.question) (coercion self.now.rules) self.now.sides.space known.left self.now.sides.swap self.now.sides.sheet.now work.old work.new feed (shape_for shape.kind shape.figure shape.scale shape.size shape.sorted) chains.l chains.r chains.p g result }
+        ensures stays_tabled { Tabled self.now.sides.space self.now.sides.sheet.now work.new table.new }
+    {
+        let at = g.at;
+        let label = g.label + g.nlen;
+        if self.sides.space.n <= at {
+            return Err(Failure::Full);
+        }
+        lay(work, self.sides.space, g, shape, first_link(at, chains.l));
+        let to = Spot { at: at + 1, label };
+        self.rows(work, table, known, feed, chains, to)
+    }
+}
