@@ -8,10 +8,8 @@ pub mod Spans
 pub mod Moving
 pub mod Seeking
 pub mod Spanning
-pub mod Partnering
 pub mod Laying
 pub mod Tying
 pub mod Fielding
 pub mod Stamping
 pub mod Rows
-pub mod Known

@@ -6,8 +6,6 @@ pub mod Writes
 pub mod Region
 pub mod Goal
 pub mod Typed
-pub mod Feeds
-pub mod Partners
 pub mod Heads
 pub mod Span
 pub mod Laws

@@ -134,25 +134,3 @@ impl From<Leaf> for Shape {
         }
     }
 }
-
-/// Which field of the right gives a field of the left its type, and which joins its nullability.
-#[derive(Clone, Copy)]
-pub enum Feed {
-    /// The field at its place does both.
-    Place,
-    /// The field at its place gives the type, and the nullability is the left's own.
-    Own,
-    /// The field of its name does both.
-    Name,
-    /// The field of its name gives the type, and the one at its place joins the nullability.
-    NameThenPlace,
-}
-
-/// What feeds one row: the record of the right that gives the type, 0 for none; whether the field
-/// is nullable; and the record of the right at the place of the next row.
-#[derive(Clone, Copy)]
-pub struct Row {
-    pub partner: usize,
-    pub nullable: bool,
-    pub next: usize,
-}

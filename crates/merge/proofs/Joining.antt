@@ -21,7 +21,7 @@ use Rattle.coercion.specs.declared.Rules.{Rules}
 use Rattle.buffers.specs.Writes.{side}
 use Rattle.buffers.specs.Region.{Room, Kept, Inside, Grows, Wrote}
 use Rattle.buffers.specs.Goal.{letters, spot_of, field_for, Means, Tied}
-use Rattle.buffers.specs.Feeds.{Feeds, Fed, Unfed, RowIs}
+use Rattle.partners.specs.Feeds.{Feeds, Fed, Unfed, RowIs}
 use Rattle.buffers.specs.Typed.{Chain, Typed, ChainIs, goal_at, NamedAt}
 use Rattle.buffers.specs.Differ.{RowsKnown}
 use Rattle.merge.specs.Known.{Differs, row_known, known_names}
@@ -29,8 +29,8 @@ use Rattle.merge.specs.Merge.{MergesKnown, Rowed}
 use Rattle.buffers.specs.declared.Space.{Space}
 use Rattle.buffers.specs.declared.Spot.{Spot}
 use Rattle.buffers.specs.declared.Goal.{Goal}
-use Rattle.buffers.specs.declared.Row.{Row}
-use Rattle.buffers.specs.declared.Feed.{Feed}
+use Rattle.partners.specs.declared.Row.{Row}
+use Rattle.partners.specs.declared.Feed.{Feed}
 use Rattle.buffers.specs.Out.{Out}
 use Rattle.std.specs.Prelude.{Ok, Err}
 use Rattle.buffers.specs.declared.Failure.{Failure}
@@ -40,7 +40,7 @@ use Rattle.buffers.proofs.Chained.{labels_sum}
 use Rattle.buffers.proofs.Tying.{tied_kept, chain_tied}
 use Rattle.merge.proofs.Merging.{chain_side, typed_side, chain_some, common_fits}
 use Rattle.buffers.proofs.Rows.{chain_link, chain_typed, chain_next}
-use Rattle.buffers.proofs.Known.{next_at_lem}
+use Rattle.partners.proofs.Known.{next_at_lem}
 use Rattle.merge.proofs.Knowing.{names_known, row_known_lem, rest_known}
 use Rattle.buffers.proofs.Fielding.{name_length_lem}
 

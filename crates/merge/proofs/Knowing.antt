@@ -18,14 +18,14 @@ use Rattle.sheet.proofs.Reading.{holds_walk}
 use Rattle.coercion.specs.Data.{DataType}
 use Rattle.buffers.specs.Source.{type_of}
 use Rattle.buffers.specs.Differ.{fields_differ, type_differs, RowsKnown}
-use Rattle.buffers.specs.Feeds.{EndOf, Feeds, Fed}
+use Rattle.partners.specs.Feeds.{EndOf, Feeds, Fed}
 use Rattle.buffers.specs.Typed.{Chain, Typed}
 use Rattle.buffers.specs.declared.Space.{Space}
-use Rattle.buffers.specs.declared.Row.{Row}
-use Rattle.buffers.specs.declared.Feed.{Feed}
+use Rattle.partners.specs.declared.Row.{Row}
+use Rattle.partners.specs.declared.Feed.{Feed}
 use Rattle.buffers.proofs.Sources.{source_first, link_is}
 use Rattle.buffers.proofs.Differing.{from_link, fields_within, parts_differ, row_same, row_differs}
-use Rattle.buffers.proofs.Known.{row_begins, row_follows, next_at_lem, behind_known}
+use Rattle.partners.proofs.Known.{row_begins, row_follows, next_at_lem, behind_known}
 use Rattle.partners.proofs.Naming.{end_next}
 use Rattle.buffers.proofs.Rows.{chain_next}
 use Rattle.wrappers.proofs.Values.{chain_first, Two}

@@ -36,7 +36,7 @@ use Rattle.buffers.proofs.Copying.{held_side}
 use Rattle.buffers.proofs.Laying.{named_kept}
 use Rattle.buffers.proofs.Fielding.{typed_reads}
 use Rattle.buffers.proofs.Stamping.{means_more}
-use Rattle.buffers.proofs.Partnering.{partners_zeros, partners_kept}
+use Rattle.partners.proofs.Partnering.{partners_zeros, partners_kept}
 use Rattle.wrappers.specs.Ways.{Hint}
 use Rattle.wrappers.proofs.Values.{side_twice}
 

@@ -22,8 +22,8 @@ use Rattle.buffers.specs.Region.{Held}
 use Rattle.buffers.specs.Goal.{letters, Means, shape_for}
 use Rattle.buffers.specs.Typed.{Chain, Typed}
 use Rattle.buffers.specs.Differ.{RowsKnown}
-use Rattle.buffers.specs.Feeds.{Feeds}
-use Rattle.buffers.specs.Partners.{same_order}
+use Rattle.partners.specs.Feeds.{Feeds}
+use Rattle.partners.specs.Partners.{same_order}
 use Rattle.merge.specs.Known.{Differs, known_names}
 use Rattle.partners.specs.Naming.{structs_feed, StructsFed}
 use Rattle.merge.specs.Merge.{MergesKnown, Under}
@@ -32,7 +32,7 @@ use Rattle.buffers.specs.declared.Goal.{Goal}
 use Rattle.buffers.specs.Out.{Out}
 use Rattle.std.specs.Prelude.{Err}
 use Rattle.buffers.specs.declared.Failure.TheVariants.{NoType}
-use Rattle.buffers.specs.declared.Feed.{Feed}
+use Rattle.partners.specs.declared.Feed.{Feed}
 use Rattle.buffers.proofs.Chained.{held_first}
 use Rattle.wrappers.proofs.Values.{chain_first}
 use Rattle.merge.proofs.Knowing.{names_known, parts_known}

@@ -28,7 +28,7 @@ use Rattle.merge.specs.Merge.{MergesKnown, MergesField, field_of, Rowed, Under}
 use Rattle.buffers.specs.declared.Space.{Space}
 use Rattle.buffers.specs.declared.Spot.{Spot}
 use Rattle.buffers.specs.declared.Goal.{Goal}
-use Rattle.buffers.specs.declared.Feed.{Feed}
+use Rattle.partners.specs.declared.Feed.{Feed}
 use Rattle.buffers.specs.Out.{Out}
 use Rattle.std.specs.Prelude.{Ok, Err}
 use Rattle.buffers.specs.declared.Failure.{Failure}
@@ -37,7 +37,7 @@ use Rattle.buffers.proofs.Sources.{read_shape}
 use Rattle.buffers.proofs.Frames.{stands_frame, kept_trans, kept_wider}
 use Rattle.buffers.proofs.Chained.{labels_sum}
 use Rattle.wrappers.proofs.Values.{chain_first}
-use Rattle.buffers.proofs.Known.{next_at_lem}
+use Rattle.partners.proofs.Known.{next_at_lem}
 use Rattle.merge.proofs.Knowing.{parts_known, row_known_lem}
 use Rattle.merge.proofs.Merging.{chain_side, typed_side, chain_some, nothing_known, means_for, any_known, merges_none}
 use Rattle.buffers.proofs.Rows.{chain_end, chain_link, chain_typed, chain_nullable}

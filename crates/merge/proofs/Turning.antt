@@ -39,7 +39,7 @@ use Rattle.buffers.specs.declared.Goal.{Goal}
 use Rattle.buffers.specs.Out.{Out}
 use Rattle.std.specs.Prelude.{Ok, Err}
 use Rattle.buffers.specs.declared.Failure.TheVariants.{NoType, Full}
-use Rattle.buffers.specs.declared.Feed.TheVariants as Feed
+use Rattle.partners.specs.declared.Feed.TheVariants as Feed
 use Rattle.buffers.proofs.Frames.{kept_trans}
 use Rattle.merge.proofs.Knowing.{parts_known, value_known}
 use Rattle.merge.proofs.Merging.{typed_side, typed_same, nothing_known, any_known, any_hint, means_for, means_after, hinted_within, known_as, as_known, merges_swapped, merges_left, merges_right, merges_none}

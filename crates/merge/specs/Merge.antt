@@ -7,8 +7,8 @@ use Rattle.buffers.specs.Writes.{side}
 use Rattle.buffers.specs.Region.{Kept, Grows}
 use Rattle.buffers.specs.Goal.{letters, Means, Writes}
 use Rattle.buffers.specs.Typed.{Chain, Typed, ChainIs}
-use Rattle.buffers.specs.Feeds.{Feeds}
-use Rattle.buffers.specs.Partners.{Partners}
+use Rattle.partners.specs.Feeds.{Feeds}
+use Rattle.partners.specs.Partners.{Partners}
 use Rattle.wrappers.specs.Ways.{Hint}
 use Rattle.buffers.specs.Differ.{RowsKnown}
 use Rattle.merge.specs.Known.{Differs}
@@ -16,7 +16,7 @@ use Rattle.buffers.specs.declared.Space.{Space}
 use Rattle.buffers.specs.declared.Spot.{Spot}
 use Rattle.buffers.specs.declared.Goal.{Goal}
 use Rattle.buffers.specs.Out.{Out}
-use Rattle.buffers.specs.declared.Feed.{Feed}
+use Rattle.partners.specs.declared.Feed.{Feed}
 
 -- each entry of a table of partners is true
 pub record Tabled (space : Space) (s w table : List ℕ) : Type 0 where

@@ -13,9 +13,9 @@ use crate::known::Known;
 use buffers::field::first_link;
 use buffers::lay::lay;
 use buffers::lists::{list_kind, list_size};
-use buffers::{Failure, Feed, Goal, Out, Shape, Spot};
+use buffers::{Failure, Goal, Out, Shape, Spot};
 use coercion::Figures;
-use partners::rows::Chains;
+use partners::{Chains, Feed};
 
 impl Merger<'_> {
     /// `list_coercion`, of two lists.

@@ -16,10 +16,11 @@ use crate::Merger;
 use crate::known::{Known, row_known};
 use buffers::field::{next_link, row_end};
 use buffers::lay::{lay, tie};
-use buffers::{Failure, Feed, Goal, Out, Shape, Spot};
+use buffers::{Failure, Goal, Out, Shape, Spot};
 use coercion::Figures;
 use partners::names::{same_arity, struct_feed};
-use partners::rows::{Chains, row};
+use partners::rows::row;
+use partners::{Chains, Feed};
 use sheet::{Head, kind};
 
 // Whether the entries of two maps are sorted.

@@ -14,8 +14,8 @@ ghost use Rattle.coercion.specs.Data.{is_list_question};
 use crate::Merger;
 use crate::descent::passes;
 use crate::known::{Known, row_known};
-use buffers::{Failure, Feed, Goal, Out, Spot};
-use partners::rows::Chains;
+use buffers::{Failure, Goal, Out, Spot};
+use partners::{Chains, Feed};
 use sheet::kind;
 use wrappers::walk::way;
 

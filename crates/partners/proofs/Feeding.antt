@@ -15,12 +15,12 @@ use Rattle.coercion.specs.Nested.{by_name}
 use Rattle.buffers.specs.Writes.{side}
 use Rattle.buffers.specs.Goal.{type_of}
 use Rattle.buffers.specs.Differ.{RowsKnown}
-use Rattle.buffers.specs.Feeds.{EndOf, Feeds, Fed, RowIs}
+use Rattle.partners.specs.Feeds.{EndOf, Feeds, Fed, RowIs}
 use Rattle.buffers.specs.Typed.{Chain}
 use Rattle.partners.specs.Naming.{Picks, RowPairs, row_of}
 use Rattle.buffers.specs.declared.Space.{Space}
-use Rattle.buffers.specs.declared.Row.{Row}
-use Rattle.buffers.specs.declared.Feed.{Feed}
+use Rattle.partners.specs.declared.Row.{Row}
+use Rattle.partners.specs.declared.Feed.{Feed}
 use Rattle.buffers.proofs.Rows.{chain_end, chain_typed, chain_next, chain_nullable}
 use Rattle.partners.proofs.Naming.{some_not_none, name_missing, Stepped, by_name_step, end_next, end_takes}
 

@@ -1,3 +1,5 @@
+pub mod Known
+pub mod Partnering
 pub mod Naming
 pub mod Noting
 pub mod Feeding

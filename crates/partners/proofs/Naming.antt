@@ -25,9 +25,9 @@ use Rattle.coercion.proofs.Maybe.{if_some}
 use Rattle.coercion.proofs.Weights.{nothing, one, name_length, zone_length, records_weigh, labels_weigh, differ_apart, by_name_lem}
 use Rattle.buffers.specs.Region.{Held}
 use Rattle.buffers.specs.Typed.{Chain}
-use Rattle.buffers.specs.Feeds.{EndOf}
+use Rattle.partners.specs.Feeds.{EndOf}
 use Rattle.buffers.specs.Source.{Source}
-use Rattle.buffers.specs.Partners.{same_order}
+use Rattle.partners.specs.Partners.{same_order}
 use Rattle.partners.specs.Naming.{Picks, Finds, Tried, Within, Member, Lists, noted, Notes, Matched}
 use Rattle.buffers.specs.declared.Space.{Space}
 use Rattle.buffers.proofs.Sources.{source_none, source_lower, link_inside, read_name}

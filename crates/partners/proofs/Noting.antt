@@ -18,12 +18,12 @@ use Rattle.sheet.proofs.Tests.{and_fst, and_snd}
 use Rattle.buffers.specs.Writes.{side}
 use Rattle.buffers.specs.Typed.{Chain}
 use Rattle.buffers.specs.Differ.{known_past}
-use Rattle.buffers.specs.Feeds.{EndOf}
-use Rattle.buffers.specs.Partners.{key_of, Present, Partner, Partners}
+use Rattle.partners.specs.Feeds.{EndOf}
+use Rattle.partners.specs.Partners.{key_of, Present, Partner, Partners}
 use Rattle.partners.specs.Naming.{Picks, Finds, RowPairs, place_in, own_partner, partner_in, noted, News, Notes}
 use Rattle.buffers.specs.declared.Space.{Space}
 use Rattle.buffers.proofs.Rows.{chain_name}
-use Rattle.buffers.proofs.Known.{row_begins, known_some, known_name}
+use Rattle.partners.proofs.Known.{row_begins, known_some, known_name}
 
 -- what a search says of the name of record l of s in the chain at r of t
 abbrev pub Pairs : Space → List ℕ → List ℕ → ℕ → ℕ → ℕ → Type 0

@@ -20,14 +20,14 @@ use Rattle.coercion.specs.Nested.{fields_have_same_names}
 use Rattle.buffers.specs.Differ.{RowsKnown, known_past}
 use Rattle.buffers.specs.Region.{Held}
 use Rattle.buffers.specs.Typed.{Chain}
-use Rattle.buffers.specs.Feeds.{EndOf}
-use Rattle.buffers.specs.Partners.{same_order}
+use Rattle.partners.specs.Feeds.{EndOf}
+use Rattle.partners.specs.Partners.{same_order}
 use Rattle.buffers.specs.declared.Space.{Space}
-use Rattle.buffers.specs.declared.Feed.{Feed}
+use Rattle.partners.specs.declared.Feed.{Feed}
 use Rattle.buffers.proofs.Sources.{link_inside}
 use Rattle.buffers.proofs.Chained.{held_next}
 use Rattle.buffers.proofs.Rows.{chain_next}
-use Rattle.buffers.proofs.Known.{next_at_lem, known_some, known_name, behind_known}
+use Rattle.partners.proofs.Known.{next_at_lem, known_some, known_name, behind_known}
 use Rattle.partners.specs.Naming.{Finds, Within, noted, Notes, Matched, Walked, StructsFed}
 use Rattle.partners.proofs.Noting.{noted_long, notes_trans, noted_says}
 use Rattle.partners.proofs.Naming.{end_next, end_has, held_past, name_is, within_next, within_here, want_is, pairs_found}

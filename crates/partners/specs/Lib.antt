@@ -1,1 +1,3 @@
+pub mod Partners
+pub mod Feeds
 pub mod Naming

@@ -10,11 +10,11 @@ use Rattle.coercion.specs.Nested.{fields_have_same_names}
 use Rattle.buffers.specs.Differ.{RowsKnown}
 use Rattle.buffers.specs.Region.{Held}
 use Rattle.buffers.specs.Typed.{Chain}
-use Rattle.buffers.specs.Feeds.{EndOf}
-use Rattle.buffers.specs.Partners.{Present, key_of, Partner, same_order}
+use Rattle.partners.specs.Feeds.{EndOf}
+use Rattle.partners.specs.Partners.{Present, key_of, Partner, same_order}
 use Rattle.buffers.specs.declared.Space.{Space}
-use Rattle.buffers.specs.declared.Row.{Row}
-use Rattle.buffers.specs.declared.Feed.{Feed}
+use Rattle.partners.specs.declared.Row.{Row}
+use Rattle.partners.specs.declared.Feed.{Feed}
 
 -- the name of record j
 abbrev pub name_of : List ℕ → ℕ → ℕ → List ℕ

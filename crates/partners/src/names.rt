@@ -5,15 +5,15 @@ ghost use Rattle.sheet.specs.Types.{Fields, arity};
 ghost use Rattle.buffers.specs.Writes.{side};
 ghost use Rattle.buffers.specs.Region.{Held};
 ghost use Rattle.buffers.specs.Typed.{Chain};
-ghost use Rattle.buffers.specs.Partners.{Partners};
+ghost use Rattle.partners.specs.Partners.{Partners};
 ghost use Rattle.buffers.specs.declared.Space.{Space};
 ghost use Rattle.partners.specs.Naming.{Indexed, Matched, Walked, StructsFed};
 
+use crate::Feed;
 use crate::index::Index;
 use crate::order::are_found_in_order;
 use crate::search::{are_known, find, is_field_named};
 use crate::table::{key_of, note};
-use buffers::Feed;
 use buffers::sides::Sides;
 use sheet::label::label_at;
 use sheet::record::head_at;

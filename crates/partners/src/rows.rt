@@ -5,27 +5,16 @@ ghost use Rattle.sheet.specs.Head.{head_at};
 ghost use Rattle.sheet.specs.Read.{label_at};
 ghost use Rattle.sheet.specs.Bounds.{Bounded};
 ghost use Rattle.buffers.specs.Writes.{side};
-ghost use Rattle.buffers.specs.Feeds.{RowIs};
-ghost use Rattle.buffers.specs.Partners.{Partners};
+ghost use Rattle.partners.specs.Feeds.{RowIs};
+ghost use Rattle.partners.specs.Partners.{Partners};
 ghost use Rattle.partners.specs.Naming.{Finds, RowPairs, row_of};
 
 use crate::search::{are_known, find};
 use crate::table::partner_in;
+use crate::{Chains, Feed, Row};
 use buffers::sides::Sides;
-use buffers::{Feed, Row};
 use sheet::Head;
 use sheet::label::label_at;
-
-/// Two chains of fields, side by side, as far as a walk along them has come.
-#[derive(Clone, Copy)]
-pub struct Chains {
-    /// The next field of the left; 0 for none.
-    pub l: usize,
-    /// The first field of the right.
-    pub r: usize,
-    /// The field of the right at the place of `l`; 0 for none.
-    pub p: usize,
-}
 
 // The sources of two chains, what is known of their names, and a table of partners.
 #[derive(Clone, Copy)]

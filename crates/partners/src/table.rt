@@ -4,7 +4,7 @@
 //! place, and what another left there says nothing.
 
 ghost use Rattle.std.specs.Prelude.{◌≡◌, ◌<◌, get_or};
-ghost use Rattle.buffers.specs.Partners.{key_of};
+ghost use Rattle.partners.specs.Partners.{key_of};
 ghost use Rattle.partners.specs.Naming.{place_in, partner_in, noted};
 
 /// The number of record `i` of a side.

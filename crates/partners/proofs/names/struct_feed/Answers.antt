@@ -1,6 +1,6 @@
 use mathlib.Core.Bool.{not}
 use Rattle.buffers.specs.Writes.{side}
-use Rattle.buffers.specs.Partners.{key_of}
+use Rattle.partners.specs.Partners.{key_of}
 use Rattle.partners.specs.Naming.{Walked}
 use Rattle.partners.proofs.Noting.{notes_true}
 use Rattle.partners.proofs.names.struct_feed.Goals as goal

@@ -9,7 +9,7 @@ use Rattle.sheet.specs.Types.{Fields}
 use Rattle.buffers.specs.Writes.{side}
 use Rattle.buffers.specs.Region.{Kept}
 use Rattle.buffers.specs.Typed.{Chain}
-use Rattle.buffers.specs.Partners.{Partner, Partners}
+use Rattle.partners.specs.Partners.{Partner, Partners}
 use Rattle.buffers.specs.declared.Space.{Space}
 use Rattle.buffers.proofs.Copying.{held_side}
 

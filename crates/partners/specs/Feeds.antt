@@ -9,8 +9,8 @@ use Rattle.buffers.specs.Differ.{RowsKnown}
 use Rattle.buffers.specs.Writes.{side}
 use Rattle.buffers.specs.Typed.{Chain, Typed}
 use Rattle.buffers.specs.declared.Space.{Space}
-use Rattle.buffers.specs.declared.Row.{Row}
-use Rattle.buffers.specs.declared.Feed.{Feed}
+use Rattle.partners.specs.declared.Row.{Row}
+use Rattle.partners.specs.declared.Feed.{Feed}
 
 -- a chain is the part of another from a field on
 abbrev pub EndOf : Fields → Fields → Type 0

@@ -4,7 +4,7 @@ use Rattle.sheet.specs.Types.{Shape, Fields, end, field}
 use Rattle.sheet.specs.Names.{same_bytes}
 use Rattle.buffers.specs.Writes.{side}
 use Rattle.buffers.specs.Typed.{Chain}
-use Rattle.buffers.specs.Feeds.{EndOf}
+use Rattle.partners.specs.Feeds.{EndOf}
 use Rattle.buffers.specs.declared.Space.{Space}
 
 -- the field at a link is one of a chain, and has a name
