@@ -38,20 +38,20 @@ impl Merger<'_> {
     {
         let records = records_from(self.sides.space.n, l, self.sides.head(&*work, l).next);
         if records < 9 {
-            return self.common(work, &mut [0u32; 16], known, l, r, g);
+            return self.common(work, &mut [0u32; 16], &known, l, r, g);
         }
         if records < 33 {
-            return self.common(work, &mut [0u32; 64], known, l, r, g);
+            return self.common(work, &mut [0u32; 64], &known, l, r, g);
         }
-        self.coerce_many(work, known, l, r, g)
+        self.coerce_many(work, &known, l, r, g)
     }
 
     // The same, where the left type has many records. It is not inlined, so that the large table is
     // not in the frame of `coerce`.
     #[inline(never)]
-    fn coerce_many(&self, work: &mut [u8], known: Known, l: usize, r: usize, g: Goal) -> Out
+    fn coerce_many(&self, work: &mut [u8], known: &Known, l: usize, r: usize, g: Goal) -> Out
         requires { Room work.old self.now.sides.space × Ready self.now.sides.space g }
-        ensures { MergesHinted known.hint self.now.rules.mask known.differs (is_list_question self.now.rules.question) (coercion self.now.rules) self.now.sides.space known.left self.now.sides.swap self.now.sides.sheet.now work.old work.new l r g result }
+        ensures { MergesHinted known.now.hint self.now.rules.mask known.now.differs (is_list_question self.now.rules.question) (coercion self.now.rules) self.now.sides.space known.now.left self.now.sides.swap self.now.sides.sheet.now work.old work.new l r g result }
     {
         self.common(work, &mut [0u32; 2048], known, l, r, g)
     }
@@ -62,14 +62,14 @@ impl Merger<'_> {
         &self,
         work: &mut [u8],
         table: &mut [u32],
-        known: Known,
+        known: &Known,
         l: usize,
         r: usize,
         g: Goal,
     ) -> Out
         requires room { Room work.old self.now.sides.space × Ready self.now.sides.space g }
         requires tabled { Tabled self.now.sides.space self.now.sides.sheet.now work.old table.old }
-        ensures merges_hinted { MergesHinted known.hint self.now.rules.mask known.differs (is_list_question self.now.rules.question) (coercion self.now.rules) self.now.sides.space known.left self.now.sides.swap self.now.sides.sheet.now work.old work.new l r g result }
+        ensures merges_hinted { MergesHinted known.now.hint self.now.rules.mask known.now.differs (is_list_question self.now.rules.question) (coercion self.now.rules) self.now.sides.space known.now.left self.now.sides.swap self.now.sides.sheet.now work.old work.new l r g result }
         ensures stays_tabled { Tabled self.now.sides.space self.now.sides.sheet.now work.new table.new }
     {
         if known.left == 0 {
@@ -86,15 +86,15 @@ impl Merger<'_> {
         let known = Known {
             left: known.left - 1,
             differs: Some(d),
-            ..known
+            ..*known
         };
         if k < kind::DICTIONARY && j < kind::DICTIONARY {
-            return self.nested(work, table, known, l, r, g);
+            return self.nested(work, table, &known, l, r, g);
         }
         if self.rules.is_list_question() {
-            return self.type_union_resolution_coercion(work, table, known, l, r, g);
+            return self.type_union_resolution_coercion(work, table, &known, l, r, g);
         }
-        self.unwrap(work, table, known, l, r, g)
+        self.unwrap(work, table, &known, l, r, g)
     }
 
     // `type_union_resolution_coercion`, after the test for sameness.
@@ -103,7 +103,7 @@ impl Merger<'_> {
         &self,
         work: &mut [u8],
         table: &mut [u32],
-        known: Known,
+        known: &Known,
         l: usize,
         r: usize,
         g: Goal,
@@ -111,7 +111,7 @@ impl Merger<'_> {
         requires room { Room work.old self.now.sides.space × Ready self.now.sides.space g }
         requires of_list { is_list_question self.now.rules.question ≡ true }
         requires tabled { Tabled self.now.sides.space self.now.sides.sheet.now work.old table.old }
-        ensures merges_known { MergesKnown known.differs (is_list_question self.now.rules.question) (resolved self.now.rules (coercion self.now.rules)) self.now.sides.space (known.left + 1) self.now.sides.swap self.now.sides.sheet.now work.old work.new l r g result }
+        ensures merges_known { MergesKnown known.now.differs (is_list_question self.now.rules.question) (resolved self.now.rules (coercion self.now.rules)) self.now.sides.space (known.now.left + 1) self.now.sides.swap self.now.sides.sheet.now work.old work.new l r g result }
         ensures stays_tabled { Tabled self.now.sides.space self.now.sides.sheet.now work.new table.new }
     {
         let (k, j) = self.sides.kinds(&*work, l, r);
@@ -133,7 +133,7 @@ impl Merger<'_> {
         &self,
         work: &mut [u8],
         table: &mut [u32],
-        known: Known,
+        known: &Known,
         l: usize,
         r: usize,
         g: Goal,
@@ -141,7 +141,7 @@ impl Merger<'_> {
         requires room { Room work.old self.now.sides.space × Ready self.now.sides.space g }
         requires of_pair { is_list_question self.now.rules.question ≡ false }
         requires tabled { Tabled self.now.sides.space self.now.sides.sheet.now work.old table.old }
-        ensures merges_hinted { MergesHinted known.hint self.now.rules.mask known.differs (is_list_question self.now.rules.question) (unwrapped self.now.rules (coercion self.now.rules)) self.now.sides.space (known.left + 1) self.now.sides.swap self.now.sides.sheet.now work.old work.new l r g result }
+        ensures merges_hinted { MergesHinted known.now.hint self.now.rules.mask known.now.differs (is_list_question self.now.rules.question) (unwrapped self.now.rules (coercion self.now.rules)) self.now.sides.space (known.now.left + 1) self.now.sides.swap self.now.sides.sheet.now work.old work.new l r g result }
         ensures stays_tabled { Tabled self.now.sides.space self.now.sides.sheet.now work.new table.new }
     {
         // Each answer has an arm of its own, since the proof goes by cases.
@@ -158,14 +158,14 @@ impl Merger<'_> {
         &self,
         work: &mut [u8],
         table: &mut [u32],
-        known: Known,
+        known: &Known,
         l: usize,
         r: usize,
         g: Goal,
     ) -> Out
         requires room { Room work.old self.now.sides.space × Ready self.now.sides.space g }
         requires tabled { Tabled self.now.sides.space self.now.sides.sheet.now work.old table.old }
-        ensures merges_known { MergesKnown known.differs (is_list_question self.now.rules.question) (nested_of self.now.rules (coercion self.now.rules)) self.now.sides.space (known.left + 1) self.now.sides.swap self.now.sides.sheet.now work.old work.new l r g result }
+        ensures merges_known { MergesKnown known.now.differs (is_list_question self.now.rules.question) (nested_of self.now.rules (coercion self.now.rules)) self.now.sides.space (known.now.left + 1) self.now.sides.swap self.now.sides.sheet.now work.old work.new l r g result }
         ensures stays_tabled { Tabled self.now.sides.space self.now.sides.sheet.now work.new table.new }
     {
         let (k, j) = self.sides.kinds(&*work, l, r);

@@ -24,14 +24,14 @@ impl Merger<'_> {
         &self,
         work: &mut [u8],
         table: &mut [u32],
-        known: Known,
+        known: &Known,
         l: usize,
         r: usize,
         g: Goal,
     ) -> Out
         requires room { Room work.old self.now.sides.space × Ready self.now.sides.space g }
         requires tabled { Tabled self.now.sides.space self.now.sides.sheet.now work.old table.old }
-        ensures merges_known { MergesKnown known.differs (is_list_question self.now.rules.question) (list_rule (coercion self.now.rules)) self.now.sides.space (known.left + 1) self.now.sides.swap self.now.sides.sheet.now work.old work.new l r g result }
+        ensures merges_known { MergesKnown known.now.differs (is_list_question self.now.rules.question) (list_rule (coercion self.now.rules)) self.now.sides.space (known.now.left + 1) self.now.sides.swap self.now.sides.sheet.now work.old work.new l r g result }
         ensures stays_tabled { Tabled self.now.sides.space self.now.sides.sheet.now work.new table.new }
     {
         let (x, y) = self.sides.heads(&*work, l, r);
@@ -41,7 +41,7 @@ impl Merger<'_> {
             size: list_size(x, y),
             ..Shape::from(Figures::of_kind(list_kind(x, y)))
         };
-        self.under(work, table, known, Feed::Place, shape, chains, g)
+        self.under(work, table, known, Feed::Place, shape, &chains, g)
     }
 
     /// The record of a type with parts, and its parts after it.
@@ -50,15 +50,15 @@ impl Merger<'_> {
         &self,
         work: &mut [u8],
         table: &mut [u32],
-        known: Known,
+        known: &Known,
         feed: Feed,
         shape: Shape,
-        chains: Chains,
+        chains: &Chains,
         g: Goal,
     ) -> Out
         requires room { (Room work.old self.now.sides.space × Ready self.now.sides.space g) × (shape.size < 4294967296) }
         requires tabled { Tabled self.now.sides.space self.now.sides.sheet.now work.old table.old }
-        ensures under { Under known.differs (is_list_question self.now.rules.question) (coercion self.now.rules) self.now.sides.space known.left self.now.sides.swap self.now.sides.sheet.now work.old work.new feed (shape_for shape.kind shape.figure shape.scale shape.size shape.sorted) chains.l chains.r chains.p g result }
+        ensures under { Under known.now.differs (is_list_question self.now.rules.question) (coercion self.now.rules) self.now.sides.space known.now.left self.now.sides.swap self.now.sides.sheet.now work.old work.new feed (shape_for shape.kind shape.figure shape.scale shape.size shape.sorted) chains.now.l chains.now.r chains.now.p g result }
         ensures stays_tabled { Tabled self.now.sides.space self.now.sides.sheet.now work.new table.new }
     {
         let at = g.at;

@@ -58,14 +58,14 @@ impl Merger<'_> {
         &self,
         work: &mut [u8],
         table: &mut [u32],
-        known: Known,
+        known: &Known,
         l: usize,
         r: usize,
         g: Goal,
     ) -> Out
         requires room { Room work.old self.now.sides.space × Ready self.now.sides.space g }
         requires tabled { Tabled self.now.sides.space self.now.sides.sheet.now work.old table.old }
-        ensures merges_known { MergesKnown known.differs (is_list_question self.now.rules.question) (struct_coercion (coercion self.now.rules)) self.now.sides.space (known.left + 1) self.now.sides.swap self.now.sides.sheet.now work.old work.new l r g result }
+        ensures merges_known { MergesKnown known.now.differs (is_list_question self.now.rules.question) (struct_coercion (coercion self.now.rules)) self.now.sides.space (known.now.left + 1) self.now.sides.swap self.now.sides.sheet.now work.old work.new l r g result }
         ensures stays_tabled { Tabled self.now.sides.space self.now.sides.sheet.now work.new table.new }
     {
         let (x, y) = self.sides.heads(&*work, l, r);
@@ -79,7 +79,7 @@ impl Merger<'_> {
                 .struct_feed(&*work, table, known.differs, Feed::Name, l, a, b)
                 .unwrap_or(Feed::Place);
             let shape = Shape::from(Figures::of_kind(kind::STRUCT));
-            return self.under(work, table, known, feed, shape, chains, g);
+            return self.under(work, table, known, feed, shape, &chains, g);
         }
         Err(Failure::NoType)
     }
@@ -90,7 +90,7 @@ impl Merger<'_> {
         &self,
         work: &mut [u8],
         table: &mut [u32],
-        known: Known,
+        known: &Known,
         l: usize,
         r: usize,
         g: Goal,
@@ -98,7 +98,7 @@ impl Merger<'_> {
         requires room { Room work.old self.now.sides.space × Ready self.now.sides.space g }
         requires structs { ((head_at (side self.now.sides.swap self.now.sides.sheet.now work.old) l).kind ≡ 35) × ((head_at (side (not self.now.sides.swap) self.now.sides.sheet.now work.old) r).kind ≡ 35) }
         requires tabled { Tabled self.now.sides.space self.now.sides.sheet.now work.old table.old }
-        ensures merges_known { MergesKnown known.differs (is_list_question self.now.rules.question) (list_struct (coercion self.now.rules)) self.now.sides.space (known.left + 1) self.now.sides.swap self.now.sides.sheet.now work.old work.new l r g result }
+        ensures merges_known { MergesKnown known.now.differs (is_list_question self.now.rules.question) (list_struct (coercion self.now.rules)) self.now.sides.space (known.now.left + 1) self.now.sides.swap self.now.sides.sheet.now work.old work.new l r g result }
         ensures stays_tabled { Tabled self.now.sides.space self.now.sides.sheet.now work.new table.new }
     {
         let (x, y) = self.sides.heads(&*work, l, r);
@@ -109,7 +109,7 @@ impl Merger<'_> {
         }
         let shape = Shape::from(Figures::of_kind(kind::STRUCT));
         match self.struct_feed(&*work, table, known.differs, Feed::NameThenPlace, l, a, b) {
-            Some(feed) => self.under(work, table, known, feed, shape, chains, g),
+            Some(feed) => self.under(work, table, known, feed, shape, &chains, g),
             None => Err(Failure::NoType),
         }
     }
@@ -120,14 +120,14 @@ impl Merger<'_> {
         &self,
         work: &mut [u8],
         table: &mut [u32],
-        known: Known,
+        known: &Known,
         l: usize,
         r: usize,
         g: Goal,
     ) -> Out
         requires room { Room work.old self.now.sides.space × Ready self.now.sides.space g }
         requires tabled { Tabled self.now.sides.space self.now.sides.sheet.now work.old table.old }
-        ensures merges_known { MergesKnown known.differs (is_list_question self.now.rules.question) (map_rule (coercion self.now.rules)) self.now.sides.space (known.left + 1) self.now.sides.swap self.now.sides.sheet.now work.old work.new l r g result }
+        ensures merges_known { MergesKnown known.now.differs (is_list_question self.now.rules.question) (map_rule (coercion self.now.rules)) self.now.sides.space (known.now.left + 1) self.now.sides.swap self.now.sides.sheet.now work.old work.new l r g result }
         ensures stays_tabled { Tabled self.now.sides.space self.now.sides.sheet.now work.new table.new }
     {
         let at = g.at;
@@ -154,14 +154,14 @@ impl Merger<'_> {
         &self,
         work: &mut [u8],
         table: &mut [u32],
-        known: Known,
+        known: &Known,
         l: usize,
         r: usize,
         to: Spot,
     ) -> Out
         requires room { Room work.old self.now.sides.space × Inside self.now.sides.space to }
         requires tabled { Tabled self.now.sides.space self.now.sides.sheet.now work.old table.old }
-        ensures merges_field { MergesField known.differs (is_list_question self.now.rules.question) (struct_coercion (coercion self.now.rules)) self.now.sides.space (known.left + 1) self.now.sides.swap self.now.sides.sheet.now work.old work.new l r to result }
+        ensures merges_field { MergesField known.now.differs (is_list_question self.now.rules.question) (struct_coercion (coercion self.now.rules)) self.now.sides.space (known.now.left + 1) self.now.sides.swap self.now.sides.sheet.now work.old work.new l r to result }
         ensures stays_tabled { Tabled self.now.sides.space self.now.sides.sheet.now work.new table.new }
     {
         let x = self.sides.head(&*work, l);
@@ -169,9 +169,9 @@ impl Merger<'_> {
         let g = self.sides.name_goal(work, x, x.nullable(), to)?;
         let known = Known {
             differs: own,
-            ..known
+            ..*known
         };
-        self.struct_coercion(work, table, known, l, r, g)
+        self.struct_coercion(work, table, &known, l, r, g)
     }
 
     /// The rows of two chains: each field of the left is coerced with the one that feeds it, and
@@ -181,17 +181,17 @@ impl Merger<'_> {
         &self,
         work: &mut [u8],
         table: &mut [u32],
-        known: Known,
+        known: &Known,
         feed: Feed,
-        chains: Chains,
+        chains: &Chains,
         to: Spot,
     ) -> Out
         requires room { Room work.old self.now.sides.space × Inside self.now.sides.space to }
         requires tabled { Tabled self.now.sides.space self.now.sides.sheet.now work.old table.old }
-        ensures rowed { Rowed known.differs (is_list_question self.now.rules.question) (coercion self.now.rules) self.now.sides.space known.left self.now.sides.swap self.now.sides.sheet.now work.old work.new feed chains.l chains.r chains.p to result }
+        ensures rowed { Rowed known.now.differs (is_list_question self.now.rules.question) (coercion self.now.rules) self.now.sides.space known.now.left self.now.sides.swap self.now.sides.sheet.now work.old work.new feed chains.now.l chains.now.r chains.now.p to result }
         ensures stays_tabled { Tabled self.now.sides.space self.now.sides.sheet.now work.new table.new }
     {
-        let Chains { l, r, p } = chains;
+        let Chains { l, r, p } = *chains;
         if l == 0 {
             return row_end(p, to);
         }
@@ -200,7 +200,7 @@ impl Merger<'_> {
         }
         let x = self.sides.head(&*work, l);
         let names = self.known_names(known.differs);
-        let row = row(&self.sides, &*work, names, feed, chains, &*table);
+        let row = row(&self.sides, &*work, names, feed, *chains, &*table);
         let partner = row.partner;
         let own = row_known(known.differs, l, x.next, partner, p);
         if partner == 0 {
@@ -210,19 +210,19 @@ impl Merger<'_> {
         let field = Known {
             differs: own,
             hint: 0,
-            ..known
+            ..*known
         };
-        let d = self.common(work, table, field, l, partner, g)?;
+        let d = self.common(work, table, &field, l, partner, g)?;
         let known = Known {
             left: known.left - 1,
-            ..known
+            ..*known
         };
         let chains = Chains {
             l: x.next,
             r,
             p: row.next,
         };
-        let e = self.rows(work, table, known, feed, chains, d)?;
+        let e = self.rows(work, table, &known, feed, &chains, d)?;
         tie(work, self.sides.space, to.at, next_link(d, e));
         Ok(e)
     }

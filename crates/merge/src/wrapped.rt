@@ -26,7 +26,7 @@ impl Merger<'_> {
         &self,
         work: &mut [u8],
         table: &mut [u32],
-        known: Known,
+        known: &Known,
         kind: u8,
         l: usize,
         r: usize,
@@ -36,7 +36,7 @@ impl Merger<'_> {
         requires of_list { is_list_question self.now.rules.question ≡ true }
         requires wrapper { is_wrapper kind ≡ true }
         requires tabled { Tabled self.now.sides.space self.now.sides.sheet.now work.old table.old }
-        ensures merges_known { MergesKnown known.differs (is_list_question self.now.rules.question) (either_wrapped kind (coercion self.now.rules)) self.now.sides.space (known.left + 1) self.now.sides.swap self.now.sides.sheet.now work.old work.new l r g result }
+        ensures merges_known { MergesKnown known.now.differs (is_list_question self.now.rules.question) (either_wrapped kind (coercion self.now.rules)) self.now.sides.space (known.now.left + 1) self.now.sides.swap self.now.sides.sheet.now work.old work.new l r g result }
         ensures stays_tabled { Tabled self.now.sides.space self.now.sides.sheet.now work.new table.new }
     {
         let (k, j) = self.sides.kinds(&*work, l, r);
@@ -60,14 +60,14 @@ impl Merger<'_> {
         &self,
         work: &mut [u8],
         table: &mut [u32],
-        known: Known,
+        known: &Known,
         l: usize,
         r: usize,
         g: Goal,
     ) -> Out
         requires room { Room work.old self.now.sides.space × Ready self.now.sides.space g }
         requires tabled { Tabled self.now.sides.space self.now.sides.sheet.now work.old table.old }
-        ensures merges_known { MergesKnown known.differs (is_list_question self.now.rules.question) (both_wrapped (coercion self.now.rules)) self.now.sides.space (known.left + 1) self.now.sides.swap self.now.sides.sheet.now work.old work.new l r g result }
+        ensures merges_known { MergesKnown known.now.differs (is_list_question self.now.rules.question) (both_wrapped (coercion self.now.rules)) self.now.sides.space (known.now.left + 1) self.now.sides.swap self.now.sides.sheet.now work.old work.new l r g result }
         ensures stays_tabled { Tabled self.now.sides.space self.now.sides.sheet.now work.new table.new }
     {
         if self.sides.space.n <= g.at {
@@ -77,7 +77,7 @@ impl Merger<'_> {
         let d = self.sides.copy_head(work, x, l, g, 0)?;
         let (a, b) = (x.first, y.first);
         let chains = Chains { l: a, r: b, p: b };
-        self.rows(work, table, known, Feed::Own, chains, d)
+        self.rows(work, table, known, Feed::Own, &chains, d)
     }
 
     // A wrapper whose value is coerced with another type, the value on the left. The wrappers below
@@ -169,7 +169,7 @@ impl Merger<'_> {
             differs: None,
             hint: 0,
         };
-        self.common(work, table, known, l, r, g)
+        self.common(work, table, &known, l, r, g)
     }
 
     /// `dictionary_coercion` or `ree_coercion`, whichever is asked, where a wrapper of its kind is
@@ -179,25 +179,18 @@ impl Merger<'_> {
         &self,
         work: &mut [u8],
         table: &mut [u32],
-        known: Known,
+        known: &Known,
         l: usize,
         r: usize,
         g: Goal,
     ) -> Out
         requires room { Room work.old self.now.sides.space × Ready self.now.sides.space g }
         requires tabled { Tabled self.now.sides.space self.now.sides.sheet.now work.old table.old }
-        ensures merges_hinted { MergesHinted known.hint self.now.rules.mask known.differs (is_list_question self.now.rules.question) (wrapper_rule self.now.rules (coercion self.now.rules)) self.now.sides.space (known.left + 1) self.now.sides.swap self.now.sides.sheet.now work.old work.new l r g result }
+        ensures merges_hinted { MergesHinted known.now.hint self.now.rules.mask known.now.differs (is_list_question self.now.rules.question) (wrapper_rule self.now.rules (coercion self.now.rules)) self.now.sides.space (known.now.left + 1) self.now.sides.swap self.now.sides.sheet.now work.old work.new l r g result }
         ensures stays_tabled { Tabled self.now.sides.space self.now.sides.sheet.now work.new table.new }
     {
-        let Some(t) = way(
-            &self.sides,
-            &*work,
-            self.rules.mask,
-            known.left,
-            known.hint,
-            l,
-            r,
-        ) else {
+        let (left, hint) = (known.left, known.hint);
+        let Some(t) = way(&self.sides, &*work, self.rules.mask, left, hint, l, r) else {
             return Err(Failure::NoType);
         };
         let kind = t.kind;
@@ -207,7 +200,7 @@ impl Merger<'_> {
         let rest = Known {
             differs: None,
             hint: t.hint,
-            ..known
+            ..*known
         };
         if k == kind {
             if j == kind {
@@ -216,12 +209,12 @@ impl Merger<'_> {
                     differs: own,
                     ..rest
                 };
-                return self.common(work, table, known, a, b, g);
+                return self.common(work, table, &known, a, b, g);
             }
             if self.sides.same_sides(&*work, a, r, true) {
                 return self.sides.copy_type(work, l, g);
             }
-            return self.common(work, table, rest, a, r, g);
+            return self.common(work, table, &rest, a, r, g);
         }
         // The common type takes the left's names, so the value is asked on its own side.
         if j == kind {
@@ -229,7 +222,7 @@ impl Merger<'_> {
             if turned.same_sides(&*work, b, l, true) {
                 return turned.copy_type(work, r, g);
             }
-            return self.common(work, table, rest, l, b, g);
+            return self.common(work, table, &rest, l, b, g);
         }
         Err(Failure::NoType)
     }

@@ -39,7 +39,9 @@ impl<'a> Resolver<'a> {
         }
     }
 
-    // Copies the type at a link of the sheet to the front, with its name and nullability.
+    // Copies the type at a link of the sheet to the front, with its name and nullability. Inlined,
+    // so that the loop before it keeps the sheet in registers.
+    #[inline(always)]
     fn copy_listed(&self, work: &mut [u8], link: usize) -> Out
         requires { Room work.old self.now.space }
         ensures { CopiedField self.now.space self.now.sheet.now work.old work.new link (record { at = 1; label = 0 }) result }

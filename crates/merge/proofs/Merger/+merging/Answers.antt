@@ -30,7 +30,7 @@ both_parts-rows-requires t c =
 
 pub both_parts-returns-clause-merges_known : goal.both_parts-returns-clause-merges_known
 both_parts-returns-clause-merges_known t c =
-    both_on c.args.known.differs _ _ _ _ _ _ _ _ _ c.requires.room.0 _ _ c.heads.ensures.left.0 c.heads.ensures.right.0 _ _ _ _ c.in_ok-d.ensures c.rows.ensures.rowed
+    both_on c.args.known.now.differs _ _ _ _ _ _ _ _ _ c.requires.room.0 _ _ c.heads.ensures.left.0 c.heads.ensures.right.0 _ _ _ _ c.in_ok-d.ensures c.rows.ensures.rowed
 
 pub coerce_field-returns-in_err-g-clause-stays_tabled : goal.coerce_field-returns-in_err-g-clause-stays_tabled
 coerce_field-returns-in_err-g-clause-stays_tabled t c =
@@ -62,7 +62,7 @@ coerce_value-returns-then-j-lt-LIST-clause-stays_tabled t c =
 
 pub common-returns-then-d-eq0-clause-merges_hinted : goal.common-returns-then-d-eq0-clause-merges_hinted
 common-returns-then-d-eq0-clause-merges_hinted t c =
-    any_hint _ _ c.args.self.now.sides.swap (coerce_same c.args.self.now.rules c.args.self.now.sides.space c.args.known.left c.args.self.now.sides.swap _ _ _ _ _ refl c.first_difference-d.ensures _ _ c.if-d-eq0.true c.copy_type.ensures)
+    any_hint _ _ c.args.self.now.sides.swap (coerce_same c.args.self.now.rules c.args.self.now.sides.space c.args.known.now.left c.args.self.now.sides.swap _ _ _ _ _ refl c.first_difference-d.ensures _ _ c.if-d-eq0.true c.copy_type.ensures)
 
 pub common-returns-then-d-eq0-clause-stays_tabled : goal.common-returns-then-d-eq0-clause-stays_tabled
 common-returns-then-d-eq0-clause-stays_tabled t c =
@@ -70,7 +70,7 @@ common-returns-then-d-eq0-clause-stays_tabled t c =
 
 pub common-returns-then-j-lt-LIST-clause-merges_hinted : goal.common-returns-then-j-lt-LIST-clause-merges_hinted
 common-returns-then-j-lt-LIST-clause-merges_hinted t c =
-    any_hint _ _ c.args.self.now.sides.swap (coerce_plain c.args.self.now.rules c.args.self.now.sides.space c.args.known.left c.args.self.now.sides.swap _ _ _ _ _ (handed c.args.known.differs _ _ refl c.first_difference-d.ensures c.if-d-eq0.false) _ _ c.kinds-k.ensures.left c.kinds-k.ensures.right (both_below c.if-k-lt-LIST.true c.if-j-lt-LIST.true) c.plain_rule.ensures)
+    any_hint _ _ c.args.self.now.sides.swap (coerce_plain c.args.self.now.rules c.args.self.now.sides.space c.args.known.now.left c.args.self.now.sides.swap _ _ _ _ _ (handed c.args.known.now.differs _ _ refl c.first_difference-d.ensures c.if-d-eq0.false) _ _ c.kinds-k.ensures.left c.kinds-k.ensures.right (both_below c.if-k-lt-LIST.true c.if-j-lt-LIST.true) c.plain_rule.ensures)
 
 pub common-returns-then-j-lt-LIST-clause-stays_tabled : goal.common-returns-then-j-lt-LIST-clause-stays_tabled
 common-returns-then-j-lt-LIST-clause-stays_tabled t c =
@@ -78,15 +78,15 @@ common-returns-then-j-lt-LIST-clause-stays_tabled t c =
 
 pub common-returns-then-j-lt-DICTIONARY-clause-merges_hinted : goal.common-returns-then-j-lt-DICTIONARY-clause-merges_hinted
 common-returns-then-j-lt-DICTIONARY-clause-merges_hinted t c =
-    any_hint _ _ c.args.self.now.sides.swap (coerce_bare c.args.self.now.rules c.args.self.now.sides.space c.args.known.left c.args.self.now.sides.swap _ _ _ _ _ (handed c.args.known.differs _ _ refl c.first_difference-d.ensures c.if-d-eq0.false) _ _ c.kinds-k.ensures.left c.kinds-k.ensures.right (both_below c.if-k-lt-DICTIONARY.true c.if-j-lt-DICTIONARY.true) c.if-known-eq0.false c.nested.ensures.merges_known)
+    any_hint _ _ c.args.self.now.sides.swap (coerce_bare c.args.self.now.rules c.args.self.now.sides.space c.args.known.now.left c.args.self.now.sides.swap _ _ _ _ _ (handed c.args.known.now.differs _ _ refl c.first_difference-d.ensures c.if-d-eq0.false) _ _ c.kinds-k.ensures.left c.kinds-k.ensures.right (both_below c.if-k-lt-DICTIONARY.true c.if-j-lt-DICTIONARY.true) c.if-known-eq0.false c.nested.ensures.merges_known)
 
 pub common-returns-then-is_list_question-clause-merges_hinted : goal.common-returns-then-is_list_question-clause-merges_hinted
 common-returns-then-is_list_question-clause-merges_hinted t c =
-    any_hint _ _ c.args.self.now.sides.swap (coerce_list c.args.self.now.rules c.args.self.now.sides.space c.args.known.left c.args.self.now.sides.swap _ _ _ _ _ (handed c.args.known.differs _ _ refl c.first_difference-d.ensures c.if-d-eq0.false) _ _ (sym c.is_list_question.ensures ∙ c.if-is_list_question.true) c.if-known-eq0.false c.type_union_resolution_coercion.ensures.merges_known)
+    any_hint _ _ c.args.self.now.sides.swap (coerce_list c.args.self.now.rules c.args.self.now.sides.space c.args.known.now.left c.args.self.now.sides.swap _ _ _ _ _ (handed c.args.known.now.differs _ _ refl c.first_difference-d.ensures c.if-d-eq0.false) _ _ (sym c.is_list_question.ensures ∙ c.if-is_list_question.true) c.if-known-eq0.false c.type_union_resolution_coercion.ensures.merges_known)
 
 pub common-returns-clause-merges_hinted : goal.common-returns-clause-merges_hinted
 common-returns-clause-merges_hinted t c =
-    coerce_pair c.args.self.now.rules c.args.self.now.sides.space c.args.known.left c.args.self.now.sides.swap _ _ _ _ _ (handed c.args.known.differs _ _ refl c.first_difference-d.ensures c.if-d-eq0.false) _ _ (sym c.is_list_question.ensures ∙ c.if-is_list_question.false) c.if-known-eq0.false c.unwrap.ensures.merges_hinted
+    coerce_pair c.args.self.now.rules c.args.self.now.sides.space c.args.known.now.left c.args.self.now.sides.swap _ _ _ _ _ (handed c.args.known.now.differs _ _ refl c.first_difference-d.ensures c.if-d-eq0.false) _ _ (sym c.is_list_question.ensures ∙ c.if-is_list_question.false) c.if-known-eq0.false c.unwrap.ensures.merges_hinted
 
 pub entry-returns-in_err-g-clause-stays_tabled : goal.entry-returns-in_err-g-clause-stays_tabled
 entry-returns-in_err-g-clause-stays_tabled t c =
@@ -110,11 +110,11 @@ list_struct-returns-then-not-same_arity-clause-merges_known t c =
 
 pub list_struct-returns-in-Some-clause-merges_known : goal.list_struct-returns-in-Some-clause-merges_known
 list_struct-returns-in-Some-clause-merges_known t c =
-    listed_fed _ _ _ c.args.self.now.sides.swap _ _ _ _ _ _ _ c.heads.ensures.left.0 c.heads.ensures.right.0 c.same_arity.ensures c.if-not-same_arity.false c.args.known.differs _ c.in-Some.ensures.struct_fed c.requires.structs.0 c.requires.structs.1 _ _ (rw c.of_kind.ensures at (rw c.from-shape.ensures at c.under.ensures.under))
+    listed_fed _ _ _ c.args.self.now.sides.swap _ _ _ _ _ _ _ c.heads.ensures.left.0 c.heads.ensures.right.0 c.same_arity.ensures c.if-not-same_arity.false c.args.known.now.differs _ c.in-Some.ensures.struct_fed c.requires.structs.0 c.requires.structs.1 _ _ (rw c.of_kind.ensures at (rw c.from-shape.ensures at c.under.ensures.under))
 
 pub list_struct-returns-in-None-clause-merges_known : goal.list_struct-returns-in-None-clause-merges_known
 list_struct-returns-in-None-clause-merges_known t c =
-    listed_none _ _ _ c.args.self.now.sides.swap _ _ _ _ _ _ _ c.heads.ensures.left.0 c.heads.ensures.right.0 c.same_arity.ensures c.if-not-same_arity.false c.args.known.differs _ c.in-None.ensures.struct_fed
+    listed_none _ _ _ c.args.self.now.sides.swap _ _ _ _ _ _ _ c.heads.ensures.left.0 c.heads.ensures.right.0 c.same_arity.ensures c.if-not-same_arity.false c.args.known.now.differs _ c.in-None.ensures.struct_fed
 
 pub map_coercion-returns-then-a-eq0-clause-merges_known : goal.map_coercion-returns-then-a-eq0-clause-merges_known
 map_coercion-returns-then-a-eq0-clause-merges_known t c =
@@ -126,27 +126,27 @@ map_coercion-entry-requires t c =
 
 pub map_coercion-returns-clause-merges_known : goal.map_coercion-returns-clause-merges_known
 map_coercion-returns-clause-merges_known t c =
-    map_on _ _ _ _ _ _ _ _ _ _ _ c.heads.ensures.left.0 c.heads.ensures.right.0 c.requires.room.0 c.requires.room.1 c.if-self-at.false _ _ _ _ c.are_sorted.ensures c.if-a-eq0.false c.if-b-eq0.false (rw c.of_kind.ensures at (rw c.from.ensures at c.lay.ensures)) c.args.known.differs _ c.entry.ensures.merges_field
+    map_on _ _ _ _ _ _ _ _ _ _ _ c.heads.ensures.left.0 c.heads.ensures.right.0 c.requires.room.0 c.requires.room.1 c.if-self-at.false _ _ _ _ c.are_sorted.ensures c.if-a-eq0.false c.if-b-eq0.false (rw c.of_kind.ensures at (rw c.from.ensures at c.lay.ensures)) c.args.known.now.differs _ c.entry.ensures.merges_field
 
 pub nested-returns-then-is_list-2-clause-merges_known : goal.nested-returns-then-is_list-2-clause-merges_known
 nested-returns-then-is_list-2-clause-merges_known t c =
-    nested_list c.args.known.differs _ _ _ _ _ c.args.self.now.sides.swap _ _ _ _ _ c.kinds-k.ensures.left c.kinds-k.ensures.right _ _ (both_true (sym c.is_list.ensures ∙ c.if-is_list.true) (sym c.is_list-then-is_list.ensures ∙ c.if-is_list-2.true)) c.list_coercion.ensures.merges_known
+    nested_list c.args.known.now.differs _ _ _ _ _ c.args.self.now.sides.swap _ _ _ _ _ c.kinds-k.ensures.left c.kinds-k.ensures.right _ _ (both_true (sym c.is_list.ensures ∙ c.if-is_list.true) (sym c.is_list-then-is_list.ensures ∙ c.if-is_list-2.true)) c.list_coercion.ensures.merges_known
 
 pub nested-returns-then-is_list_question-clause-merges_known : goal.nested-returns-then-is_list_question-clause-merges_known
 nested-returns-then-is_list_question-clause-merges_known t c =
-    nested_listed c.args.known.differs _ _ _ _ _ c.args.self.now.sides.swap _ _ _ _ _ c.kinds-k.ensures.left c.kinds-k.ensures.right _ _ (elim c.else-is_list.branch [ nested-else-is_list-via-then-is_list+else-is_list-2 w ↦ right_false _ (sym w.is_list-then-is_list.ensures ∙ w.if-is_list-2.false) | nested-else-is_list-via-else-is_list w ↦ left_false _ (sym c.is_list.ensures ∙ w.if-is_list.false) ]) (both_are c.if-k-eq-STRUCT.true c.if-j-eq-STRUCT.true) (sym c.is_list_question.ensures ∙ c.if-is_list_question.true) c.list_struct.ensures.merges_known
+    nested_listed c.args.known.now.differs _ _ _ _ _ c.args.self.now.sides.swap _ _ _ _ _ c.kinds-k.ensures.left c.kinds-k.ensures.right _ _ (elim c.else-is_list.branch [ nested-else-is_list-via-then-is_list+else-is_list-2 w ↦ right_false _ (sym w.is_list-then-is_list.ensures ∙ w.if-is_list-2.false) | nested-else-is_list-via-else-is_list w ↦ left_false _ (sym c.is_list.ensures ∙ w.if-is_list.false) ]) (both_are c.if-k-eq-STRUCT.true c.if-j-eq-STRUCT.true) (sym c.is_list_question.ensures ∙ c.if-is_list_question.true) c.list_struct.ensures.merges_known
 
 pub nested-returns-then-j-eq-STRUCT-clause-merges_known : goal.nested-returns-then-j-eq-STRUCT-clause-merges_known
 nested-returns-then-j-eq-STRUCT-clause-merges_known t c =
-    nested_struct c.args.known.differs _ _ _ _ _ c.args.self.now.sides.swap _ _ _ _ _ c.kinds-k.ensures.left c.kinds-k.ensures.right _ _ (elim c.else-is_list.branch [ nested-else-is_list-via-then-is_list+else-is_list-2 w ↦ right_false _ (sym w.is_list-then-is_list.ensures ∙ w.if-is_list-2.false) | nested-else-is_list-via-else-is_list w ↦ left_false _ (sym c.is_list.ensures ∙ w.if-is_list.false) ]) (both_are c.if-k-eq-STRUCT.true c.if-j-eq-STRUCT.true) (sym c.is_list_question.ensures ∙ c.if-is_list_question.false) c.struct_coercion.ensures.merges_known
+    nested_struct c.args.known.now.differs _ _ _ _ _ c.args.self.now.sides.swap _ _ _ _ _ c.kinds-k.ensures.left c.kinds-k.ensures.right _ _ (elim c.else-is_list.branch [ nested-else-is_list-via-then-is_list+else-is_list-2 w ↦ right_false _ (sym w.is_list-then-is_list.ensures ∙ w.if-is_list-2.false) | nested-else-is_list-via-else-is_list w ↦ left_false _ (sym c.is_list.ensures ∙ w.if-is_list.false) ]) (both_are c.if-k-eq-STRUCT.true c.if-j-eq-STRUCT.true) (sym c.is_list_question.ensures ∙ c.if-is_list_question.false) c.struct_coercion.ensures.merges_known
 
 pub nested-returns-then-j-eq-MAP-clause-merges_known : goal.nested-returns-then-j-eq-MAP-clause-merges_known
 nested-returns-then-j-eq-MAP-clause-merges_known t c =
-    nested_map c.args.known.differs _ _ _ _ _ c.args.self.now.sides.swap _ _ _ _ _ c.kinds-k.ensures.left c.kinds-k.ensures.right _ _ (elim c.else-is_list.branch [ nested-else-is_list-via-then-is_list+else-is_list-2 w ↦ right_false _ (sym w.is_list-then-is_list.ensures ∙ w.if-is_list-2.false) | nested-else-is_list-via-else-is_list w ↦ left_false _ (sym c.is_list.ensures ∙ w.if-is_list.false) ]) (not_both c.else-k-eq-STRUCT.either) (both_are c.if-k-eq-MAP.true c.if-j-eq-MAP.true) c.map_coercion.ensures.merges_known
+    nested_map c.args.known.now.differs _ _ _ _ _ c.args.self.now.sides.swap _ _ _ _ _ c.kinds-k.ensures.left c.kinds-k.ensures.right _ _ (elim c.else-is_list.branch [ nested-else-is_list-via-then-is_list+else-is_list-2 w ↦ right_false _ (sym w.is_list-then-is_list.ensures ∙ w.if-is_list-2.false) | nested-else-is_list-via-else-is_list w ↦ left_false _ (sym c.is_list.ensures ∙ w.if-is_list.false) ]) (not_both c.else-k-eq-STRUCT.either) (both_are c.if-k-eq-MAP.true c.if-j-eq-MAP.true) c.map_coercion.ensures.merges_known
 
 pub nested-returns-clause-merges_known : goal.nested-returns-clause-merges_known
 nested-returns-clause-merges_known t c =
-    nested_plain c.args.known.differs _ _ _ _ _ c.args.self.now.sides.swap _ _ _ _ _ c.kinds-k.ensures.left c.kinds-k.ensures.right _ _ (elim c.else-is_list.branch [ nested-else-is_list-via-then-is_list+else-is_list-2 w ↦ right_false _ (sym w.is_list-then-is_list.ensures ∙ w.if-is_list-2.false) | nested-else-is_list-via-else-is_list w ↦ left_false _ (sym c.is_list.ensures ∙ w.if-is_list.false) ]) (not_both c.else-k-eq-STRUCT.either) (not_both c.else-k-eq-MAP.either) c.plain_rule.ensures
+    nested_plain c.args.known.now.differs _ _ _ _ _ c.args.self.now.sides.swap _ _ _ _ _ c.kinds-k.ensures.left c.kinds-k.ensures.right _ _ (elim c.else-is_list.branch [ nested-else-is_list-via-then-is_list+else-is_list-2 w ↦ right_false _ (sym w.is_list-then-is_list.ensures ∙ w.if-is_list-2.false) | nested-else-is_list-via-else-is_list w ↦ left_false _ (sym c.is_list.ensures ∙ w.if-is_list.false) ]) (not_both c.else-k-eq-STRUCT.either) (not_both c.else-k-eq-MAP.either) c.plain_rule.ensures
 
 pub nested-returns-clause-stays_tabled : goal.nested-returns-clause-stays_tabled
 nested-returns-clause-stays_tabled t c =
@@ -154,31 +154,31 @@ nested-returns-clause-stays_tabled t c =
 
 pub type_union_resolution_coercion-returns-then-k-eq-DICTIONARY-clause-merges_known : goal.type_union_resolution_coercion-returns-then-k-eq-DICTIONARY-clause-merges_known
 type_union_resolution_coercion-returns-then-k-eq-DICTIONARY-clause-merges_known t c =
-    resolve_dictionary c.args.known.differs _ _ _ _ _ c.args.self.now.sides.swap _ _ _ _ _ c.kinds-k.ensures.left c.kinds-k.ensures.right _ _ (one_is c.then-k-eq-DICTIONARY.either) c.resolve_wrapper.ensures.merges_known
+    resolve_dictionary c.args.known.now.differs _ _ _ _ _ c.args.self.now.sides.swap _ _ _ _ _ c.kinds-k.ensures.left c.kinds-k.ensures.right _ _ (one_is c.then-k-eq-DICTIONARY.either) c.resolve_wrapper.ensures.merges_known
 
 pub type_union_resolution_coercion-returns-then-k-eq-RUN_END_ENCODED-clause-merges_known : goal.type_union_resolution_coercion-returns-then-k-eq-RUN_END_ENCODED-clause-merges_known
 type_union_resolution_coercion-returns-then-k-eq-RUN_END_ENCODED-clause-merges_known t c =
-    resolve_runs c.args.known.differs _ _ _ _ _ c.args.self.now.sides.swap _ _ _ _ _ c.kinds-k.ensures.left c.kinds-k.ensures.right _ _ (none_is c.if-k-eq-DICTIONARY.false c.if-j-eq-DICTIONARY.false) (one_is c.then-k-eq-RUN_END_ENCODED.either) c.resolve_wrapper-then-k-eq-RUN_END_ENCODED.ensures.merges_known
+    resolve_runs c.args.known.now.differs _ _ _ _ _ c.args.self.now.sides.swap _ _ _ _ _ c.kinds-k.ensures.left c.kinds-k.ensures.right _ _ (none_is c.if-k-eq-DICTIONARY.false c.if-j-eq-DICTIONARY.false) (one_is c.then-k-eq-RUN_END_ENCODED.either) c.resolve_wrapper-then-k-eq-RUN_END_ENCODED.ensures.merges_known
 
 pub type_union_resolution_coercion-returns-clause-merges_known : goal.type_union_resolution_coercion-returns-clause-merges_known
 type_union_resolution_coercion-returns-clause-merges_known t c =
-    resolve_nested c.args.known.differs _ _ _ _ _ c.args.self.now.sides.swap _ _ _ _ _ c.kinds-k.ensures.left c.kinds-k.ensures.right _ _ (none_is c.if-k-eq-DICTIONARY.false c.if-j-eq-DICTIONARY.false) (none_is c.if-k-eq-RUN_END_ENCODED.false c.if-j-eq-RUN_END_ENCODED.false) c.nested.ensures.merges_known
+    resolve_nested c.args.known.now.differs _ _ _ _ _ c.args.self.now.sides.swap _ _ _ _ _ c.kinds-k.ensures.left c.kinds-k.ensures.right _ _ (none_is c.if-k-eq-DICTIONARY.false c.if-j-eq-DICTIONARY.false) (none_is c.if-k-eq-RUN_END_ENCODED.false c.if-j-eq-RUN_END_ENCODED.false) c.nested.ensures.merges_known
 
 pub resolve_wrapper-returns-then-j-kind-clause-merges_known : goal.resolve_wrapper-returns-then-j-kind-clause-merges_known
 resolve_wrapper-returns-then-j-kind-clause-merges_known t c =
-    wrap_both c.args.known.differs _ _ _ c.args.self.now.sides.swap _ _ _ _ _ c.kinds-k.ensures.left c.kinds-k.ensures.right c.requires.wrapper _ _ c.if-k-kind.true c.if-j-kind.true c.both_parts.ensures.merges_known
+    wrap_both c.args.known.now.differs _ _ _ c.args.self.now.sides.swap _ _ _ _ _ c.kinds-k.ensures.left c.kinds-k.ensures.right c.requires.wrapper _ _ c.if-k-kind.true c.if-j-kind.true c.both_parts.ensures.merges_known
 
 pub resolve_wrapper-returns-then-k-kind-clause-merges_known : goal.resolve_wrapper-returns-then-k-kind-clause-merges_known
 resolve_wrapper-returns-then-k-kind-clause-merges_known t c =
-    wrap_left c.args.known.differs _ _ _ c.args.self.now.sides.swap _ _ _ _ _ c.kinds-k.ensures.left c.kinds-k.ensures.right c.requires.wrapper _ _ c.if-k-kind.true c.if-j-kind.false (any_known _ c.args.self.now.sides.swap c.rewrapped.ensures.merges)
+    wrap_left c.args.known.now.differs _ _ _ c.args.self.now.sides.swap _ _ _ _ _ c.kinds-k.ensures.left c.kinds-k.ensures.right c.requires.wrapper _ _ c.if-k-kind.true c.if-j-kind.false (any_known _ c.args.self.now.sides.swap c.rewrapped.ensures.merges)
 
 pub resolve_wrapper-returns-then-j-kind-2-clause-merges_known : goal.resolve_wrapper-returns-then-j-kind-2-clause-merges_known
 resolve_wrapper-returns-then-j-kind-2-clause-merges_known t c =
-    wrap_right c.args.known.differs _ _ _ c.args.self.now.sides.swap _ _ _ _ _ c.kinds-k.ensures.left c.kinds-k.ensures.right c.requires.wrapper _ _ c.if-k-kind.false c.if-j-kind-2.true (rw c.swapped.ensures at c.rewrapped-then-j-kind-2.ensures.merges)
+    wrap_right c.args.known.now.differs _ _ _ c.args.self.now.sides.swap _ _ _ _ _ c.kinds-k.ensures.left c.kinds-k.ensures.right c.requires.wrapper _ _ c.if-k-kind.false c.if-j-kind-2.true (rw c.swapped.ensures at c.rewrapped-then-j-kind-2.ensures.merges)
 
 pub resolve_wrapper-returns-clause-merges_known : goal.resolve_wrapper-returns-clause-merges_known
 resolve_wrapper-returns-clause-merges_known t c =
-    wrap_none c.args.known.differs _ _ _ c.args.self.now.sides.swap _ _ _ _ _ c.kinds-k.ensures.left c.kinds-k.ensures.right c.requires.wrapper c.if-k-kind.false c.if-j-kind-2.false
+    wrap_none c.args.known.now.differs _ _ _ c.args.self.now.sides.swap _ _ _ _ _ c.kinds-k.ensures.left c.kinds-k.ensures.right c.requires.wrapper c.if-k-kind.false c.if-j-kind-2.false
 
 pub rewrapped-returns-in_err-a-clause-merges : goal.rewrapped-returns-in_err-a-clause-merges
 rewrapped-returns-in_err-a-clause-merges t c =
@@ -214,19 +214,19 @@ rewrapped-returns-clause-stays_tabled t c =
 
 pub rows-returns-then-l-eq0-clause-rowed : goal.rows-returns-then-l-eq0-clause-rowed
 rows-returns-then-l-eq0-clause-rowed t c =
-    rows_end c.args.known.differs _ _ c.args.self.now.sides.space c.args.known.left c.args.self.now.sides.swap _ _ c.args.feed _ _ _ _ _ c.requires.room.1 c.if-l-eq0.true c.row_end.ensures
+    rows_end c.args.known.now.differs _ _ c.args.self.now.sides.space c.args.known.now.left c.args.self.now.sides.swap _ _ c.args.feed _ _ _ _ _ c.requires.room.1 c.if-l-eq0.true c.row_end.ensures
 
 pub rows-returns-then-known-eq0-clause-rowed : goal.rows-returns-then-known-eq0-clause-rowed
 rows-returns-then-known-eq0-clause-rowed t c =
-    rows_spent c.args.known.differs _ _ c.args.self.now.sides.space c.args.known.left c.args.self.now.sides.swap _ _ c.args.feed _ _ _ _ c.if-l-eq0.false c.if-known-eq0.true
+    rows_spent c.args.known.now.differs _ _ c.args.self.now.sides.space c.args.known.now.left c.args.self.now.sides.swap _ _ c.args.feed _ _ _ _ c.if-l-eq0.false c.if-known-eq0.true
 
 pub rows-returns-then-partner-eq0-clause-rowed : goal.rows-returns-then-partner-eq0-clause-rowed
 rows-returns-then-partner-eq0-clause-rowed t c =
-    rows_unfed c.args.known.differs _ _ c.args.self.now.sides.space c.args.known.left c.args.self.now.sides.swap _ _ c.args.feed _ _ _ _ _ c.if-l-eq0.false (rw c.known_names-names.ensures at (c.row-row.ensures c.requires.tabled.partners)) c.if-partner-eq0.true
+    rows_unfed c.args.known.now.differs _ _ c.args.self.now.sides.space c.args.known.now.left c.args.self.now.sides.swap _ _ c.args.feed _ _ _ _ _ c.if-l-eq0.false (rw c.known_names-names.ensures at (c.row-row.ensures c.requires.tabled.partners)) c.if-partner-eq0.true
 
 pub rows-returns-in_err-g-clause-rowed : goal.rows-returns-in_err-g-clause-rowed
 rows-returns-in_err-g-clause-rowed t c =
-    rw (stopped _ c.from_residual.ensures.1) (rw c.in_err-g.ensures.goal (rows_crowded c.args.known.differs _ _ c.args.self.now.sides.space c.args.known.left c.args.self.now.sides.swap _ _ c.args.feed _ _ _ _ c.requires.room.0 c.requires.room.1 _ c.head-x.ensures.0 c.if-l-eq0.false _ (rw c.known_names-names.ensures at (c.row-row.ensures c.requires.tabled.partners)) c.if-partner-eq0.false _ _ c.in_err-g.ensures.named refl))
+    rw (stopped _ c.from_residual.ensures.1) (rw c.in_err-g.ensures.goal (rows_crowded c.args.known.now.differs _ _ c.args.self.now.sides.space c.args.known.now.left c.args.self.now.sides.swap _ _ c.args.feed _ _ _ _ c.requires.room.0 c.requires.room.1 _ c.head-x.ensures.0 c.if-l-eq0.false _ (rw c.known_names-names.ensures at (c.row-row.ensures c.requires.tabled.partners)) c.if-partner-eq0.false _ _ c.in_err-g.ensures.named refl))
 
 pub rows-returns-in_err-g-clause-stays_tabled : goal.rows-returns-in_err-g-clause-stays_tabled
 rows-returns-in_err-g-clause-stays_tabled t c =
@@ -239,17 +239,17 @@ rows-common-requires t c =
 pub rows-returns-in_err-d-clause-rowed : goal.rows-returns-in_err-d-clause-rowed
 rows-returns-in_err-d-clause-rowed t c =
     let one = none_hint c.args.self.now.sides.swap (rw c.in_ok-g.ensures.goal at c.in_err-d.ensures.merges_hinted) in
-    rw (stopped _ c.from_residual-in_err-d.ensures.1) (rows_stopped c.args.known.differs _ _ c.args.self.now.sides.space c.args.known.left c.args.self.now.sides.swap _ _ c.args.feed _ _ _ _ c.requires.room.0 c.requires.room.1 _ c.head-x.ensures.0 c.if-l-eq0.false _ (rw c.known_names-names.ensures at (c.row-row.ensures c.requires.tabled.partners)) c.if-partner-eq0.false _ _ c.in_ok-g.ensures.named _ c.row_known-own.ensures refl _ _ one)
+    rw (stopped _ c.from_residual-in_err-d.ensures.1) (rows_stopped c.args.known.now.differs _ _ c.args.self.now.sides.space c.args.known.now.left c.args.self.now.sides.swap _ _ c.args.feed _ _ _ _ c.requires.room.0 c.requires.room.1 _ c.head-x.ensures.0 c.if-l-eq0.false _ (rw c.known_names-names.ensures at (c.row-row.ensures c.requires.tabled.partners)) c.if-partner-eq0.false _ _ c.in_ok-g.ensures.named _ c.row_known-own.ensures refl _ _ one)
 
 pub rows-returns-in_err-e-clause-rowed : goal.rows-returns-in_err-e-clause-rowed
 rows-returns-in_err-e-clause-rowed t c =
     let one = none_hint c.args.self.now.sides.swap (rw c.in_ok-g.ensures.goal at c.in_ok-d.ensures.merges_hinted) in
-    rw (stopped _ c.from_residual-in_err-e.ensures.1) (rows_rest_stopped c.args.known.differs _ _ c.args.self.now.sides.space c.args.known.left c.args.self.now.sides.swap _ _ c.args.feed _ _ _ _ c.requires.room.0 c.requires.room.1 _ c.head-x.ensures.0 c.if-l-eq0.false _ (rw c.known_names-names.ensures at (c.row-row.ensures c.requires.tabled.partners)) c.if-partner-eq0.false _ _ c.in_ok-g.ensures.named _ c.row_known-own.ensures refl _ _ one _ _ c.in_err-e.ensures.rowed)
+    rw (stopped _ c.from_residual-in_err-e.ensures.1) (rows_rest_stopped c.args.known.now.differs _ _ c.args.self.now.sides.space c.args.known.now.left c.args.self.now.sides.swap _ _ c.args.feed _ _ _ _ c.requires.room.0 c.requires.room.1 _ c.head-x.ensures.0 c.if-l-eq0.false _ (rw c.known_names-names.ensures at (c.row-row.ensures c.requires.tabled.partners)) c.if-partner-eq0.false _ _ c.in_ok-g.ensures.named _ c.row_known-own.ensures refl _ _ one _ _ c.in_err-e.ensures.rowed)
 
 pub rows-returns-clause-rowed : goal.rows-returns-clause-rowed
 rows-returns-clause-rowed t c =
     let one = none_hint c.args.self.now.sides.swap (rw c.in_ok-g.ensures.goal at c.in_ok-d.ensures.merges_hinted) in
-    rows_done c.args.known.differs _ _ c.args.self.now.sides.space c.args.known.left c.args.self.now.sides.swap _ _ c.args.feed _ _ _ _ c.requires.room.0 c.requires.room.1 _ c.head-x.ensures.0 c.if-l-eq0.false _ (rw c.known_names-names.ensures at (c.row-row.ensures c.requires.tabled.partners)) c.if-partner-eq0.false _ _ c.in_ok-g.ensures.named _ c.row_known-own.ensures refl _ _ one _ _ _ _ c.in_ok-e.ensures.rowed c.next_link.ensures.0 c.tie.ensures
+    rows_done c.args.known.now.differs _ _ c.args.self.now.sides.space c.args.known.now.left c.args.self.now.sides.swap _ _ c.args.feed _ _ _ _ c.requires.room.0 c.requires.room.1 _ c.head-x.ensures.0 c.if-l-eq0.false _ (rw c.known_names-names.ensures at (c.row-row.ensures c.requires.tabled.partners)) c.if-partner-eq0.false _ _ c.in_ok-g.ensures.named _ c.row_known-own.ensures refl _ _ one _ _ _ _ c.in_ok-e.ensures.rowed c.next_link.ensures.0 c.tie.ensures
 
 pub rows-returns-clause-stays_tabled : goal.rows-returns-clause-stays_tabled
 rows-returns-clause-stays_tabled t c =
@@ -258,7 +258,7 @@ rows-returns-clause-stays_tabled t c =
 
 pub struct_coercion-returns-then-same_arity-clause-merges_known : goal.struct_coercion-returns-then-same_arity-clause-merges_known
 struct_coercion-returns-then-same_arity-clause-merges_known t c =
-    struct_merged _ _ _ c.args.self.now.sides.swap _ _ _ _ _ _ _ c.heads.ensures.left.0 c.heads.ensures.right.0 c.same_arity.ensures (both_true (both_true (eq-eqb _ 35 c.if-x-eq-STRUCT.true) (eq-eqb _ 35 c.if-y-eq-STRUCT.true)) c.if-same_arity.true) c.args.known.differs _ (fed_or_placed c.unwrap_or-feed.ensures c.struct_feed.ensures.struct_fed) _ _ (rw c.of_kind.ensures at (rw c.from-shape.ensures at c.under.ensures.under))
+    struct_merged _ _ _ c.args.self.now.sides.swap _ _ _ _ _ _ _ c.heads.ensures.left.0 c.heads.ensures.right.0 c.same_arity.ensures (both_true (both_true (eq-eqb _ 35 c.if-x-eq-STRUCT.true) (eq-eqb _ 35 c.if-y-eq-STRUCT.true)) c.if-same_arity.true) c.args.known.now.differs _ (fed_or_placed c.unwrap_or-feed.ensures c.struct_feed.ensures.struct_fed) _ _ (rw c.of_kind.ensures at (rw c.from-shape.ensures at c.under.ensures.under))
 
 pub struct_coercion-returns-clause-merges_known : goal.struct_coercion-returns-clause-merges_known
 struct_coercion-returns-clause-merges_known t c =
@@ -274,15 +274,15 @@ under-returns-clause-under t c =
 
 pub unwrap-returns-in-Err-NoType-clause-merges_hinted : goal.unwrap-returns-in-Err-NoType-clause-merges_hinted
 unwrap-returns-in-Err-NoType-clause-merges_hinted t c =
-    unwrap_nested c.args.known.differs _ _ c.requires.of_pair _ _ c.args.self.now.sides.swap _ _ _ _ _ _ c.requires.room.0 _ _ (rw c.in-Err-NoType.field-0-is at c.in-Err-NoType.ensures.merges_hinted) c.nested.ensures.merges_known
+    unwrap_nested c.args.known.now.differs _ _ c.requires.of_pair _ _ c.args.self.now.sides.swap _ _ _ _ _ _ c.requires.room.0 _ _ (rw c.in-Err-NoType.field-0-is at c.in-Err-NoType.ensures.merges_hinted) c.nested.ensures.merges_known
 
 pub unwrap-returns-in-Ok-clause-merges_hinted : goal.unwrap-returns-in-Ok-clause-merges_hinted
 unwrap-returns-in-Ok-clause-merges_hinted t c =
-    unwrap_done c.args.known.differs _ _ c.requires.of_pair _ _ c.args.self.now.sides.swap _ _ _ _ _ _ _ c.in-Ok.ensures.merges_hinted
+    unwrap_done c.args.known.now.differs _ _ c.requires.of_pair _ _ c.args.self.now.sides.swap _ _ _ _ _ _ _ c.in-Ok.ensures.merges_hinted
 
 pub unwrap-returns-in-Err-Full-clause-merges_hinted : goal.unwrap-returns-in-Err-Full-clause-merges_hinted
 unwrap-returns-in-Err-Full-clause-merges_hinted t c =
-    unwrap_full c.args.known.differs _ _ c.requires.of_pair _ _ c.args.self.now.sides.swap _ _ _ _ _ _ (rw c.in-Err-Full.field-0-is at c.in-Err-Full.ensures.merges_hinted)
+    unwrap_full c.args.known.now.differs _ _ c.requires.of_pair _ _ c.args.self.now.sides.swap _ _ _ _ _ _ (rw c.in-Err-Full.field-0-is at c.in-Err-Full.ensures.merges_hinted)
 
 pub wrapper-returns-in_default-clause-merges_hinted : goal.wrapper-returns-in_default-clause-merges_hinted
 wrapper-returns-in_default-clause-merges_hinted t c =
@@ -290,7 +290,7 @@ wrapper-returns-in_default-clause-merges_hinted t c =
 
 pub wrapper-returns-then-j-kind-clause-merges_hinted : goal.wrapper-returns-then-j-kind-clause-merges_hinted
 wrapper-returns-then-j-kind-clause-merges_hinted t c =
-    way_merged c.args.self.now.rules _ _ _ c.args.self.now.sides.swap _ _ _ _ _ c.in-Some.ensures _ _ (wrapper_both _ _ _ c.args.self.now.sides.swap _ _ _ _ _ c.kinds-k.ensures.left c.kinds-k.ensures.right (c.in-Some.ensures.wrapper) _ _ c.args.self.now.rules.mask c.args.known.hint c.in-Some.t.hint (c.in-Some.ensures.on c.args.self.now.sides.space) c.args.known.differs _ c.value-a.ensures c.right_value-b.ensures c.if-k-kind.true c.if-j-kind.true c.row_known-own.ensures c.common.ensures.merges_hinted)
+    way_merged c.args.self.now.rules _ _ _ c.args.self.now.sides.swap _ _ _ _ _ c.in-Some.ensures _ _ (wrapper_both _ _ _ c.args.self.now.sides.swap _ _ _ _ _ c.kinds-k.ensures.left c.kinds-k.ensures.right (c.in-Some.ensures.wrapper) _ _ c.args.self.now.rules.mask c.args.known.now.hint c.in-Some.t.hint (c.in-Some.ensures.on c.args.self.now.sides.space) c.args.known.now.differs _ c.value-a.ensures c.right_value-b.ensures c.if-k-kind.true c.if-j-kind.true c.row_known-own.ensures c.common.ensures.merges_hinted)
 
 pub wrapper-returns-then-same_sides-clause-merges_hinted : goal.wrapper-returns-then-same_sides-clause-merges_hinted
 wrapper-returns-then-same_sides-clause-merges_hinted t c =
@@ -302,7 +302,7 @@ wrapper-returns-then-same_sides-clause-stays_tabled t c =
 
 pub wrapper-returns-then-k-kind-clause-merges_hinted : goal.wrapper-returns-then-k-kind-clause-merges_hinted
 wrapper-returns-then-k-kind-clause-merges_hinted t c =
-    way_merged c.args.self.now.rules _ _ _ c.args.self.now.sides.swap _ _ _ _ _ c.in-Some.ensures _ _ (wrapper_left _ _ _ c.args.self.now.sides.swap _ _ _ _ _ c.kinds-k.ensures.left c.kinds-k.ensures.right (c.in-Some.ensures.wrapper) _ _ c.if-k-kind.true c.if-j-kind.false c.value-a.ensures c.same_sides.ensures c.args.self.now.rules.mask c.args.known.hint c.in-Some.t.hint (c.in-Some.ensures.on c.args.self.now.sides.space) c.args.known.differs c.if-same_sides.false c.common-then-k-kind.ensures.merges_hinted)
+    way_merged c.args.self.now.rules _ _ _ c.args.self.now.sides.swap _ _ _ _ _ c.in-Some.ensures _ _ (wrapper_left _ _ _ c.args.self.now.sides.swap _ _ _ _ _ c.kinds-k.ensures.left c.kinds-k.ensures.right (c.in-Some.ensures.wrapper) _ _ c.if-k-kind.true c.if-j-kind.false c.value-a.ensures c.same_sides.ensures c.args.self.now.rules.mask c.args.known.now.hint c.in-Some.t.hint (c.in-Some.ensures.on c.args.self.now.sides.space) c.args.known.now.differs c.if-same_sides.false c.common-then-k-kind.ensures.merges_hinted)
 
 pub wrapper-returns-then-same_sides-2-clause-merges_hinted : goal.wrapper-returns-then-same_sides-2-clause-merges_hinted
 wrapper-returns-then-same_sides-2-clause-merges_hinted t c =
@@ -314,7 +314,7 @@ wrapper-returns-then-same_sides-2-clause-stays_tabled t c =
 
 pub wrapper-returns-then-j-kind-2-clause-merges_hinted : goal.wrapper-returns-then-j-kind-2-clause-merges_hinted
 wrapper-returns-then-j-kind-2-clause-merges_hinted t c =
-    way_merged c.args.self.now.rules _ _ _ c.args.self.now.sides.swap _ _ _ _ _ c.in-Some.ensures _ _ (wrapper_right _ _ _ c.args.self.now.sides.swap _ _ _ _ _ c.kinds-k.ensures.left c.kinds-k.ensures.right (c.in-Some.ensures.wrapper) _ _ c.if-k-kind.false c.if-j-kind-2.true c.right_value-b.ensures (rw c.swapped-turned.ensures at c.same_sides-then-j-kind-2.ensures) c.args.self.now.rules.mask c.args.known.hint c.in-Some.t.hint (c.in-Some.ensures.on c.args.self.now.sides.space) c.args.known.differs c.if-same_sides-2.false c.common-then-j-kind-2.ensures.merges_hinted)
+    way_merged c.args.self.now.rules _ _ _ c.args.self.now.sides.swap _ _ _ _ _ c.in-Some.ensures _ _ (wrapper_right _ _ _ c.args.self.now.sides.swap _ _ _ _ _ c.kinds-k.ensures.left c.kinds-k.ensures.right (c.in-Some.ensures.wrapper) _ _ c.if-k-kind.false c.if-j-kind-2.true c.right_value-b.ensures (rw c.swapped-turned.ensures at c.same_sides-then-j-kind-2.ensures) c.args.self.now.rules.mask c.args.known.now.hint c.in-Some.t.hint (c.in-Some.ensures.on c.args.self.now.sides.space) c.args.known.now.differs c.if-same_sides-2.false c.common-then-j-kind-2.ensures.merges_hinted)
 
 pub wrapper-returns-clause-merges_hinted : goal.wrapper-returns-clause-merges_hinted
 wrapper-returns-clause-merges_hinted t c =
