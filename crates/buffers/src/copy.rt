@@ -66,6 +66,16 @@ fn goal_head(h: Head, link: usize, g: Goal, next: usize) -> Head
     }
 }
 
+// Copies the head of record `link`, which has no zone, to a goal, as the last of its chain: no
+// sheet is read, and it cannot fail.
+fn copy_bare(work: &mut [u8], space: Space, h: Head, link: usize, g: Goal) -> Out
+    requires { (Room work.old space × Ready space g) × ((g.at < space.n) × (Bounded h × (zoned_in h ≡ false))) }
+    ensures { CopiedBare space work.old work.new h link g result }
+{
+    put_head(work, space.half + 16 * g.at, goal_head(h, link, g, 0));
+    Ok(g.past(0))
+}
+
 impl Sides<'_> {
     /// Copies the head `h` and the zone of record `link` to a goal, with `next` as its next
     /// link; its parts are to stand behind it. `Full` where the zone does not fit.
@@ -88,19 +98,7 @@ impl Sides<'_> {
         put_head(work, space.half + 16 * g.at, goal_head(h, link, g, next));
         Ok(g.past(zlen))
     }
-}
 
-// Copies the head of record `link`, which has no zone, to a goal, as the last of its chain: no
-// sheet is read, and it cannot fail.
-fn copy_bare(work: &mut [u8], space: Space, h: Head, link: usize, g: Goal) -> Out
-    requires { (Room work.old space × Ready space g) × ((g.at < space.n) × (Bounded h × (zoned_in h ≡ false))) }
-    ensures { CopiedBare space work.old work.new h link g result }
-{
-    put_head(work, space.half + 16 * g.at, goal_head(h, link, g, 0));
-    Ok(g.past(0))
-}
-
-impl Sides<'_> {
     /// `copy_head` for the last record of its chain. Of a record without a zone, as that of a
     /// wrapper, the head alone is written.
     pub fn copy_parent(&self, work: &mut [u8], h: Head, link: usize, g: Goal) -> Out

@@ -1,8 +1,7 @@
 //! Which fields of the right feed those of the left: the pairing of two chains by name or by
 //! place, and a table of the partners that were found.
 //!
-//! In each function of this crate `s` is the buffer of the left chain and `t` that of the
-//! right, of `n` records each; `floor` is a record before the left chain, past which alone a
+//! In each function of this crate `floor` is a record before the left chain, past which alone a
 //! link is followed.
 
 #![tactic(auto)]
@@ -36,6 +35,14 @@ pub struct Chains {
     pub r: usize,
     /// The field of the right at the place of `l`; 0 for none.
     pub p: usize,
+}
+
+// The buffer of the left chain and that of the right, of n records each.
+#[derive(Clone, Copy)]
+pub(crate) struct Sources<'a> {
+    s: &'a [u8],
+    t: &'a [u8],
+    n: usize,
 }
 
 /// What feeds one row: the record of the right that gives the type, 0 for none; whether the field

@@ -9,11 +9,11 @@ ghost use Rattle.partners.specs.Partners.{Partners};
 ghost use Rattle.buffers.specs.declared.Space.{Space};
 ghost use Rattle.partners.specs.Naming.{Indexed, Matched, Walked, StructsFed};
 
-use crate::Feed;
 use crate::index::Index;
 use crate::order::are_found_in_order;
 use crate::search::{are_known, find, is_field_named};
 use crate::table::{key_of, note};
+use crate::{Feed, Sources};
 use buffers::sides::Sides;
 use sheet::label::label_at;
 use sheet::record::head_at;
@@ -22,9 +22,7 @@ use sheet::record::head_at;
 // is an index. Those that are found are noted in a table, from a key on. Where a row of the index
 // is long, the rest are looked for in order.
 fn are_listed(
-    s: &[u8],
-    t: &[u8],
-    n: usize,
+    from: &Sources,
     floor: usize,
     l: usize,
     r: usize,
@@ -32,9 +30,10 @@ fn are_listed(
     key: usize,
     table: &mut [u32],
 ) -> bool
-    requires { ((n ≤ 1024) × (key ≤ 1024)) × Indexed n t.now r index.now.heads index.now.olds }
-    ensures { Matched n s.now t.now floor l r key table.old table.new result }
+    requires { ((from.now.n ≤ 1024) × (key ≤ 1024)) × Indexed from.now.n from.now.t.now r index.now.heads index.now.olds }
+    ensures { Matched from.now.n from.now.s.now from.now.t.now floor l r key table.old table.new result }
 {
+    let Sources { s, t, n } = *from;
     let mut low = floor;
     let mut i = l;
     while low < i {
@@ -43,7 +42,7 @@ fn are_listed(
         }
         let g = head_at(s, i);
         let Some(j) = index.look_up(t, n, label_at(s, n, g.name, g.nlen), r) else {
-            return are_found_in_order(s, t, n, low, i, r, key, table);
+            return are_found_in_order(from, low, i, r, key, table);
         };
         if j == 0 {
             return false;
@@ -57,35 +56,32 @@ fn are_listed(
 
 // The same without an index at hand.
 fn are_indexed(
-    s: &[u8],
-    t: &[u8],
-    n: usize,
+    from: &Sources,
     floor: usize,
     l: usize,
     r: usize,
     key: usize,
     table: &mut [u32],
 ) -> bool
-    requires { (n ≤ 1024) × (key ≤ 1024) }
-    ensures { Matched n s.now t.now floor l r key table.old table.new result }
+    requires { (from.now.n ≤ 1024) × (key ≤ 1024) }
+    ensures { Matched from.now.n from.now.s.now from.now.t.now floor l r key table.old table.new result }
 {
-    are_listed(s, t, n, floor, l, r, &Index::of(t, n, r), key, table)
+    are_listed(from, floor, l, r, &Index::of(from.t, from.n, r), key, table)
 }
 
 // The same by a search for each name. From the fifth name on an index is made.
 fn are_searched(
-    s: &[u8],
-    t: &[u8],
-    n: usize,
+    from: &Sources,
     floor: usize,
     l: usize,
     r: usize,
     key: usize,
     table: &mut [u32],
 ) -> bool
-    requires { (n ≤ 1024) × (key ≤ 1024) }
-    ensures { Matched n s.now t.now floor l r key table.old table.new result }
+    requires { (from.now.n ≤ 1024) × (key ≤ 1024) }
+    ensures { Matched from.now.n from.now.s.now from.now.t.now floor l r key table.old table.new result }
 {
+    let Sources { s, t, n } = *from;
     let mut low = floor;
     let mut i = l;
     let mut k = 0usize;
@@ -94,7 +90,7 @@ fn are_searched(
             return false;
         }
         if k == 4 {
-            return are_indexed(s, t, n, low, i, r, key, table);
+            return are_indexed(from, low, i, r, key, table);
         }
         let g = head_at(s, i);
         let j = find(t, n, label_at(s, n, g.name, g.nlen), r);
@@ -113,9 +109,7 @@ fn are_searched(
 // of t where the names stand in one order, by_name where they are the same in another. Names that
 // stand in order are noted on the way, and the search goes on from the first that does not.
 fn feed_along(
-    s: &[u8],
-    t: &[u8],
-    n: usize,
+    from: &Sources,
     known: Option<usize>,
     by_name: Feed,
     floor: usize,
@@ -124,9 +118,10 @@ fn feed_along(
     key: usize,
     table: &mut [u32],
 ) -> Option<Feed>
-    requires { (n ≤ 1024) × (key ≤ 1024) }
-    ensures { Walked n s.now t.now known by_name floor l r key table.old table.new result }
+    requires { (from.now.n ≤ 1024) × (key ≤ 1024) }
+    ensures { Walked from.now.n from.now.s.now from.now.t.now known by_name floor l r key table.old table.new result }
 {
+    let Sources { s, t, n } = *from;
     let mut low = floor;
     let mut i = l;
     let mut j = r;
@@ -138,7 +133,7 @@ fn feed_along(
         let h = head_at(t, j);
         if !are_known(known, i, j) {
             if !is_field_named(t, n, j, h, label_at(s, n, g.name, g.nlen)) {
-                return are_searched(s, t, n, low, i, r, key, table).then_some(by_name);
+                return are_searched(from, low, i, r, key, table).then_some(by_name);
             }
             note(table, key + i, r, j);
         }
@@ -170,14 +165,16 @@ pub fn struct_feed(
 {
     let (s, t) = sides.slices(work);
     let n = sides.space.n;
+    let from = Sources { s, t, n };
     let key = key_of(sides.swap, 0);
-    feed_along(s, t, n, known, by_name, floor, l, r, key, table)
+    feed_along(&from, known, by_name, floor, l, r, key, table)
 }
 
 // Whether the chains at a link of s and at one of t have as many fields.
-fn are_as_many(s: &[u8], t: &[u8], n: usize, floor: usize, l: usize, r: usize) -> bool
-    ensures { (space : Space) → n ≡ space.n → (a o up : ℕ) (lf rf : Fields) → Held space s.now floor l a o up lf → Chain space t.now r rf → result ≡ eqb (arity lf) (arity rf) }
+fn are_as_many(from: &Sources, floor: usize, l: usize, r: usize) -> bool
+    ensures { (space : Space) → from.now.n ≡ space.n → (a o up : ℕ) (lf rf : Fields) → Held space from.now.s.now floor l a o up lf → Chain space from.now.t.now r rf → result ≡ eqb (arity lf) (arity rf) }
 {
+    let Sources { s, t, n } = *from;
     let mut low = floor;
     let mut i = l;
     let mut j = r;
@@ -200,5 +197,6 @@ pub fn same_arity(sides: &Sides, work: &[u8], floor: usize, l: usize, r: usize) 
     ensures { (a o up : ℕ) (lf rf : Fields) → Held sides.now.space (side sides.now.swap sides.now.sheet.now work.now) floor l a o up lf → Chain sides.now.space (side (not sides.now.swap) sides.now.sheet.now work.now) r rf → result ≡ eqb (arity lf) (arity rf) }
 {
     let (s, t) = sides.slices(work);
-    are_as_many(s, t, sides.space.n, floor, l, r)
+    let n = sides.space.n;
+    are_as_many(&Sources { s, t, n }, floor, l, r)
 }

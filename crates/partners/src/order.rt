@@ -4,6 +4,7 @@
 ghost use Rattle.std.specs.Prelude.{◌≡◌, ◌<◌, ◌≤◌, length};
 ghost use Rattle.partners.specs.Naming.{Finds, Lists, Matched, name_of};
 
+use crate::Sources;
 use crate::search::find;
 use crate::table::note;
 use sheet::label::label_at;
@@ -54,9 +55,7 @@ fn look_up(t: &[u8], n: usize, want: &[u8], r: usize, recs: &[u16]) -> usize
 // Whether each name of the chain at a link of s is one of the chain at r of t, of which records are
 // at hand in the order of their names.
 fn are_among(
-    s: &[u8],
-    t: &[u8],
-    n: usize,
+    from: &Sources,
     floor: usize,
     l: usize,
     r: usize,
@@ -64,9 +63,10 @@ fn are_among(
     key: usize,
     table: &mut [u32],
 ) -> bool
-    requires { ((n ≤ 1024) × (key ≤ 1024)) × Lists n t.now r recs.now }
-    ensures { Matched n s.now t.now floor l r key table.old table.new result }
+    requires { ((from.now.n ≤ 1024) × (key ≤ 1024)) × Lists from.now.n from.now.t.now r recs.now }
+    ensures { Matched from.now.n from.now.s.now from.now.t.now floor l r key table.old table.new result }
 {
+    let Sources { s, t, n } = *from;
     let mut low = floor;
     let mut i = l;
     while low < i {
@@ -89,21 +89,20 @@ fn are_among(
 /// made to be hard, and lies in no other frame.
 #[inline(never)]
 pub(crate) fn are_found_in_order(
-    s: &[u8],
-    t: &[u8],
-    n: usize,
+    from: &Sources,
     floor: usize,
     l: usize,
     r: usize,
     key: usize,
     table: &mut [u32],
 ) -> bool
-    requires { (n ≤ 1024) × (key ≤ 1024) }
-    ensures { Matched n s.now t.now floor l r key table.old table.new result }
+    requires { (from.now.n ≤ 1024) × (key ≤ 1024) }
+    ensures { Matched from.now.n from.now.s.now from.now.t.now floor l r key table.old table.new result }
 {
+    let Sources { s, t, n } = *from;
     let mut recs = [0u16; 1024];
     let k = list(t, n, r, &mut recs);
     let recs = &mut recs[..k];
     recs.sort_unstable_by(|a, b| name_of(t, n, *a).cmp(name_of(t, n, *b)));
-    are_among(s, t, n, floor, l, r, recs, key, table)
+    are_among(from, floor, l, r, recs, key, table)
 }

@@ -10,5 +10,5 @@ list-k-requires c =
 
 pub are_among-requires : goal.are_among-requires
 are_among-requires c =
-    let M = Member c.args.n c.args.t.now c.args.r in
+    let M = Member c.args.from.now.n c.args.from.now.t.now c.args.r in
     (c.requires, All-permutation M _ _ c.sort_unstable_by.ensures.permutation (All-take M c.list-k.result _ c.list-k.ensures.1))
