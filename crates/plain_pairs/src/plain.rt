@@ -1,8 +1,12 @@
 //! Types without parts, as the file has them and as sheets do.
-ghost use Rattle.std.specs.Prelude.{◌≤◌, length, IfSome};
+ghost use Rattle.std.specs.Prelude.{◌≡◌, ◌≤◌, length, IfSome, [], ◌∷◌};
+ghost use Rattle.sheet.specs.Bounds.{Bounded};
 
-use sheet::label::{copy, label_at, same};
+use sheet::Head;
+use sheet::kind::TIMESTAMP;
+use sheet::label::{label_at, same};
 use sheet::reader::Reader;
+use sheet::write::{put, put_head, write_header};
 use std::fmt;
 
 /// Room for the sheet of a pair: its header, two records and two zones.
@@ -45,25 +49,32 @@ impl Plain {
     fn zone(self) -> Option<&'static [u8]>
         ensures { IfSome result (λ zone. length zone.now ≤ 6) }
     {
-        if self.kind == 22 { zone_of(self.zone) } else { None }
+        if self.kind == TIMESTAMP {
+            zone_of(self.zone)
+        } else {
+            None
+        }
     }
 
-    // The record of the type, before record `next` of its chain, where a label would begin at `label`.
-    fn record(self, next: u8, label: u8) -> [u8; 16] {
-        let [flags, low, len] = match self.zone() {
-            None => [0, self.zone, 0],
-            Some([]) => [4, 0, 0],
-            Some(zone) => [4, label, zone.len() as u8],
+    // The head of the type, before record `next` of its chain, where a label would begin at `label`.
+    fn head(self, next: usize, label: usize) -> Head
+        requires { (next ≤ 2) × (label ≤ 6) }
+        ensures { Bounded result }
+    {
+        let (flags, quad) = match self.zone() {
+            None => (0, usize::from(self.zone)),
+            Some([]) => (4, 0),
+            Some(zone) => (4, label + 65536 * zone.len()),
         };
-        let Plain {
-            kind,
-            figure,
-            scale,
-            ..
-        } = self;
-        [
-            kind, flags, figure, scale, low, 0, len, 0, 0, 0, next, 0, 0, 0, 0, 0,
-        ]
+        Head {
+            kind: self.kind,
+            flags,
+            figure: self.figure,
+            scale: self.scale,
+            quad,
+            next,
+            ..Head::default()
+        }
     }
 
     /// The type of a one-type sheet.
@@ -92,16 +103,17 @@ pub fn spelled(left: Plain, right: Plain) -> ([u8; ROOM], usize)
     let behind = 48 + first.len();
     let length = behind + second.len();
     let mut sheet = [0; ROOM];
-    sheet[0] = 3;
-    sheet[2] = (length - 48) as u8;
-    copy(&left.record(2, 0), &mut sheet[16..]);
-    copy(&right.record(0, first.len() as u8), &mut sheet[32..]);
-    copy(first, &mut sheet[48..]);
-    copy(second, &mut sheet[behind..]);
+    write_header(3, length - 48, &mut sheet);
+    put_head(&mut sheet, 16, left.head(2, 0));
+    put_head(&mut sheet, 32, right.head(0, first.len()));
+    put(&mut sheet, 48, first);
+    put(&mut sheet, behind, second);
     (sheet, length)
 }
 
 impl From<[u8; 4]> for Plain {
+    ghost from_gives = { λ b p. b ≡ p.kind ∷ p.figure ∷ p.scale ∷ p.zone ∷ [] };
+
     fn from([kind, figure, scale, zone]: [u8; 4]) -> Plain {
         Plain {
             kind,
