@@ -2,7 +2,7 @@
 use mathlib.Core.Path.{◌≡◌, refl, ap, sym, subst, ◌∙◌}
 use mathlib.Core.Bool.{Bool, true, false, cond, not, ◌&&◌}
 use mathlib.Core.List.{List, [], ◌∷◌, ◌++◌}
-use Prim.Native.Nat.{ℕ, suc, ◌+◌, ◌*◌, ◌<◌, ◌≤◌}
+use Prim.Native.Nat.{ℕ, suc, ◌+◌, ◌*◌, ◌≤◌}
 use native.Mathlib.Omega.{arith}
 use lib.ListN.{length}
 use lib.Dec.{eqb}
@@ -12,9 +12,8 @@ use Rattle.sheet.specs.Read.{start, read}
 use Rattle.sheet.specs.Holds.{Plain, Holds, Leads}
 use Rattle.sheet.specs.Refusals.{Condition, first_met}
 use Rattle.sheet.specs.Refusals as Sheet
-use Rattle.sheet.specs.declared.Head.{Head}
 use Rattle.refusals.specs.Framed.{FramedBy}
-use Rattle.sheet.specs.Reader.{type_at, listed_at, next_at}
+use Rattle.sheet.specs.Reader.{type_at, next_at}
 use Rattle.sheet.specs.Standing.{StandsAt}
 use Rattle.sheet.proofs.Reading.{start_leads}
 use Rattle.sheet.proofs.Stands.{stands_new, stands_end, stands_past, stands_next}
