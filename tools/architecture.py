@@ -30,7 +30,7 @@ GROUPS = [
         "buffers": "compare, copy, lay types",
         "partners": "which field feeds which",
         "wrappers": "Dictionary and run ends",
-        "turns": "the order of the rules",
+        "rule_order": "the order of the rules",
         "merge": "two types into one",
         "resolution": "fold a list, join a pair",
     }),

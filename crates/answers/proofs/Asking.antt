@@ -8,7 +8,7 @@ use native.Mathlib.Omega.{arith}
 use lib.ListN.{length, replicate, length-append, length-replicate}
 use lib.Dec.{eqb, leb}
 use borrow.Author.Tests.{leb-true, le-ltb}
-use Rattle.sheet.specs.Tests.{between}
+use Rattle.sheet.specs.Booleans.{between}
 use Rattle.sheet.specs.Kind.{is_kind}
 use Rattle.sheet.specs.Types.{Fields, arity, count, labels}
 use Rattle.sheet.specs.Head.{bytes_of}
@@ -17,7 +17,7 @@ use Rattle.sheet.specs.Names.{repeats, names_differ}
 use Rattle.sheet.specs.Carried.{FieldsRight, Carried}
 use Rattle.sheet.specs.Holds.{Plain}
 use Rattle.sheet.specs.Refusals as Sheet
-use Rattle.sheet.proofs.Tests.{and_snd, all_cons, all_nil}
+use Rattle.sheet.proofs.Booleans.{and_snd, all_cons, all_nil}
 use Rattle.sheet.proofs.Chains.{encode_length}
 use Rattle.sheet.proofs.Carrying.{carried_read, carried_accepted}
 use Rattle.coercion.specs.Data.{DataType, plain, types_of}

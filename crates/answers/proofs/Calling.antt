@@ -17,7 +17,7 @@ use Rattle.sheet.specs.Refusals as Sheet
 use Rattle.sheet.specs.declared.Refusal.{Refusal}
 use Rattle.sheet.specs.declared.Refusal.TheVariants.{Torn}
 use Rattle.refusals.proofs.Verdicts.{says_torn, number_some}
-use Rattle.sheet.proofs.Tests.{or_fst, or_snd}
+use Rattle.sheet.proofs.Booleans.{or_fst, or_snd}
 use Rattle.sheet.proofs.Accepted.{accepted_carried}
 use Rattle.sheet.proofs.Chains.{encode_length}
 use Rattle.coercion.specs.Data.{DataType, single, types_of}
@@ -27,12 +27,12 @@ use Rattle.coercion.specs.declared.Question.{Question}
 use Rattle.coercion.specs.declared.Rules.{Rules}
 use Rattle.buffers.specs.Region.{Room, Inside, Wrote}
 use Rattle.buffers.specs.declared.Space.{Space}
-use Rattle.buffers.specs.declared.Spot.{Spot}
-use Rattle.buffers.specs.Out.{Out}
+use Rattle.buffers.specs.declared.Place.{Place}
+use Rattle.buffers.specs.Written.{Written}
 use Rattle.std.specs.Prelude.{Ok, Err}
 use Rattle.buffers.specs.declared.Failure.{Failure}
 use Rattle.buffers.specs.declared.Failure.TheVariants.{NoType, Full}
-use Rattle.resolution.specs.Reached.{front, Listed, Fits, AnswerIs, Reached}
+use Rattle.resolution.specs.Reached.{front, ListedTypes, Fits, AnswerIs, Reached}
 use Rattle.answers.specs.Call.{Call, bad_mask, bad_pair, refusal, refused, nothing, written, Outcome, cleared, settled, outcome}
 use Rattle.answers.specs.declared.Refusal as Own
 use Rattle.answers.specs.Code as Code
@@ -94,7 +94,7 @@ module _ (rules : Rules) (s : List ℕ) (out w : List ℕ) (space : Space) (plai
         inside = spared.work;
       }
 
-  listed : Listed space s 0 (start space.n) (read s)
+  listed : ListedTypes space s 0 (start space.n) (read s)
   listed =
       let carried = accepted_carried s plain measured.unrefused in
       record {
@@ -115,17 +115,17 @@ module _ (rules : Rules) (s : List ℕ) (out w : List ℕ) (space : Space) (plai
   found = answer_of rules.question rules (types_of (read s))
 
   module _ (v : List ℕ) where
-    abbrev Reach : Out → Type 0
+    abbrev Reach : Written → Type 0
     Reach o = Reached (answer_of rules.question rules) space s w v 0 (start space.n) o
 
-    done_type : (d : Spot) → Reach (Ok d) → (t : DataType) × ((found ≡ Some t) × Wrote space v front d (single t))
+    done_type : (d : Place) → Reach (Ok d) → (t : DataType) × ((found ≡ Some t) × Wrote space v front d (single t))
     done_type d r = go found refl (r.means (read s) listed fits)
       where
         go : (o : Option DataType) → found ≡ o → AnswerIs space v (Ok d) o → (t : DataType) × ((found ≡ Some t) × Wrote space v front d (single t))
         go None e x = absurd x
         go (Some t) e x = (t, (e, x))
 
-    pub done_room : (d : Spot) → Reach (Ok d) → Room v space × (Inside space d × (space.half ≤ length out))
+    pub done_room : (d : Place) → Reach (Ok d) → Room v space × (Inside space d × (space.half ≤ length out))
     done_room d r =
         let f = done_type d r in
         let t = f.0 in
@@ -150,7 +150,7 @@ module _ (rules : Rules) (s : List ℕ) (out w : List ℕ) (space : Space) (plai
         go (Some t) x = absurd x
 
     -- both halves were filled with zeros, and nothing else has changed
-    zeroed_is : {o : Out} {zeros : List ℕ} → Reach o → zeros ≡ replicate (length (take (2 * space.half) v)) 0
+    zeroed_is : {o : Written} {zeros : List ℕ} → Reach o → zeros ≡ replicate (length (take (2 * space.half) v)) 0
         → zeros ++ drop (2 * space.half) v ≡ cleared s w
     zeroed_is r h =
         let n : length (take (2 * space.half) v) ≡ 2 * space.half = length-take-le (2 * space.half) v (omega (arith, spared.work, r.within.long)) in
@@ -164,7 +164,7 @@ module _ (rules : Rules) (s : List ℕ) (out w : List ℕ) (space : Space) (plai
     answered h = rw (accepted_refusal (call_of rules s out w) measured.unrefused ∙ sym unrefused) h
 
     module _ {zeros : List ℕ} (cleared : zeros ≡ replicate (length (take (2 * space.half) v)) 0) where
-      pub type_outcome : (d : Spot) {k : ℕ} {out' : List ℕ} → Reach (Ok d) → (k ≡ 16 * d.at + d.label) × Emits space d v out out'
+      pub type_outcome : (d : Place) {k : ℕ} {out' : List ℕ} → Reach (Ok d) → (k ≡ 16 * d.at + d.label) × Emits space d v out out'
           → record { reply = written k; output = out'; work = zeros ++ drop (2 * space.half) v } ≡ outcome (call_of rules s out w)
       type_outcome d {k} r e =
           let f = done_type d r in

@@ -13,7 +13,7 @@ use Rattle.sheet.proofs.Chains.{records_length, holds_records, holds_labels}
 use Rattle.sheet.specs.Writes.{Put}
 use Rattle.buffers.specs.Region.{Room, Inside, Wrote}
 use Rattle.buffers.specs.declared.Space.{Space}
-use Rattle.buffers.specs.declared.Spot.{Spot}
+use Rattle.buffers.specs.declared.Place.{Place}
 use Rattle.sheet.proofs.Puts.{put_list, put_part}
 use Rattle.buffers.proofs.Frames.{span_frame}
 use Rattle.resolution.specs.Reached.{front}
@@ -41,7 +41,7 @@ puts_front out a b c x y z i j ei ej p q r =
     drop_same n c out long (λ k le. r.above k (omega arith) ∙ q.above k (omega arith) ∙ p.above k (omega arith)) in
     sym (take-append-drop n c) ∙ ap₂ ◌++◌ s.same rest
 
-module _ (space : Space) (d : Spot) (w : List ℕ) (plain : Plain w) (room : Room w space) (inside : Inside space d) (t : Fields) (wrote : Wrote space w front d t) where
+module _ (space : Space) (d : Place) (w : List ℕ) (plain : Plain w) (room : Room w space) (inside : Inside space d) (t : Fields) (wrote : Wrote space w front d t) where
   -- the records and the labels of what was written, as parts of the work space
   records_are : take (space.half + 16 * d.at - (space.half + 16)) (drop (space.half + 16) w) ≡ records 1 0 t
   records_are =

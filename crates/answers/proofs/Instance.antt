@@ -8,7 +8,7 @@ use native.Mathlib.Omega.{arith}
 use lib.ListN.{length, take}
 use lib.Dec.{ltb}
 use borrow.Author.Tests.{ltb-true}
-use Rattle.sheet.specs.Tests.{all_of, one_of, between}
+use Rattle.sheet.specs.Booleans.{all_of, one_of, between}
 use Rattle.sheet.specs.Kind.{is_kind, is_decimal, cap, sized, last_unit, parts_right, names_parts}
 use Rattle.sheet.specs.Types.{arity, count, labels}
 use Rattle.sheet.specs.Head.{head_at}
@@ -16,7 +16,7 @@ use Rattle.sheet.specs.Encode.{records, encode}
 use Rattle.sheet.specs.Read.{walk_from, read}
 use Rattle.sheet.specs.Names.{repeats, names_differ}
 use Rattle.sheet.specs.Refusals.{torn, bad_kind, linked, bad_chain, met, decimal_right, figure_right, size_right, figures_right, record_right, any_wrong, bad_figure, label_right, misplaced, bad_label}
-use Rattle.sheet.proofs.Tests.{and_fst, and_snd}
+use Rattle.sheet.proofs.Booleans.{and_fst, and_snd}
 use Rattle.coercion.specs.Data.{DataType, single, types_of, plain, of_kind, first_of}
 use Rattle.coercion.specs.Same.{same_zone, same_shape, same_fields, same_type}
 use Rattle.coercion.specs.declared.Figures.{Figures}

@@ -3,7 +3,7 @@ use mathlib.Core.Path.{◌≡◌, refl, ap, ap₂, sym, subst, ◌∙◌}
 use mathlib.Core.Logic.{∥∥₁_elim, ∥∥₁_map}
 use mathlib.Core.Bool.{false}
 use mathlib.Core.List.{List, [], ◌∷◌, map, flatten}
-use Rattle.sheet.proofs.Tests.{never}
+use Rattle.sheet.proofs.Booleans.{never}
 use Rattle.coercion.specs.Data.{DataType}
 use Rattle.coercion.specs.Rules.{is_null}
 use Rattle.coercion.specs.Families.{Family, AllIn, SomeIn}

@@ -9,7 +9,7 @@ use lib.Dec.{ltb, eqb}
 use borrow.Author.Tests.{le-ltb, eqb-true, eq-eqb}
 use lib.ListN.{length, take, drop, replicate}
 use lib.Seq.{take_at}
-use Rattle.sheet.specs.Tests.{all_of, one_of, between}
+use Rattle.sheet.specs.Booleans.{all_of, one_of, between}
 use Rattle.sheet.specs.Kind.{is_kind, is_decimal, cap, sized, last_unit, parts_right, names_parts}
 use Rattle.sheet.specs.Types.{arity, count, labels}
 use Rattle.sheet.specs.Head.{head_at}

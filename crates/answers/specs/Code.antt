@@ -9,7 +9,7 @@ use Rattle.coercion.specs.declared.Question.{Question}
 use Rattle.coercion.specs.declared.Rules.{Rules}
 use Rattle.buffers.specs.Region.{Wrote}
 use Rattle.buffers.specs.declared.Space.{Space}
-use Rattle.buffers.specs.declared.Spot.{Spot}
+use Rattle.buffers.specs.declared.Place.{Place}
 use Rattle.resolution.specs.Reached.{front}
 use Rattle.answers.specs.Call.{Call, bad_mask, bad_pair, Reply, refused, nothing, written, Outcome, at_front}
 use Rattle.std.specs.Prelude.{Option, None, Some, Result, Ok, Err}
@@ -70,5 +70,5 @@ later_refusal question sheet mask output work =
     ∷ [])
 
 -- the type that ends at d in the second half of a work space was written to the output
-abbrev pub Emits : Space → Spot → List ℕ → List ℕ → List ℕ → Type 0
+abbrev pub Emits : Space → Place → List ℕ → List ℕ → List ℕ → Type 0
 Emits space d work output after = (t : DataType) → Wrote space work front d (single t) → after ≡ at_front (encode (single t)) output

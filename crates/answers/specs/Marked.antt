@@ -31,8 +31,8 @@ abbrev pub top_with : ℕ → ℕ → List ℕ
 top_with n m = n ∷ 0 ∷ m ∷ 0 ∷ 0 ∷ 0 ∷ 0 ∷ 0 ∷ 0 ∷ 0 ∷ 0 ∷ 0 ∷ 0 ∷ 0 ∷ 0 ∷ 0 ∷ []
 
 abbrev pub row_with : ℕ → ℕ → ℕ → ℕ → ℕ → ℕ → ℕ → ℕ → List ℕ
-row_with kind flags zone zlen first next name nlen =
-    kind ∷ flags ∷ 0 ∷ 0 ∷ zone ∷ 0 ∷ zlen ∷ 0 ∷ first ∷ 0 ∷ next ∷ 0 ∷ name ∷ 0 ∷ nlen ∷ 0 ∷ []
+row_with kind flags zone zlen first next name name_len =
+    kind ∷ flags ∷ 0 ∷ 0 ∷ zone ∷ 0 ∷ zlen ∷ 0 ∷ first ∷ 0 ∷ next ∷ 0 ∷ name ∷ 0 ∷ name_len ∷ 0 ∷ []
 
 -- a question, the bytes of a sheet, and the bytes of the answer's sheet, or none
 pub record Entry : Type 0 where

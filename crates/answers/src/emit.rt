@@ -3,14 +3,14 @@ ghost use Rattle.std.specs.Prelude.{◌≡◌, ◌+◌, ◌*◌, ◌≤◌, leng
 ghost use Rattle.buffers.specs.Region.{Room, Inside};
 ghost use Rattle.answers.specs.Code.{Emits};
 
-use buffers::{Space, Spot};
+use buffers::{Place, Space};
 use sheet::label::copy;
 use sheet::limits::RECORD_BYTES;
 use sheet::write::write_header;
 
 // Writes the one-type sheet of the type that ends at d in the second half of the work space to the front of an
 // output, and says how long it is.
-pub(crate) fn write_type(work: &[u8], space: Space, d: Spot, output: &mut [u8]) -> usize
+pub(crate) fn write_type(work: &[u8], space: Space, d: Place, output: &mut [u8]) -> usize
     requires { Room work.now space × (Inside space d × (space.half ≤ length output.old)) }
     ensures { (result ≡ RECORD_BYTES * d.at + d.label) × Emits space d work.now output.old output.new }
 {

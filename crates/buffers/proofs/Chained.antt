@@ -11,12 +11,12 @@ use Rattle.sheet.specs.Names.{names_differ}
 use Rattle.sheet.specs.Head.{head_at}
 use Rattle.sheet.specs.Holds.{Holds}
 use Rattle.sheet.specs.declared.Head.{Head}
-use Rattle.sheet.proofs.Tests.{all_at}
+use Rattle.sheet.proofs.Booleans.{all_at}
 use Rattle.buffers.specs.Writes.{side}
 use Rattle.buffers.specs.Region.{Room, region, Kept, Held, Inside, Short, Wrote, CopiedRecord, CopiedChain}
 use Rattle.buffers.specs.declared.Space.{Space}
-use Rattle.buffers.specs.declared.Spot.{Spot}
-use Rattle.buffers.specs.Out.{Out}
+use Rattle.buffers.specs.declared.Place.{Place}
+use Rattle.buffers.specs.Written.{Written}
 use Rattle.std.specs.Prelude.{Ok, Err}
 use Rattle.buffers.specs.declared.Failure.{Failure}
 use Rattle.buffers.specs.declared.Failure.TheVariants.{NoType, Full}
@@ -60,7 +60,7 @@ module _ {space : Space} {s : List ℕ} {floor link r o up : ℕ} {name : List �
         differ = all_at _ 2 a.differ;
       }
 
-module _ (space : Space) (s : List ℕ) (swap : Bool) (link : ℕ) (to : Spot) where
+module _ (space : Space) (s : List ℕ) (swap : Bool) (link : ℕ) (to : Place) where
   pub chain_none : (w : List ℕ) → Inside space to → link ≡ 0 → CopiedChain space (side swap s w) w w link to (Ok to)
   unfolding count labels
   chain_none w inside z =
@@ -90,7 +90,7 @@ module _ (space : Space) (s : List ℕ) (swap : Bool) (link : ℕ) (to : Spot) w
         go floor r o up (field name nullable shape parts rest) a =
             inr (omega (arith, c.means floor r o up name nullable shape parts rest a, labels_sum name nullable shape parts rest))
 
-    module _ (v : List ℕ) (d : Spot) (c : CopiedRecord space (side swap s w) w v link to (Ok d)) where
+    module _ (v : List ℕ) (d : Place) (c : CopiedRecord space (side swap s w) w v link to (Ok d)) where
       -- the same links, after the record was written
       first_held : {floor r o up : ℕ} {name : List ℕ} {nullable : Bool} {shape : Shape} {parts rest : Fields}
           → Held space (side swap s w) floor link r o up (field name nullable shape parts rest)
@@ -119,7 +119,7 @@ module _ (space : Space) (s : List ℕ) (swap : Bool) (link : ℕ) (to : Spot) w
               let l = labels_sum name nullable shape parts rest in
               ⊎_elim (λ x. inl (omega (arith, m.0))) (λ x. inr (omega (arith, m.1.0, l))) (b.means link (r + 1) _ shape.kind parts (first_held a))
 
-      module _ (u : List ℕ) (e : Spot) (b : CopiedChain space (side swap s v) v u h.first d (Ok e)) where
+      module _ (u : List ℕ) (e : Place) (b : CopiedChain space (side swap s v) v u h.first d (Ok e)) where
         kept_2 : Kept space w u to.at to.label
         kept_2 = kept_trans c.kept (kept_wider to.at to.label c.grows.1.0 c.grows.1.1 b.kept)
 
@@ -141,7 +141,7 @@ module _ (space : Space) (s : List ℕ) (swap : Bool) (link : ℕ) (to : Spot) w
                 ⊎_elim (λ y. inl (omega (arith, m.0, p.records))) (λ y. inr (omega (arith, m.1.0, p.letters, l)))
                 (k.means link (r + 1 + count parts) _ up rest (next_held u b.kept a))
 
-        rest_done : (x : List ℕ) (f : Spot) → CopiedChain space (side swap s u) u x h.next e (Ok f) → CopiedChain space (side swap s w) w x link to (Ok f)
+        rest_done : (x : List ℕ) (f : Place) → CopiedChain space (side swap s u) u x h.next e (Ok f) → CopiedChain space (side swap s w) w x link to (Ok f)
         unfolding count
         rest_done x f k =
             record {
@@ -177,42 +177,42 @@ module _ (space : Space) (s : List ℕ) (swap : Bool) (link : ℕ) (to : Spot) w
                   );
                 }
 
-        pub chain_on : (o : Out) (x : List ℕ) → CopiedChain space (side swap s u) u x h.next e o → CopiedChain space (side swap s w) w x link to o
+        pub chain_on : (o : Written) (x : List ℕ) → CopiedChain space (side swap s u) u x h.next e o → CopiedChain space (side swap s w) w x link to o
         chain_on (Ok f) x k = rest_done x f k
         chain_on (Err NoType) x k = absurd k.means
         chain_on (Err Full) x k = rest_full x k
 
 -- the same, as the loop over a chain has it
-module _ (space : Space) (s : List ℕ) (swap : Bool) (link : ℕ) (to : Spot) (w : List ℕ) (room : Room w space) (h : Head) (eh : h ≡ head_at (side swap s w) link) (z : ¬ (link ≡ 0)) where
+module _ (space : Space) (s : List ℕ) (swap : Bool) (link : ℕ) (to : Place) (w : List ℕ) (room : Room w space) (h : Head) (eh : h ≡ head_at (side swap s w) link) (z : ¬ (link ≡ 0)) where
   pub chain_stop : (v : List ℕ) (e : Failure) → CopiedRecord space (side swap s w) w v link to (Err e) → CopiedChain space (side swap s w) w v link to (Err e)
   chain_stop v NoType c = absurd c.means
   chain_stop v Full c = chain_full space s swap link to w room h eh z v c
 
-  module _ (v : List ℕ) (d : Spot) (c : CopiedRecord space (side swap s w) w v link to (Ok d)) where
+  module _ (v : List ℕ) (d : Place) (c : CopiedRecord space (side swap s w) w v link to (Ok d)) where
     pub chain_parts_stop : (u : List ℕ) (e : Failure) → CopiedChain space (side swap s v) v u h.first d (Err e) → CopiedChain space (side swap s w) w u link to (Err e)
     chain_parts_stop u NoType b = absurd b.means
     chain_parts_stop u Full b = chain_parts_full space s swap link to w room h eh z v d c u b
 
     -- nothing follows the record
-    pub chain_last : h.next ≡ 0 → (o : Out) (u : List ℕ) → CopiedChain space (side swap s v) v u h.first d o → CopiedChain space (side swap s w) w u link to o
+    pub chain_last : h.next ≡ 0 → (o : Written) (u : List ℕ) → CopiedChain space (side swap s v) v u h.first d o → CopiedChain space (side swap s w) w u link to o
     chain_last q (Ok e) u b = chain_on space s swap link to w room h eh z v d c u e b (Ok e) u (chain_none space s swap h.next e u b.grows.0 q)
     chain_last q (Err e) u b = chain_parts_stop u e b
 
     -- the record has no parts
-    pub chain_plain : h.first ≡ 0 → (o : Out) (x : List ℕ) → CopiedChain space (side swap s v) v x h.next d o → CopiedChain space (side swap s w) w x link to o
+    pub chain_plain : h.first ≡ 0 → (o : Written) (x : List ℕ) → CopiedChain space (side swap s v) v x h.next d o → CopiedChain space (side swap s w) w x link to o
     chain_plain q o x k = chain_on space s swap link to w room h eh z v d c v d (chain_none space s swap h.first d v c.grows.0 q) o x k
 
 -- a turn of that loop: what is copied from link on gives what is copied from start on
-pub record Left (space : Space) (s : List ℕ) (swap : Bool) (start : ℕ) (to : Spot) (w₀ w : List ℕ) (link : ℕ) (spot : Spot) : Type 0 where
+pub record Left (space : Space) (s : List ℕ) (swap : Bool) (start : ℕ) (to : Place) (w₀ w : List ℕ) (link : ℕ) (spot : Place) : Type 0 where
   pub long : length w ≡ length w₀
   pub room : Room w space
   pub inside : Inside space spot
   pub further : to.at ≤ spot.at
-  pub whole : (o : Out) (x : List ℕ) → CopiedChain space (side swap s w) w x link spot o → CopiedChain space (side swap s w₀) w₀ x start to o
+  pub whole : (o : Written) (x : List ℕ) → CopiedChain space (side swap s w) w x link spot o → CopiedChain space (side swap s w₀) w₀ x start to o
 
-pub left_on : {space : Space} {s : List ℕ} {swap : Bool} {start : ℕ} {to : Spot} {w₀ w : List ℕ} {link : ℕ} {spot : Spot} → Left space s swap start to w₀ w link spot
-    → {v : List ℕ} {at label next : ℕ} {d : Spot} → Kept space w v at label → Inside space d → spot.at ≤ d.at
-    → ((o : Out) (x : List ℕ) → CopiedChain space (side swap s v) v x next d o → CopiedChain space (side swap s w) w x link spot o)
+pub left_on : {space : Space} {s : List ℕ} {swap : Bool} {start : ℕ} {to : Place} {w₀ w : List ℕ} {link : ℕ} {spot : Place} → Left space s swap start to w₀ w link spot
+    → {v : List ℕ} {at label next : ℕ} {d : Place} → Kept space w v at label → Inside space d → spot.at ≤ d.at
+    → ((o : Written) (x : List ℕ) → CopiedChain space (side swap s v) v x next d o → CopiedChain space (side swap s w) w x link spot o)
     → Left space s swap start to w₀ v next d
 left_on l k i f g =
     record {

@@ -21,13 +21,13 @@ use Rattle.sheet.proofs.Reading.{flag_zone, quad_length}
 use Rattle.sheet.proofs.Repeating.{head_is}
 use Rattle.sheet.proofs.Carrying.{own_length}
 use Rattle.buffers.specs.Writes.{side, Put}
-use Rattle.buffers.specs.Region.{Room, region, Kept, Held, Inside, moved_link, moved_label, goal_head, Ready, Named, CopiedHead, CopiedBare, CopiedRecord}
-use Rattle.buffers.specs.Goal.{past}
-use Rattle.buffers.specs.Typed.{Chain, goal_at, NamedAt}
+use Rattle.buffers.specs.Region.{Room, region, Kept, Held, Inside, moved_link, moved_label, target_head, Ready, Named, CopiedHead, CopiedBare, CopiedRecord}
+use Rattle.buffers.specs.Target.{past}
+use Rattle.buffers.specs.Typed.{Chain, target_at, NamedAt}
 use Rattle.buffers.specs.declared.Space.{Space}
-use Rattle.buffers.specs.declared.Spot.{Spot}
-use Rattle.buffers.specs.declared.Goal.{Goal}
-use Rattle.buffers.specs.Out.{Out}
+use Rattle.buffers.specs.declared.Place.{Place}
+use Rattle.buffers.specs.declared.Target.{Target}
+use Rattle.buffers.specs.Written.{Written}
 use Rattle.std.specs.Prelude.{Ok, Err}
 use Rattle.buffers.specs.declared.Failure.TheVariants.{NoType, Full}
 use Rattle.buffers.proofs.Sources.{name_short, read_name, read_nullable, read_shape}
@@ -92,13 +92,13 @@ goal_flags false true sorted zone = omega arith
 goal_flags false false sorted zone = omega arith
 
 -- the head of a field, at a goal
-goal_is : (o r up next : ℕ) (name : List ℕ) (nullable : Bool) (shape : Shape) (parts rest : Fields) (g : Goal) (own : List ℕ) → length own ≡ g.nlen
+goal_is : (o r up next : ℕ) (name : List ℕ) (nullable : Bool) (shape : Shape) (parts rest : Fields) (g : Target) (own : List ℕ) → length own ≡ g.name_len
     → FieldRight up name nullable shape parts → o + length name < 65536 → g.at + 1 < 65536
-    → goal_head (head_of o name nullable shape (link_to (r + 1) parts) (link_to (r + 1 + count parts) rest)) r g next
+    → target_head (head_of o name nullable shape (link_to (r + 1) parts) (link_to (r + 1 + count parts) rest)) r g next
     ≡ head_of g.label own g.nullable shape (link_to (g.at + 1) parts) next
 goal_is o r up next name nullable shape parts rest g own e fine h low =
     let q =
-    moved_zone o (g.label + g.nlen) shape.size nullable shape.sorted name shape.zone h fine.own_zone
+    moved_zone o (g.label + g.name_len) shape.size nullable shape.sorted name shape.zone h fine.own_zone
     ∙ ap (λ (k : ℕ). quad_of (g.label + k) shape.size shape.zone) (sym e) in
     let a = moved_link_lem r g.at 1 parts low (omega arith) in
     let c = ap (moved_label g.label) (sym e) ∙ moved_name g.label own in
@@ -110,12 +110,12 @@ goal_is o r up next name nullable shape parts rest g own e fine h low =
       flags = f i;
       figure = shape.figure;
       scale = shape.scale;
-      quad = q i;
+      bytes_4_7 = q i;
       first = a i;
       next = next;
       name = c i;
-      nlen = l i;
-      last = 0;
+      name_len = l i;
+      byte_15 = 0;
     }
 
 zone_bytes_lem : (s : List ℕ) (n : ℕ) (h : Head) → take (cond (zoned_in h) (zone_len h) 0) (drop (16 * n + zone_at h) s) ≡ zone_bytes (zone_of s n h)
@@ -132,14 +132,14 @@ own_labelled space s {floor} {link} {r} {o} {up} {name} {nullable} {shape} {part
     ap labelled (head_is s space.n floor link r o name nullable shape parts rest a.source.leads h e)
     ∙ own_length o name nullable shape (link_to (r + 1) parts) (link_to (r + 1 + count parts) rest) a.source.right.0.own_zone (name_short a.source)
 
-module _ (space : Space) (s w : List ℕ) (swap : Bool) (h : Head) (link : ℕ) (g : Goal) (next : ℕ) (room : Room w space) (ready : Ready space g)
+module _ (space : Space) (s w : List ℕ) (swap : Bool) (h : Head) (link : ℕ) (g : Target) (next : ℕ) (room : Room w space) (ready : Ready space g)
     (zlen : ℕ) (ez : zlen ≡ cond (zoned_in h) (zone_len h) 0) where
   -- the zone of a record that stands
   zone_is : (v : List ℕ) {floor r o up : ℕ} {name : List ℕ} {nullable : Bool} {shape : Shape} {parts rest : Fields}
       → Held space (side swap s v) floor link r o up (field name nullable shape parts rest) → h ≡ head_at (side swap s v) link
-      → take zlen (drop (16 * space.n + h.quad % 65536) (side swap s v)) ≡ zone_bytes shape.zone
+      → take zlen (drop (16 * space.n + h.bytes_4_7 % 65536) (side swap s v)) ≡ zone_bytes shape.zone
   zone_is v a e =
-      ap (λ (k : ℕ). take k (drop (16 * space.n + h.quad % 65536) (side swap s v))) ez ∙ zone_bytes_lem (side swap s v) space.n h
+      ap (λ (k : ℕ). take k (drop (16 * space.n + h.bytes_4_7 % 65536) (side swap s v))) ez ∙ zone_bytes_lem (side swap s v) space.n h
       ∙ ap (λ (x : Shape). zone_bytes x.zone) (read_shape a.source h e)
 
   zone_long : {floor r o up : ℕ} {name : List ℕ} {nullable : Bool} {shape : Shape} {parts rest : Fields}
@@ -148,20 +148,20 @@ module _ (space : Space) (s w : List ℕ) (swap : Bool) (h : Head) (link : ℕ) 
       omega (arith, own_labelled space (side swap s w) h e a, ez, length-append name (zone_bytes shape.zone), ap (λ (x : List ℕ). length x) (read_name a.source h e), name_long a e)
     where
       name_long : {floor r o up : ℕ} {name : List ℕ} {nullable : Bool} {shape : Shape} {parts rest : Fields}
-          → Held space (side swap s w) floor link r o up (field name nullable shape parts rest) → h ≡ head_at (side swap s w) link → h.nlen ≡ length name
+          → Held space (side swap s w) floor link r o up (field name nullable shape parts rest) → h ≡ head_at (side swap s w) link → h.name_len ≡ length name
       name_long {floor} {r} {o} {up} {name} {nullable} {shape} {parts} {rest} a e =
-          ap (λ (x : Head). x.nlen) (head_is (side swap s w) space.n floor link r o name nullable shape parts rest a.source.leads h e)
+          ap (λ (x : Head). x.name_len) (head_is (side swap s w) space.n floor link r o name nullable shape parts rest a.source.leads h e)
 
-  module _ (v₁ v : List ℕ) (lt : g.at < space.n) (fits : g.label + g.nlen + zlen ≤ space.m)
-      (q : Put w v₁ (space.half + 16 * space.n + (g.label + g.nlen)) (take zlen (drop (16 * space.n + h.quad % 65536) (side swap s w))))
-      (x : Head) (ex : x ≡ goal_head h link g next) (c : Put v₁ v (space.half + 16 * g.at) (bytes_of x)) where
-    kept_1 : Kept space w v₁ g.at (g.label + g.nlen)
+  module _ (v₁ v : List ℕ) (lt : g.at < space.n) (fits : g.label + g.name_len + zlen ≤ space.m)
+      (q : Put w v₁ (space.half + 16 * space.n + (g.label + g.name_len)) (take zlen (drop (16 * space.n + h.bytes_4_7 % 65536) (side swap s w))))
+      (x : Head) (ex : x ≡ target_head h link g next) (c : Put v₁ v (space.half + 16 * g.at) (bytes_of x)) where
+    kept_1 : Kept space w v₁ g.at (g.label + g.name_len)
     kept_1 =
-        label_kept space w v₁ g.at (g.label + g.nlen) (g.label + g.nlen) _ ready.records (omega arith)
-        (omega (arith, length-take zlen (drop (16 * space.n + h.quad % 65536) (side swap s w)))) q
+        label_kept space w v₁ g.at (g.label + g.name_len) (g.label + g.name_len) _ ready.records (omega arith)
+        (omega (arith, length-take zlen (drop (16 * space.n + h.bytes_4_7 % 65536) (side swap s w)))) q
 
-    kept : Kept space w v g.at (g.label + g.nlen)
-    kept = kept_trans kept_1 (head_kept space v₁ v g.at (g.label + g.nlen) x lt c)
+    kept : Kept space w v g.at (g.label + g.name_len)
+    kept = kept_trans kept_1 (head_kept space v₁ v g.at (g.label + g.name_len) x lt c)
 
     stands : (floor r o up : ℕ) (name : List ℕ) (nullable : Bool) (shape : Shape) (parts rest : Fields) → Held space (side swap s w) floor link r o up (field name nullable shape parts rest)
         → h ≡ head_at (side swap s w) link → (own : List ℕ) → Named space w g own
@@ -169,16 +169,16 @@ module _ (space : Space) (s w : List ℕ) (swap : Bool) (h : Head) (link : ℕ) 
     stands floor r o up name nullable shape parts rest a e own nm =
         let n = space.n in
         let eh = head_is (side swap s w) n floor link r o name nullable shape parts rest a.source.leads h e in
-        let zone_span : Span v (space.half + 16 * n + (g.label + g.nlen)) (zone_bytes shape.zone) =
+        let zone_span : Span v (space.half + 16 * n + (g.label + g.name_len)) (zone_bytes shape.zone) =
         span_frame {w = v₁} v (zone_bytes shape.zone) c.long (λ j lo hi. c.above j (omega arith))
-        (subst (λ (u : List ℕ). Span v₁ (space.half + 16 * n + (g.label + g.nlen)) u) (zone_is w a e) q.span) in
+        (subst (λ (u : List ℕ). Span v₁ (space.half + 16 * n + (g.label + g.name_len)) u) (zone_is w a e) q.span) in
         let name-span : Span (region space v) (16 * n + g.label) own =
         span_frame {w = region space w} (region space v) own
         (length-drop space.half v ∙ ap (λ (k : ℕ). k - space.half) kept.long ∙ sym (length-drop space.half w))
         (λ j lo hi.
         get_or-drop space.half v j 0 ∙ kept.between (space.half + j) (omega arith) (omega (arith, nm.long)) ∙ sym (get_or-drop space.half w j 0)) nm.span in
         let ex' : x ≡ head_of g.label own g.nullable shape (link_to (g.at + 1) parts) next =
-        ex ∙ ap₂ (λ (y : Head) (k : ℕ). goal_head y k g next) eh a.source.leads.is
+        ex ∙ ap₂ (λ (y : Head) (k : ℕ). target_head y k g next) eh a.source.leads.is
         ∙ goal_is o r up next name nullable shape parts rest g own nm.long a.source.right.0 (name_short a.source)
         (omega (arith, room.few)) in
         record {
@@ -186,10 +186,10 @@ module _ (space : Space) (s w : List ℕ) (swap : Bool) (h : Head) (link : ℕ) 
           label =
               span_join own (zone_bytes shape.zone) name-span
               (span_region space v (16 * n + g.label + length own) (zone_bytes shape.zone)
-              (span_move {i = space.half + 16 * n + (g.label + g.nlen)} (omega (arith, nm.long)) zone_span));
+              (span_move {i = space.half + 16 * n + (g.label + g.name_len)} (omega (arith, nm.long)) zone_span));
         }
 
-    pub head_copied : {d : Spot} → d ≡ past g zlen → CopiedHead space (side swap s w) w v h link g next (Ok d)
+    pub head_copied : {d : Place} → d ≡ past g zlen → CopiedHead space (side swap s w) w v h link g next (Ok d)
     head_copied ed =
         rw ed
         (record {
@@ -202,20 +202,20 @@ module _ (space : Space) (s w : List ℕ) (swap : Bool) (h : Head) (link : ℕ) 
         })
 
 -- a head without a zone, of whatever source
-pub bare_copied : (space : Space) (w v : List ℕ) (h : Head) (link : ℕ) (g : Goal) → Room w space → Ready space g → g.at < space.n → zoned_in h ≡ false
-    → (x : Head) → x ≡ goal_head h link g 0 → Put w v (space.half + 16 * g.at) (bytes_of x) → {d : Spot} → d ≡ past g 0 → CopiedBare space w v h link g (Ok d)
+pub bare_copied : (space : Space) (w v : List ℕ) (h : Head) (link : ℕ) (g : Target) → Room w space → Ready space g → g.at < space.n → zoned_in h ≡ false
+    → (x : Head) → x ≡ target_head h link g 0 → Put w v (space.half + 16 * g.at) (bytes_of x) → {d : Place} → d ≡ past g 0 → CopiedBare space w v h link g (Ok d)
 bare_copied space w v h link g room ready lt z x ex c ed s =
     head_copied space s w false h link g 0 room ready 0 (ap (λ (b : Bool). cond b (zone_len h) 0) (sym z)) w v lt (omega (arith, ready.letters))
-    (put_none w (drop (16 * space.n + h.quad % 65536) s) (space.half + 16 * space.n + (g.label + g.nlen)) (omega (arith, room.half, room.inside, ready.letters))) x ex c ed
+    (put_none w (drop (16 * space.n + h.bytes_4_7 % 65536) s) (space.half + 16 * space.n + (g.label + g.name_len)) (omega (arith, room.half, room.inside, ready.letters))) x ex c ed
 
 -- a record with its name: the name is put, and then the head
-module _ (space : Space) (s w : List ℕ) (swap : Bool) (h : Head) (link : ℕ) (to : Spot) (room : Room w space) (inside : Inside space to) (e : h ≡ head_at (side swap s w) link) where
+module _ (space : Space) (s w : List ℕ) (swap : Bool) (h : Head) (link : ℕ) (to : Place) (room : Room w space) (inside : Inside space to) (e : h ≡ head_at (side swap s w) link) where
   name_long : {floor r o up : ℕ} {name : List ℕ} {nullable : Bool} {shape : Shape} {parts rest : Fields}
-      → Held space (side swap s w) floor link r o up (field name nullable shape parts rest) → length name ≡ h.nlen
+      → Held space (side swap s w) floor link r o up (field name nullable shape parts rest) → length name ≡ h.name_len
   name_long {floor} {r} {o} {up} {name} {nullable} {shape} {parts} {rest} a =
-      sym (ap (λ (x : Head). x.nlen) (head_is (side swap s w) space.n floor link r o name nullable shape parts rest a.source.leads h e))
+      sym (ap (λ (x : Head). x.name_len) (head_is (side swap s w) space.n floor link r o name nullable shape parts rest a.source.leads h e))
 
-  module _ {v₁ : List ℕ} (v : List ℕ) (lt : to.at < space.n) (nm : NamedAt space (side swap s w) w v₁ h to true) {g : Goal} (eg : g ≡ goal_at to h.nlen (nullable_in h))
+  module _ {v₁ : List ℕ} (v : List ℕ) (lt : to.at < space.n) (nm : NamedAt space (side swap s w) w v₁ h to true) {g : Target} (eg : g ≡ target_at to h.name_len (nullable_in h))
       {next : ℕ} (en : next ≡ moved_link h.next link to.at) where
     module _ {floor r o up : ℕ} {name : List ℕ} {nullable : Bool} {shape : Shape} {parts rest : Fields}
         (a : Held space (side swap s w) floor link r o up (field name nullable shape parts rest)) where
@@ -240,7 +240,7 @@ module _ (space : Space) (s w : List ℕ) (swap : Bool) (h : Head) (link : ℕ) 
           ∙ moved_link_lem r to.at (1 + count parts) rest (omega (arith, room.few, inside.records, a.source.leads.inside)) (omega arith)
           ∙ ap (λ (x : ℕ). link_to x rest) {x = to.at + (1 + count parts)} {y = to.at + 1 + count parts} (omega arith)
 
-    copied : (o : Out) → CopiedHead space (side swap s v₁) v₁ v h link (goal_at to h.nlen (nullable_in h)) next o → CopiedRecord space (side swap s w) w v link to o
+    copied : (o : Written) → CopiedHead space (side swap s v₁) v₁ v h link (target_at to h.name_len (nullable_in h)) next o → CopiedRecord space (side swap s w) w v link to o
     copied (Ok d) c =
         record {
           kept = kept_trans nm.kept (kept_wider to.at to.label (omega arith) (omega arith) c.kept);
@@ -270,5 +270,5 @@ module _ (space : Space) (s w : List ℕ) (swap : Bool) (h : Head) (link : ℕ) 
               omega (arith, c.means floor r o up name nullable shape parts rest (held_1 a) (head_1 a), length-append name (zone_bytes shape.zone), name_long a);
         }
 
-    pub record_copied : (o : Out) → CopiedHead space (side swap s v₁) v₁ v h link g next o → CopiedRecord space (side swap s w) w v link to o
+    pub record_copied : (o : Written) → CopiedHead space (side swap s v₁) v₁ v h link g next o → CopiedRecord space (side swap s w) w v link to o
     record_copied o c = copied o (rw eg at c)

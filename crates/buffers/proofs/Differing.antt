@@ -7,11 +7,11 @@ use Prim.Native.Nat.{ℕ, ◌+◌, ◌<◌, ◌≤◌}
 use native.Mathlib.Omega.{arith}
 use lib.Dec.{eqb}
 use borrow.Author.Tests.{ne_eqb, eqb-true, eqb-false}
-use Rattle.sheet.specs.Tests.{all_of, implies}
+use Rattle.sheet.specs.Booleans.{all_of, implies}
 use Rattle.sheet.specs.Types.{Shape, Fields, end, field, count}
 use Rattle.sheet.specs.Encode.{link_to}
 use Rattle.sheet.specs.Names.{same_bytes}
-use Rattle.sheet.proofs.Tests.{and_true, all_at}
+use Rattle.sheet.proofs.Booleans.{and_true, all_at}
 use Rattle.coercion.specs.Data.{DataType}
 use Rattle.coercion.specs.Same.{same_shape, same_fields, same_type}
 use Rattle.buffers.specs.Source.{type_of}

@@ -8,7 +8,7 @@ use lib.ListN.{length, get_or, drop, length-append, length-drop}
 use lib.Seq.{get_or-drop}
 use lib.Dec.{ltb}
 use borrow.Author.Tests.{ltb-true}
-use Rattle.sheet.specs.Tests.{between}
+use Rattle.sheet.specs.Booleans.{between}
 use Rattle.sheet.specs.Kind.{is_kind}
 use Rattle.sheet.specs.Types.{Shape, Fields, end, field, count, own_labels, labels}
 use Rattle.sheet.specs.Head.{head_at, head_from, blank}
@@ -36,12 +36,12 @@ head_moved w v r q f =
       flags = f 1 (omega arith) i;
       figure = f 2 (omega arith) i;
       scale = f 3 (omega arith) i;
-      quad = ap₂ (λ (a b : ℕ). a + 65536 * b) (word 4 (omega arith)) high i;
+      bytes_4_7 = ap₂ (λ (a b : ℕ). a + 65536 * b) (word 4 (omega arith)) high i;
       first = word 8 (omega arith) i;
       next = word 10 (omega arith) i;
       name = word 12 (omega arith) i;
-      nlen = f 14 (omega arith) i;
-      last = f 15 (omega arith) i;
+      name_len = f 14 (omega arith) i;
+      byte_15 = f 15 (omega arith) i;
     }
   where
     at : (i j k : ℕ) → i ≡ 16 * q + k → j ≡ 16 * r + k → k < 16 → get_or v i 0 ≡ get_or w j 0

@@ -16,11 +16,11 @@ use Rattle.sheet.proofs.Spans.{span_join, span_nil, span_move}
 use Rattle.sheet.proofs.Heads.{span_head}
 use Rattle.buffers.specs.Writes.{side, Put}
 use Rattle.buffers.specs.Region.{Room, region, Kept, Held, Ready, Named, moved_label, CopiedHead, CopiedChain}
-use Rattle.buffers.specs.Goal.{past, Laid, LaidPlain, LaidZoned, CopiedType, shape_for, zoned_shape}
+use Rattle.buffers.specs.Target.{past, Laid, LaidPlain, LaidZoned, CopiedType, shape_for, zoned_shape}
 use Rattle.buffers.specs.declared.Space.{Space}
-use Rattle.buffers.specs.declared.Spot.{Spot}
-use Rattle.buffers.specs.declared.Goal.{Goal}
-use Rattle.buffers.specs.Out.{Out}
+use Rattle.buffers.specs.declared.Place.{Place}
+use Rattle.buffers.specs.declared.Target.{Target}
+use Rattle.buffers.specs.Written.{Written}
 use Rattle.std.specs.Prelude.{Ok, Err}
 use Rattle.buffers.specs.declared.Failure.{Failure}
 use Rattle.buffers.specs.declared.Failure.TheVariants.{NoType, Full}
@@ -29,7 +29,7 @@ use Rattle.buffers.proofs.Copying.{span_region, label_kept, head_kept, held_side
 use Rattle.buffers.proofs.Chained.{held_first}
 
 -- the name at a goal stays while what is written comes after it
-pub named_kept : (space : Space) (w v : List ℕ) (at label : ℕ) (g : Goal) {name : List ℕ} → g.label + g.nlen ≤ label → Kept space w v at label → Named space w g name → Named space v g name
+pub named_kept : (space : Space) (w v : List ℕ) (at label : ℕ) (g : Target) {name : List ℕ} → g.label + g.name_len ≤ label → Kept space w v at label → Named space w g name → Named space v g name
 named_kept space w v at label g {name} h k nm =
     record {
       long = nm.long;
@@ -41,15 +41,15 @@ named_kept space w v at label g {name} h k nm =
     }
 
 -- a head without a zone that was put at a goal
-pub head_laid : (space : Space) (w v : List ℕ) (g : Goal) (kind figure scale sz first : ℕ) (sorted : Bool) (a b place : ℕ) → g.at < space.n
-    → a ≡ bit g.nullable → b ≡ bit sorted → place ≡ moved_label g.label g.nlen
+pub head_laid : (space : Space) (w v : List ℕ) (g : Target) (kind figure scale sz first : ℕ) (sorted : Bool) (a b place : ℕ) → g.at < space.n
+    → a ≡ bit g.nullable → b ≡ bit sorted → place ≡ moved_label g.label g.name_len
     → Put w v (space.half + 16 * g.at)
-    (bytes_of (record { kind = kind; flags = a + 2 * b; figure = figure; scale = scale; quad = sz; first = first; next = 0; name = place; nlen = g.nlen; last = 0 }))
+    (bytes_of (record { kind = kind; flags = a + 2 * b; figure = figure; scale = scale; bytes_4_7 = sz; first = first; next = 0; name = place; name_len = g.name_len; byte_15 = 0 }))
     → Laid space w v g (shape_for kind figure scale sz sorted) first
 head_laid space w v g kind figure scale sz first sorted a b place lt ea eb ep p =
     let ef : a + 2 * b ≡ bit g.nullable + (2 * bit sorted + 0) = omega (arith, ea, eb) in
-    let h : Head = record { kind = kind; flags = a + 2 * b; figure = figure; scale = scale; quad = sz; first = first; next = 0; name = place; nlen = g.nlen; last = 0 } in
-    let kept : Kept space w v g.at (g.label + g.nlen) = head_kept space w v g.at (g.label + g.nlen) h lt p in
+    let h : Head = record { kind = kind; flags = a + 2 * b; figure = figure; scale = scale; bytes_4_7 = sz; first = first; next = 0; name = place; name_len = g.name_len; byte_15 = 0 } in
+    let kept : Kept space w v g.at (g.label + g.name_len) = head_kept space w v g.at (g.label + g.name_len) h lt p in
     record {
       kept = kept;
       stands =
@@ -57,15 +57,15 @@ head_laid space w v g kind figure scale sz first sorted a b place lt ea eb ep p 
           let l = sym nm.long in
           let c = ep ∙ ap (moved_label g.label) l ∙ moved_name g.label name in
           let e : h ≡ head_of g.label name g.nullable (shape_for kind figure scale sz sorted) first 0 =
-          λ i. record { kind = kind; flags = ef i; figure = figure; scale = scale; quad = sz; first = first; next = 0; name = c i; nlen = l i; last = 0 } in
+          λ i. record { kind = kind; flags = ef i; figure = figure; scale = scale; bytes_4_7 = sz; first = first; next = 0; name = c i; name_len = l i; byte_15 = 0 } in
           record {
             head = span_head (region space v) g.at h (span_region space v (16 * g.at) (bytes_of h) p.span) ∙ e;
-            label = span_join name [] (named_kept space w v g.at (g.label + g.nlen) g (omega arith) kept nm).span span_nil;
+            label = span_join name [] (named_kept space w v g.at (g.label + g.name_len) g (omega arith) kept nm).span span_nil;
           };
     }
 
-pub plain_laid : (space : Space) (w v : List ℕ) (g : Goal) (kind figure scale : ℕ) → Ready space g → g.at < space.n → Laid space w v g (shape_for kind figure scale 0 false) 0
-    → {d : Spot} → d ≡ past g 0 → LaidPlain space w v g (shape_for kind figure scale 0 false) (Ok d)
+pub plain_laid : (space : Space) (w v : List ℕ) (g : Target) (kind figure scale : ℕ) → Ready space g → g.at < space.n → Laid space w v g (shape_for kind figure scale 0 false) 0
+    → {d : Place} → d ≡ past g 0 → LaidPlain space w v g (shape_for kind figure scale 0 false) (Ok d)
 unfolding count labels
 plain_laid space w v g kind figure scale ready lt l ed =
     rw ed
@@ -85,24 +85,24 @@ plain_laid space w v g kind figure scale ready lt l ed =
     })
 
 -- the head of a type with a zone, at a goal
-abbrev pub zoned_head : Goal → ℕ → ℕ → List ℕ → Head
+abbrev pub zoned_head : Target → ℕ → ℕ → List ℕ → Head
 zoned_head g kind figure zone =
     record {
       kind = kind;
       flags = bit g.nullable + 4;
       figure = figure;
       scale = 0;
-      quad = moved_label (g.label + g.nlen) (length zone) + 65536 * length zone;
+      bytes_4_7 = moved_label (g.label + g.name_len) (length zone) + 65536 * length zone;
       first = 0;
       next = 0;
-      name = moved_label g.label g.nlen;
-      nlen = g.nlen;
-      last = 0;
+      name = moved_label g.label g.name_len;
+      name_len = g.name_len;
+      byte_15 = 0;
     }
 
-pub zoned_head_lem : (g : Goal) (kind figure : ℕ) (zone : List ℕ) (flags off place : ℕ) → flags ≡ bit g.nullable → off ≡ moved_label (g.label + g.nlen) (length zone)
-    → place ≡ moved_label g.label g.nlen
-    → record { kind = kind; flags = flags + 4; figure = figure; scale = 0; quad = off + 65536 * length zone; first = 0; next = 0; name = place; nlen = g.nlen; last = 0 }
+pub zoned_head_lem : (g : Target) (kind figure : ℕ) (zone : List ℕ) (flags off place : ℕ) → flags ≡ bit g.nullable → off ≡ moved_label (g.label + g.name_len) (length zone)
+    → place ≡ moved_label g.label g.name_len
+    → record { kind = kind; flags = flags + 4; figure = figure; scale = 0; bytes_4_7 = off + 65536 * length zone; first = 0; next = 0; name = place; name_len = g.name_len; byte_15 = 0 }
     ≡ zoned_head g kind figure zone
 zoned_head_lem g kind figure zone flags off place ef eo ep =
     λ i.
@@ -111,40 +111,40 @@ zoned_head_lem g kind figure zone flags off place ef eo ep =
       flags = ef i + 4;
       figure = figure;
       scale = 0;
-      quad = eo i + 65536 * length zone;
+      bytes_4_7 = eo i + 65536 * length zone;
       first = 0;
       next = 0;
       name = ep i;
-      nlen = g.nlen;
-      last = 0;
+      name_len = g.name_len;
+      byte_15 = 0;
     }
 
 -- a type with a zone: the zone was put, and then the head
-module _ (space : Space) (w v₁ v : List ℕ) (g : Goal) (kind figure : ℕ) (zone : List ℕ) (room : Room w space) (ready : Ready space g)
-    (lt : g.at < space.n) (fits : g.label + g.nlen + length zone ≤ space.m) (q : Put w v₁ (space.half + 16 * space.n + (g.label + g.nlen)) zone)
+module _ (space : Space) (w v₁ v : List ℕ) (g : Target) (kind figure : ℕ) (zone : List ℕ) (room : Room w space) (ready : Ready space g)
+    (lt : g.at < space.n) (fits : g.label + g.name_len + length zone ≤ space.m) (q : Put w v₁ (space.half + 16 * space.n + (g.label + g.name_len)) zone)
     (x : Head) (ex : x ≡ zoned_head g kind figure zone) (p : Put v₁ v (space.half + 16 * g.at) (bytes_of x)) where
-  zoned_kept : Kept space w v g.at (g.label + g.nlen)
+  zoned_kept : Kept space w v g.at (g.label + g.name_len)
   zoned_kept =
-      kept_trans (label_kept space w v₁ g.at (g.label + g.nlen) (g.label + g.nlen) zone ready.records (omega arith) fits q)
-      (head_kept space v₁ v g.at (g.label + g.nlen) x lt p)
+      kept_trans (label_kept space w v₁ g.at (g.label + g.name_len) (g.label + g.name_len) zone ready.records (omega arith) fits q)
+      (head_kept space v₁ v g.at (g.label + g.name_len) x lt p)
 
   zoned_stands : (name : List ℕ) → Named space w g name → Stands (region space v) space.n g.at g.label name g.nullable (zoned_shape kind figure zone) 0 0
   zoned_stands name nm =
       let l = sym nm.long in
       let a = ap (moved_label g.label) l ∙ moved_name g.label name in
-      let b = ap (λ (k : ℕ). k + 65536 * length zone) (moved_name (g.label + g.nlen) zone ∙ ap (λ (k : ℕ). offset (g.label + k) zone) l) in
+      let b = ap (λ (k : ℕ). k + 65536 * length zone) (moved_name (g.label + g.name_len) zone ∙ ap (λ (k : ℕ). offset (g.label + k) zone) l) in
       let e : zoned_head g kind figure zone ≡ head_of g.label name g.nullable (zoned_shape kind figure zone) 0 0 =
-      λ i. record { kind = kind; flags = bit g.nullable + 4; figure = figure; scale = 0; quad = b i; first = 0; next = 0; name = a i; nlen = l i; last = 0 } in
+      λ i. record { kind = kind; flags = bit g.nullable + 4; figure = figure; scale = 0; bytes_4_7 = b i; first = 0; next = 0; name = a i; name_len = l i; byte_15 = 0 } in
       record {
         head = span_head (region space v) g.at x (span_region space v (16 * g.at) (bytes_of x) p.span) ∙ ex ∙ e;
         label =
-            span_join name zone (named_kept space w v g.at (g.label + g.nlen) g (omega arith) zoned_kept nm).span
+            span_join name zone (named_kept space w v g.at (g.label + g.name_len) g (omega arith) zoned_kept nm).span
             (span_region space v (16 * space.n + g.label + length name) zone
-            (span_move {i = space.half + 16 * space.n + (g.label + g.nlen)} (omega (arith, nm.long))
+            (span_move {i = space.half + 16 * space.n + (g.label + g.name_len)} (omega (arith, nm.long))
             (span_frame {w = v₁} v zone p.long (λ j lo hi. p.above j (omega arith)) q.span)));
       }
 
-  pub zoned_laid : {d : Spot} → d ≡ past g (length zone) → LaidZoned space w v g kind figure zone (Ok d)
+  pub zoned_laid : {d : Place} → d ≡ past g (length zone) → LaidZoned space w v g kind figure zone (Ok d)
   unfolding count labels
   zoned_laid ed =
       rw ed
@@ -164,7 +164,7 @@ module _ (space : Space) (w v₁ v : List ℕ) (g : Goal) (kind figure : ℕ) (z
       })
 
 -- a type that was copied: its head, and its fields after it
-module _ (space : Space) (s w : List ℕ) (swap : Bool) (link : ℕ) (g : Goal) where
+module _ (space : Space) (s w : List ℕ) (swap : Bool) (link : ℕ) (g : Target) where
   module _ (room : Room w space) (h : Head) (e : h ≡ head_at (side swap s w) link) where
     pub type_stop : (v : List ℕ) (o : Failure) → CopiedHead space (side swap s w) w v h link g 0 (Err o) → CopiedType space (side swap s w) w v link g (Err o)
     type_stop v NoType c = absurd c.means
@@ -174,16 +174,16 @@ module _ (space : Space) (s w : List ℕ) (swap : Bool) (link : ℕ) (g : Goal) 
           means = λ floor r off up name nullable shape parts rest a. inr (omega (arith, c.means floor r off up name nullable shape parts rest a e));
         }
 
-    module _ (v : List ℕ) (d : Spot) (c : CopiedHead space (side swap s w) w v h link g 0 (Ok d)) where
+    module _ (v : List ℕ) (d : Place) (c : CopiedHead space (side swap s w) w v h link g 0 (Ok d)) where
       fields_held : {floor r off up : ℕ} {name : List ℕ} {nullable : Bool} {shape : Shape} {parts rest : Fields}
           → Held space (side swap s w) floor link r off up (field name nullable shape parts rest)
           → Held space (side swap s v) link h.first (r + 1) (off + length (own_labels name shape)) shape.kind parts
-      fields_held a = held_side swap space s w v g.at (g.label + g.nlen) room.half c.kept (held_first a h e)
+      fields_held a = held_side swap space s w v g.at (g.label + g.name_len) room.half c.kept (held_first a h e)
 
-      kept : (u : List ℕ) → Kept space v u d.at d.label → Kept space w u g.at (g.label + g.nlen)
-      kept u k = kept_trans c.kept (kept_wider g.at (g.label + g.nlen) (omega (arith, c.passes.1.0)) c.passes.1.1 k)
+      kept : (u : List ℕ) → Kept space v u d.at d.label → Kept space w u g.at (g.label + g.name_len)
+      kept u k = kept_trans c.kept (kept_wider g.at (g.label + g.name_len) (omega (arith, c.passes.1.0)) c.passes.1.1 k)
 
-      pub type_copied : (u : List ℕ) (o : Out) → CopiedChain space (side swap s v) v u h.first d o → CopiedType space (side swap s w) w u link g o
+      pub type_copied : (u : List ℕ) (o : Written) → CopiedChain space (side swap s v) v u h.first d o → CopiedType space (side swap s w) w u link g o
       unfolding count labels
       type_copied u (Ok f) b =
           record {

@@ -19,7 +19,7 @@ use Rattle.buffers.specs.Writes.{Put}
 use Rattle.buffers.specs.Region.{Room, region, Kept, Inside, moved_link, moved_label}
 use Rattle.buffers.specs.Span.{Item, item_labels, ItemRight, ItemsRight, moved_item, moved_items, Heads, relinked, relabelled, MovedHeads}
 use Rattle.buffers.specs.declared.Space.{Space}
-use Rattle.buffers.specs.declared.Spot.{Spot}
+use Rattle.buffers.specs.declared.Place.{Place}
 use Rattle.buffers.specs.declared.Failure.TheVariants.{Full}
 use Rattle.buffers.proofs.Frames.{record_inside, region_head, kept_trans, kept_wider, kept_self}
 use Rattle.buffers.proofs.Copying.{span_region, head_kept, moved_name, moved_zone}
@@ -81,12 +81,12 @@ moved_is o label link at x p h =
       flags = flags_of x.nullable x.shape.sorted x.shape.zone;
       figure = x.shape.figure;
       scale = x.shape.scale;
-      quad = q i;
+      bytes_4_7 = q i;
       first = moved_link x.first link at;
       next = moved_link x.next link at;
       name = c i;
-      nlen = length x.name;
-      last = 0;
+      name_len = length x.name;
+      byte_15 = 0;
     }
 
 -- the head of a record that was moved and put at a place
@@ -99,25 +99,25 @@ put_is space v place o label link at x g p h eg a =
 -- a head with another place of its name
 abbrev renamed : Head → ℕ → Head
 renamed h name =
-    record { kind = h.kind; flags = h.flags; figure = h.figure; scale = h.scale; quad = h.quad; first = h.first; next = h.next; name = name; nlen = h.nlen; last = h.last }
+    record { kind = h.kind; flags = h.flags; figure = h.figure; scale = h.scale; bytes_4_7 = h.bytes_4_7; first = h.first; next = h.next; name = name; name_len = h.name_len; byte_15 = h.byte_15 }
 
 -- a head without a zone, and what its labels change in it
-plain_head : (h : Head) (label name : ℕ) → zoned_in h ≡ false → name ≡ moved_label label h.nlen
+plain_head : (h : Head) (label name : ℕ) → zoned_in h ≡ false → name ≡ moved_label label h.name_len
     → renamed h name ≡ relabelled h label
 plain_head h label name z e =
-    let q : h.quad ≡ cond (zoned_in h) (moved_label (label + h.nlen) (zone_len h) + 65536 * zone_len h) h.quad = rw z in
+    let q : h.bytes_4_7 ≡ cond (zoned_in h) (moved_label (label + h.name_len) (zone_len h) + 65536 * zone_len h) h.bytes_4_7 = rw z in
     λ i.
     record {
       kind = h.kind;
       flags = h.flags;
       figure = h.figure;
       scale = h.scale;
-      quad = q i;
+      bytes_4_7 = q i;
       first = h.first;
       next = h.next;
       name = e i;
-      nlen = h.nlen;
-      last = h.last;
+      name_len = h.name_len;
+      byte_15 = h.byte_15;
     }
 
 name_none : (o : ℕ) (l : List ℕ) → length l ≡ 0 → offset o l ≡ 0
@@ -125,13 +125,13 @@ name_none o [] e = refl
 name_none o (b ∷ bs) e = absurd (omega arith)
 
 -- a head without labels, moved
-bare_is : (h : Head) (link at label o : ℕ) (x : Item) → zoned_in h ≡ false → h.nlen ≡ 0 → h ≡ item_head o x → relinked h link at ≡ relabelled (relinked h link at) label
+bare_is : (h : Head) (link at label o : ℕ) (x : Item) → zoned_in h ≡ false → h.name_len ≡ 0 → h ≡ item_head o x → relinked h link at ≡ relabelled (relinked h link at) label
 bare_is h link at label o x z none e =
-    let c : moved_label label h.nlen ≡ 0 = rw none in
-    plain_head (relinked h link at) label h.name z (ap (λ (y : Head). y.name) e ∙ name_none o x.name (sym (ap (λ (y : Head). y.nlen) e) ∙ none) ∙ sym c)
+    let c : moved_label label h.name_len ≡ 0 = rw none in
+    plain_head (relinked h link at) label h.name z (ap (λ (y : Head). y.name) e ∙ name_none o x.name (sym (ap (λ (y : Head). y.name_len) e) ∙ none) ∙ sym c)
 
 -- how far a walk over records is that moves their heads: those behind number at are as they were
-pub record Progress (space : Space) (w : List ℕ) (link : ℕ) (to : Spot) (at label o : ℕ) (xs : List Item) : Type 0 where
+pub record Progress (space : Space) (w : List ℕ) (link : ℕ) (to : Place) (at label o : ℕ) (xs : List Item) : Type 0 where
   pub done : List Item
   pub rest : List Item
   pub split : xs ≡ done ++ rest
@@ -142,7 +142,7 @@ pub record Progress (space : Space) (w : List ℕ) (link : ℕ) (to : Spot) (at 
   pub labels : label ≡ to.label + length (item_labels done)
 
 -- the records of a walk, where it is at one of them
-module _ (space : Space) (w : List ℕ) (link count : ℕ) (to : Spot) (at label : ℕ) (h : Head) (own o : ℕ) (xs : List Item) (room : Room w space)
+module _ (space : Space) (w : List ℕ) (link count : ℕ) (to : Place) (at label : ℕ) (h : Head) (own o : ℕ) (xs : List Item) (room : Room w space)
     (lt : at < to.at + count) (eh : h ≡ head_at (region space w) at) (eo : own ≡ labelled h)
     (long : length xs ≡ count) (low : o + length (item_labels xs) ≤ space.m) where
   module _ (done : List Item) (x : Item) (ys : List Item) (split : xs ≡ done ++ (x ∷ ys)) (place : at ≡ to.at + length done)
@@ -220,7 +220,7 @@ module _ (space : Space) (w : List ℕ) (link count : ℕ) (to : Spot) (at label
             }
 
 -- what holds at each turn of the loop that moves heads
-pub record Moving (space : Space) (w₀ w : List ℕ) (link count : ℕ) (to : Spot) (at label : ℕ) : Type 0 where
+pub record Moving (space : Space) (w₀ w : List ℕ) (link count : ℕ) (to : Place) (at label : ℕ) : Type 0 where
   pub kept : Kept space w₀ w to.at space.m
   pub room : Room w space
   pub after : to.at ≤ at
@@ -230,7 +230,7 @@ pub record Moving (space : Space) (w₀ w : List ℕ) (link count : ℕ) (to : S
   pub progress : (o : ℕ) (xs : List Item) → Heads (region space w₀) to.at o xs → ItemsRight xs → length xs ≡ count → o + length (item_labels xs) ≤ space.m
       → Progress space w link to at label o xs
 
-pub moving_start : (space : Space) (w : List ℕ) (link count : ℕ) (to : Spot) → Room w space → Inside space to → Moving space w w link count to to.at to.label
+pub moving_start : (space : Space) (w : List ℕ) (link count : ℕ) (to : Place) → Room w space → Inside space to → Moving space w w link count to to.at to.label
 unfolding item_labels moved_items
 moving_start space w link count to room inside =
     record {
@@ -254,7 +254,7 @@ moving_start space w link count to room inside =
           };
     }
 
-module _ {space : Space} {w₀ w : List ℕ} {link count : ℕ} {to : Spot} {at label : ℕ} (fit : to.at + count ≤ space.n)
+module _ {space : Space} {w₀ w : List ℕ} {link count : ℕ} {to : Place} {at label : ℕ} (fit : to.at + count ≤ space.n)
     (l : Moving space w₀ w link count to at label) where
   module _ (h : Head) (lt : at < to.at + count) (eh : h ≡ head_from (take (length w - space.half) (region space w)) (16 * at)) where
     here : h ≡ head_at (region space w) at
@@ -287,42 +287,42 @@ module _ {space : Space} {w₀ w : List ℕ} {link count : ℕ} {to : Spot} {at 
         }
 
     module _ (z : zoned_in h ≡ true) (zlen : ℕ) (ez : zlen ≡ zone_len h) where
-      zoned_own : h.nlen + zlen ≡ labelled h
-      zoned_own = ap (λ (k : ℕ). h.nlen + k) (ez ∙ ap (λ (b : Bool). cond b (zone_len h) 0) (sym z))
+      zoned_own : h.name_len + zlen ≡ labelled h
+      zoned_own = ap (λ (k : ℕ). h.name_len + k) (ez ∙ ap (λ (b : Bool). cond b (zone_len h) 0) (sym z))
 
-      pub zoned_full : space.m < label + (h.nlen + zlen) → MovedHeads space (region space w₀) to.at w₀ w link count to (Err Full)
-      zoned_full q = full (h.nlen + zlen) zoned_own q
+      pub zoned_full : space.m < label + (h.name_len + zlen) → MovedHeads space (region space w₀) to.at w₀ w link count to (Err Full)
+      zoned_full q = full (h.name_len + zlen) zoned_own q
 
-      pub zoned_on : label + (h.nlen + zlen) ≤ space.m → (v : List ℕ) (g : Head) → g ≡ relabelled (relinked h link to.at) label
-          → Put w v (space.half + 16 * at) (bytes_of g) → Moving space w₀ v link count to (at + 1) (label + (h.nlen + zlen))
-      zoned_on fits v g eg put = on (h.nlen + zlen) zoned_own fits v g (λ b x e. eg) put
+      pub zoned_on : label + (h.name_len + zlen) ≤ space.m → (v : List ℕ) (g : Head) → g ≡ relabelled (relinked h link to.at) label
+          → Put w v (space.half + 16 * at) (bytes_of g) → Moving space w₀ v link count to (at + 1) (label + (h.name_len + zlen))
+      zoned_on fits v g eg put = on (h.name_len + zlen) zoned_own fits v g (λ b x e. eg) put
 
     module _ (z : zoned_in h ≡ false) where
       no_zone : cond (zoned_in h) (zone_len h) 0 ≡ 0
       no_zone = ap (λ (b : Bool). cond b (zone_len h) 0) z
 
-      plain_own : h.nlen ≡ labelled h
+      plain_own : h.name_len ≡ labelled h
       plain_own = omega (arith, no_zone)
 
-      pub named_full : space.m < label + h.nlen → MovedHeads space (region space w₀) to.at w₀ w link count to (Err Full)
-      named_full q = full h.nlen plain_own q
+      pub named_full : space.m < label + h.name_len → MovedHeads space (region space w₀) to.at w₀ w link count to (Err Full)
+      named_full q = full h.name_len plain_own q
 
-      pub named_on : ¬ (h.nlen ≡ 0) → label + h.nlen ≤ space.m → (v : List ℕ) (g : Head) → g ≡ relinked h link to.at
-          → Put w v (space.half + 16 * at) (bytes_of (renamed g label)) → Moving space w₀ v link count to (at + 1) (label + h.nlen)
+      pub named_on : ¬ (h.name_len ≡ 0) → label + h.name_len ≤ space.m → (v : List ℕ) (g : Head) → g ≡ relinked h link to.at
+          → Put w v (space.half + 16 * at) (bytes_of (renamed g label)) → Moving space w₀ v link count to (at + 1) (label + h.name_len)
       named_on some fits v g eg put =
-          let c : label ≡ moved_label label h.nlen = rw (ne_eqb h.nlen 0 some) in
-          on h.nlen plain_own fits v (renamed g label)
+          let c : label ≡ moved_label label h.name_len = rw (ne_eqb h.name_len 0 some) in
+          on h.name_len plain_own fits v (renamed g label)
           (λ b x e. ap (λ (y : Head). renamed y label) eg ∙ plain_head (relinked h link to.at) label label z c) put
 
-      pub bare_on : h.nlen ≡ 0 → (v : List ℕ) (g : Head) → g ≡ relinked h link to.at → Put w v (space.half + 16 * at) (bytes_of g)
+      pub bare_on : h.name_len ≡ 0 → (v : List ℕ) (g : Head) → g ≡ relinked h link to.at → Put w v (space.half + 16 * at) (bytes_of g)
           → Moving space w₀ v link count to (at + 1) label
       bare_on none v g eg put =
           subst (λ (k : ℕ). Moving space w₀ v link count to (at + 1) k) {x = label + 0} {y = label} (omega arith)
           (on 0 (omega (arith, no_zone)) (omega (arith, l.fits)) v g (λ b x e. eg ∙ bare_is h link to.at label b x z none e) put)
 
 -- one record without labels, wherever it was read
-pub bare_moved : (space : Space) (s w : List ℕ) (link : ℕ) (to : Spot) → Room w space → to.label ≤ space.m → to.at < space.n
-    → (h : Head) → h ≡ head_at s link → zoned_in h ≡ false → h.nlen ≡ 0 → (v : List ℕ) (g : Head) → g ≡ relinked h link to.at
+pub bare_moved : (space : Space) (s w : List ℕ) (link : ℕ) (to : Place) → Room w space → to.label ≤ space.m → to.at < space.n
+    → (h : Head) → h ≡ head_at s link → zoned_in h ≡ false → h.name_len ≡ 0 → (v : List ℕ) (g : Head) → g ≡ relinked h link to.at
     → Put w v (space.half + 16 * to.at) (bytes_of g) → MovedHeads space s link w v link 1 to (Ok (record { at = to.at + 1; label = to.label }))
 unfolding item_labels moved_items
 bare_moved space s w link to room letters lt h eh z none v g eg put =

@@ -7,7 +7,7 @@ use Rattle.sheet.specs.Types.{Shape, Fields, end, field}
 use Rattle.sheet.specs.Head.{head_at, nullable_in}
 use Rattle.sheet.specs.Read.{label_at}
 use Rattle.sheet.specs.declared.Head.{Head}
-use Rattle.buffers.specs.Goal.{type_of}
+use Rattle.buffers.specs.Target.{type_of}
 use Rattle.buffers.specs.Typed.{Chain, Typed}
 use Rattle.buffers.specs.declared.Space.{Space}
 use Rattle.buffers.proofs.Sources.{read_name, read_nullable}
@@ -32,5 +32,5 @@ module _ {space : Space} {s : List ℕ} {link : ℕ} {name : List ℕ} {nullable
   pub chain_nullable : (h : Head) → h ≡ head_at s link → nullable_in h ≡ nullable
   chain_nullable h e = read_nullable c.held.source h e
 
-  pub chain_name : (h : Head) → h ≡ head_at s link → label_at s space.n h.name h.nlen ≡ name
+  pub chain_name : (h : Head) → h ≡ head_at s link → label_at s space.n h.name h.name_len ≡ name
   chain_name h e = read_name c.held.source h e

@@ -6,14 +6,14 @@ use Prim.Native.Nat.{ℕ, zero, suc, ◌+◌, ◌*◌, ◌/◌, ◌%◌, ◌<◌
 use native.Mathlib.Omega.{arith}
 use lib.Dec.{eqb}
 use borrow.Author.Tests.{eq-eqb, ne_eqb, eqb-true, eqb-false}
-use Rattle.sheet.specs.Tests.{all_of, implies}
+use Rattle.sheet.specs.Booleans.{all_of, implies}
 use Rattle.sheet.specs.Types.{absent, present, Shape, Fields, end, field, count}
 use Rattle.sheet.specs.Encode.{link_to}
 use Rattle.sheet.specs.Head.{head_at, nullable_in, zoned_in, sorted_in, zone_at, zone_len}
 use Rattle.sheet.specs.Read.{label_at, shape_of}
 use Rattle.sheet.specs.Names.{same_bytes}
 use Rattle.sheet.specs.declared.Head.{Head}
-use Rattle.sheet.proofs.Tests.{and_true, all_not}
+use Rattle.sheet.proofs.Booleans.{and_true, all_not}
 use Rattle.coercion.specs.Same.{same_zone, same_shape}
 use Rattle.buffers.specs.Source.{Source, SameTypes, type_of}
 use Rattle.buffers.specs.Differ.{first_of, fields_differ, type_differs, DifferChains, DifferTypes}
@@ -82,7 +82,7 @@ pub shape_is : (s : List ℕ) (n : ℕ) (g : Head) (t : List ℕ) (m : ℕ) (h :
 unfolding same_shape all_of
 shape_is s n g t m h =
     go (eqb g.kind h.kind) (eqb g.figure h.figure) (eqb g.scale h.scale) (eqb (g.flags / 2 % 4) (h.flags / 2 % 4)) _
-    (content_is (beq (sorted_in g) (sorted_in h)) (zoned_in g) (zoned_in h) (label_at s n (zone_at g) (zone_len g)) (label_at t m (zone_at h) (zone_len h)) g.quad h.quad
+    (content_is (beq (sorted_in g) (sorted_in h)) (zoned_in g) (zoned_in h) (label_at s n (zone_at g) (zone_len g)) (label_at t m (zone_at h) (zone_len h)) g.bytes_4_7 h.bytes_4_7
     ∙ ap (λ (b : Bool). b && same_content s n g t m h) (bits_is g h))
   where
     go : (k f c b r : Bool) → r ≡ (b && same_content s n g t m h) → (k && (f && (c && r))) ≡ ((k && (f && (c && (b && true)))) && same_content s n g t m h)
@@ -96,7 +96,7 @@ shape_is s n g t m h =
 abbrev pub own_same : Bool → List ℕ → ℕ → Head → List ℕ → ℕ → Head → Bool
 own_same named s n g t m h =
     all_of
-    (implies named (same_bytes (label_at s n g.name g.nlen) (label_at t m h.name h.nlen))
+    (implies named (same_bytes (label_at s n g.name g.name_len) (label_at t m h.name h.name_len))
     ∷ beq (nullable_in g) (nullable_in h)
     ∷ same_shape (shape_of s n g) (shape_of t m h)
     ∷ [])
@@ -105,11 +105,11 @@ pub record_is : (named : Bool) (s : List ℕ) (n : ℕ) (g : Head) (t : List ℕ
     → own_same named s n g t m h
     ≡ (same_figures g h
     && (eqb (g.flags % 2) (h.flags % 2)
-    && (same_content s n g t m h && implies named (same_bytes (label_at s n g.name g.nlen) (label_at t m h.name h.nlen)))))
+    && (same_content s n g t m h && implies named (same_bytes (label_at s n g.name g.name_len) (label_at t m h.name h.name_len)))))
 unfolding all_of
 record_is named s n g t m h =
     rw (nullable_is g h, shape_is s n g t m h)
-    (go (same_figures g h) (eqb (g.flags % 2) (h.flags % 2)) (same_content s n g t m h) (implies named (same_bytes (label_at s n g.name g.nlen) (label_at t m h.name h.nlen))))
+    (go (same_figures g h) (eqb (g.flags % 2) (h.flags % 2)) (same_content s n g t m h) (implies named (same_bytes (label_at s n g.name g.name_len) (label_at t m h.name h.name_len))))
   where
     go : (f e x i : Bool) → (i && (e && ((f && x) && true))) ≡ (f && (e && (x && i)))
     go false false x false = refl

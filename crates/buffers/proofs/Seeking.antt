@@ -45,8 +45,8 @@ module _ {s : List ℕ} {link end at : ℕ} (k : Seeking s link end at) where
       name_low : o + length x.name < 65536
       name_low = omega (arith, low, labels_cons x ys, length-append x.name (zone_bytes x.shape.zone))
 
-      name_long : h.nlen ≡ length x.name
-      name_long = ap (λ (y : Head). y.nlen) is
+      name_long : h.name_len ≡ length x.name
+      name_long = ap (λ (y : Head). y.name_len) is
 
       zone_long : (zlen : ℕ) → zlen ≡ cond (zoned_in h) (zone_len h) 0 → zlen ≡ length (zone_bytes x.shape.zone)
       zone_long zlen ez =
@@ -65,21 +65,21 @@ module _ {s : List ℕ} {link end at : ℕ} (k : Seeking s link end at) where
         go o [] a p e low = absurd (omega arith)
         go o (x ∷ ys) a p e low = f o x ys a p low
 
-    pub found_name : Bounded h → ¬ (h.nlen ≡ 0) → LabelsBegin s link end h.name
+    pub found_name : Bounded h → ¬ (h.name_len ≡ 0) → LabelsBegin s link end h.name
     found_name b q =
         found h.name b.name
         (λ o x ys a p low.
         ap (λ (y : Head). y.name) (is o x ys a p low) ∙ name_some o x.name (λ e. q (name_long o x ys a p low ∙ e)))
 
-    pub found_zone : (zlen : ℕ) → zlen ≡ cond (zoned_in h) (zone_len h) 0 → h.nlen ≡ 0 → ¬ (zlen ≡ 0) → (r : ℕ) → r ≡ zone_at h → r < 65536 → LabelsBegin s link end r
+    pub found_zone : (zlen : ℕ) → zlen ≡ cond (zoned_in h) (zone_len h) 0 → h.name_len ≡ 0 → ¬ (zlen ≡ 0) → (r : ℕ) → r ≡ zone_at h → r < 65536 → LabelsBegin s link end r
     found_zone zlen ez none q r er short =
         found r short
         (λ o x ys a p low.
-        er ∙ ap (λ (y : Head). y.quad % 65536) (is o x ys a p low)
+        er ∙ ap (λ (y : Head). y.bytes_4_7 % 65536) (is o x ys a p low)
         ∙ zone_some (o + length x.name) x.shape.size x.shape.zone (name_low o x ys a p low) (omega (arith, zone_long o x ys a p low zlen ez))
         ∙ omega (arith, name_long o x ys a p low))
 
-    pub seeking_on : (zlen : ℕ) → zlen ≡ cond (zoned_in h) (zone_len h) 0 → h.nlen ≡ 0 → zlen ≡ 0 → Seeking s link end (at + 1)
+    pub seeking_on : (zlen : ℕ) → zlen ≡ cond (zoned_in h) (zone_len h) 0 → h.name_len ≡ 0 → zlen ≡ 0 → Seeking s link end (at + 1)
     seeking_on zlen ez none zero = record { all = λ o xs a p e low. let u = k.all o xs a p e low in go o xs u u.rest u.heads u.right u.long u.labels low }
       where
         go : (o : ℕ) (xs : List Item) → Unlabelled s at end o xs → (rest : List Item) → Heads s at o rest → ItemsRight rest → at + length rest ≡ end

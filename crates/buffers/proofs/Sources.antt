@@ -54,7 +54,7 @@ module _ {s : List ℕ} {n floor link r o up : ℕ} {name : List ℕ} {nullable 
         ap (λ (x : Head). field_of s n x parts rest) (head_is s n floor link r o name nullable shape parts rest a.leads h e)
         ∙ field_back s n r o up name nullable shape parts rest (link_to (r + 1) parts) (link_to (r + 1 + count parts) rest) a.right.0 name_short a.leads.holds.0
 
-    pub read_name : label_at s n h.name h.nlen ≡ name
+    pub read_name : label_at s n h.name h.name_len ≡ name
     read_name = ap name_of back
 
     pub read_nullable : nullable_in h ≡ nullable

@@ -19,8 +19,8 @@ use Rattle.buffers.specs.Writes.{side, Put}
 use Rattle.buffers.specs.Region.{Room, region, Kept, Inside}
 use Rattle.buffers.specs.Span.{Item, item_labels, Strip, ItemsRight, moved_items, Heads, relinked, MovedHeads, LabelsBegin, CopiedSpan}
 use Rattle.buffers.specs.declared.Space.{Space}
-use Rattle.buffers.specs.declared.Spot.{Spot}
-use Rattle.buffers.specs.Out.{Out}
+use Rattle.buffers.specs.declared.Place.{Place}
+use Rattle.buffers.specs.Written.{Written}
 use Rattle.buffers.specs.declared.Failure.{Failure}
 use Rattle.buffers.specs.declared.Failure.TheVariants.{NoType, Full}
 use Rattle.buffers.proofs.Frames.{span_frame, head_frame, head_moved, region_head, kept_trans, kept_wider, kept_self}
@@ -29,7 +29,7 @@ use Rattle.buffers.proofs.Spans.{strip_heads, strip_labels, strip_join}
 use Rattle.buffers.proofs.Moving.{heads_agree, heads_inside, moved_labels, moved_count, bare_moved}
 
 -- heads that were put at a place, as they stand in a source
-module _ (space : Space) (s w v : List ℕ) (link count : ℕ) (to : Spot) (room : Room w space) (fit : to.at + count ≤ space.n)
+module _ (space : Space) (s w v : List ℕ) (link count : ℕ) (to : Place) (room : Room w space) (fit : to.at + count ≤ space.n)
     (put : Put w v (space.half + 16 * to.at) (take (16 * count) (drop (16 * link) s))) where
   heads_long : length (take (16 * count) (drop (16 * link) s)) ≤ 16 * count
   heads_long = omega (arith, length-take (16 * count) (drop (16 * link) s))
@@ -62,7 +62,7 @@ module _ (space : Space) (s w v : List ℕ) (link count : ℕ) (to : Spot) (room
       heads_agree s (region space v) link to.at o xs (λ j q. head_put j (omega arith) (heads_inside s link o xs a p j q)) a
 
   -- heads that were moved after they were put there
-  pub heads_moved : (u : List ℕ) (o : Out) → MovedHeads space (region space v) to.at v u link count to o → MovedHeads space s link w u link count to o
+  pub heads_moved : (u : List ℕ) (o : Written) → MovedHeads space (region space v) to.at v u link count to o → MovedHeads space s link w u link count to o
   heads_moved u (Ok d) m =
       record { kept = kept_trans heads_kept m.kept; means = (m.means.0, λ o xs a p e low. m.means.1 o xs (heads_put o xs a p e) p e low) }
   heads_moved u (Err NoType) m = absurd m.means
@@ -81,7 +81,7 @@ side_heads true space s w v at label link o xs half few k a =
     heads_agree w v link link o xs (λ j q. head_frame w v (link + j) k.long (λ i lo hi. k.below i (omega arith))) a
 side_heads false space s w v at label link o xs half few k a = a
 
-module _ (space : Space) (s : List ℕ) (swap : Bool) (link end : ℕ) (to : Spot) (w : List ℕ) where
+module _ (space : Space) (s : List ℕ) (swap : Bool) (link end : ℕ) (to : Place) (w : List ℕ) where
   -- nothing is asked for
   pub span_none : Inside space to → end ≤ link → CopiedSpan space (side swap s w) w w link end to (Ok to)
   unfolding item_labels moved_items
@@ -103,7 +103,7 @@ module _ (space : Space) (s : List ℕ) (swap : Bool) (link end : ℕ) (to : Spo
           means = λ o xs a p e f low. inr (m.means o xs (strip_heads (side swap s w) space.n link o xs a) p (omega arith) low);
         }
 
-    module _ (v : List ℕ) (d : Spot) (m : MovedHeads space (side swap s w) link w v link count to (Ok d)) where
+    module _ (v : List ℕ) (d : Place) (m : MovedHeads space (side swap s w) link w v link count to (Ok d)) where
       -- the labels that stand in a source, after the heads were moved
       labels_2 : (o : ℕ) (xs : List Item) → Strip (side swap s w) space.n link o xs → o + length (item_labels xs) ≤ space.m
           → Span (side swap s v) (16 * space.n + o) (item_labels xs)
@@ -168,9 +168,9 @@ module _ (space : Space) (s : List ℕ) (swap : Bool) (link end : ℕ) (to : Spo
           (span_move {i = space.half + 16 * space.n + to.label} {j = space.half + (16 * space.n + to.label)} (omega arith) put.span)))
 
     -- one record without labels
-    pub span_one : count ≡ 1 → (h : Head) → h ≡ head_at (side swap s w) link → true ≡ (eqb h.nlen 0 && not (zoned_in h)) → (v : List ℕ) (g : Head) → g ≡ relinked h link to.at
+    pub span_one : count ≡ 1 → (h : Head) → h ≡ head_at (side swap s w) link → true ≡ (eqb h.name_len 0 && not (zoned_in h)) → (v : List ℕ) (g : Head) → g ≡ relinked h link to.at
         → Put w v (space.half + 16 * to.at) (bytes_of g) → CopiedSpan space (side swap s w) w v link end to (Ok (record { at = to.at + 1; label = to.label }))
     span_one one h eh bare v g eg put =
-        let b = and_parts (eqb h.nlen 0) (not (zoned_in h)) (sym bare) in
-        let m = bare_moved space (side swap s w) w link to room inside.letters (omega arith) h eh (not-true (zoned_in h) b.1) (eqb-true h.nlen 0 b.0) v g eg put in
+        let b = and_parts (eqb h.name_len 0) (not (zoned_in h)) (sym bare) in
+        let m = bare_moved space (side swap s w) w link to room inside.letters (omega arith) h eh (not-true (zoned_in h) b.1) (eqb-true h.name_len 0 b.0) v g eg put in
         span_bare v _ (subst (λ (k : ℕ). MovedHeads space (side swap s w) link w v link k to (Ok (record { at = to.at + 1; label = to.label }))) (sym one) m) refl

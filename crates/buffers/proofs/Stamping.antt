@@ -14,15 +14,15 @@ use Rattle.coercion.specs.Data.{DataType, size, of_unit, zoned}
 use Rattle.coercion.specs.Times.{zone_coercion}
 use Rattle.coercion.specs.declared.Rules.{Rules}
 use Rattle.buffers.specs.Writes.{side}
-use Rattle.buffers.specs.Goal.{letters, Means, LaidZoned, CopiedType}
+use Rattle.buffers.specs.Target.{letters, Means, LaidZoned, CopiedType}
 use Rattle.plain.specs.Plain.{plain_rules}
 use Rattle.buffers.specs.Heads.{either_zone}
 use Rattle.plain.specs.Steps.{Reads, step_of}
 use Rattle.buffers.specs.Typed.{Typed, Merges}
 use Rattle.buffers.specs.declared.Space.{Space}
-use Rattle.buffers.specs.declared.Goal.{Goal}
+use Rattle.buffers.specs.declared.Target.{Target}
 use Rattle.plain.specs.declared.step.Step.{Step}
-use Rattle.buffers.specs.Out.{Out}
+use Rattle.buffers.specs.Written.{Written}
 use Rattle.std.specs.Prelude.{Ok, Err}
 use Rattle.buffers.specs.declared.Failure.TheVariants.{NoType, Full}
 use Rattle.buffers.proofs.Sources.{read_shape}
@@ -35,7 +35,7 @@ module _ (s w : List ℕ) (swap : Bool) (n : ℕ) (x y : Head) where
   zone = either_zone (side swap s w) (side (not swap) s w) n x y
 
 -- what was written is so for more records and labels too
-pub means_more : (space : Space) (w v : List ℕ) (g : Goal) (z y z' y' : ℕ) (o : Out) (m : Option DataType) → z ≤ z' → y ≤ y' → Means space w v g z y o m → Means space w v g z' y' o m
+pub means_more : (space : Space) (w v : List ℕ) (g : Target) (z y z' y' : ℕ) (o : Written) (m : Option DataType) → z ≤ z' → y ≤ y' → Means space w v g z y o m → Means space w v g z' y' o m
 means_more space w v g z y z' y' (Ok d) None p q a = a
 means_more space w v g z y z' y' (Ok d) (Some t) p q a = a
 means_more space w v g z y z' y' (Err NoType) None p q a = a
@@ -46,7 +46,7 @@ zone_more : (a b : Zone) → length (zone_bytes (zone_coercion a b)) ≤ length 
 zone_more absent b = omega arith
 zone_more (present z) b = omega arith
 
-module _ (space : Space) (swap : Bool) (s w : List ℕ) (l r : ℕ) (g : Goal) where
+module _ (space : Space) (swap : Bool) (s w : List ℕ) (l r : ℕ) (g : Target) where
   module _ (unit : ℕ) (x y : Head) (ex : x ≡ head_at (side swap s w) l) (ey : y ≡ head_at (side (not swap) s w) r) where
     common : (t u : DataType) → Typed space (side swap s w) l t → Typed space (side (not swap) s w) r u
         → zone_coercion t.shape.zone u.shape.zone ≡ cond (zoned_in x || zoned_in y) (present (zone s w swap space.n x y)) absent
@@ -59,7 +59,7 @@ module _ (space : Space) (swap : Bool) (s w : List ℕ) (l r : ℕ) (g : Goal) w
         go false true f h = refl
         go false false f h = refl
 
-    pub stamp_zoned : (zoned_in x || zoned_in y) ≡ true → (v : List ℕ) (o : Out) → LaidZoned space w v g 22 unit (zone s w swap space.n x y) o
+    pub stamp_zoned : (zoned_in x || zoned_in y) ≡ true → (v : List ℕ) (o : Written) → LaidZoned space w v g 22 unit (zone s w swap space.n x y) o
         → (left : ℕ) → Merges (step_of (Some (Step.Stamp unit))) space left swap s w v l r g o
     stamp_zoned z v o k left =
         record {
@@ -74,7 +74,7 @@ module _ (space : Space) (swap : Bool) (s w : List ℕ) (l r : ℕ) (g : Goal) w
         }
 
   -- each step, and what was written for it
-  pub step_left : (v : List ℕ) (o : Out) → CopiedType space (side swap s w) w v l g o → (left : ℕ) → Merges (step_of (Some Step.Left)) space left swap s w v l r g o
+  pub step_left : (v : List ℕ) (o : Written) → CopiedType space (side swap s w) w v l g o → (left : ℕ) → Merges (step_of (Some Step.Left)) space left swap s w v l r g o
   step_left v o k left =
       record {
         writes = k.writes;
@@ -85,7 +85,7 @@ module _ (space : Space) (swap : Bool) (s w : List ℕ) (l r : ℕ) (g : Goal) w
             (k.means c.floor c.at c.label c.up p.name p.nullable i.shape i.parts p.rest c.held);
       }
 
-  pub step_right : (v : List ℕ) (o : Out) → CopiedType space (side (not swap) s w) w v r g o → (left : ℕ) → Merges (step_of (Some Step.Right)) space left swap s w v l r g o
+  pub step_right : (v : List ℕ) (o : Written) → CopiedType space (side (not swap) s w) w v r g o → (left : ℕ) → Merges (step_of (Some Step.Right)) space left swap s w v l r g o
   step_right v o k left =
       record {
         writes = k.writes;
@@ -97,10 +97,10 @@ module _ (space : Space) (swap : Bool) (s w : List ℕ) (l r : ℕ) (g : Goal) w
       }
 
   pub step_nothing : (left : ℕ) → Merges (step_of None) space left swap s w w l r g (Err NoType)
-  step_nothing left = record { writes = record { kept = kept_self w g.at (g.label + g.nlen); passes = tt }; means = λ i j p q h. tt }
+  step_nothing left = record { writes = record { kept = kept_self w g.at (g.label + g.name_len); passes = tt }; means = λ i j p q h. tt }
 
 -- what a step says is what the rules for types without parts say of the two
-pub plain_merged : (rules : Rules) {A : DataType → DataType → Option DataType} (space : Space) (swap : Bool) (s w v : List ℕ) (l r : ℕ) (g : Goal) (o : Out) {x y : Head}
+pub plain_merged : (rules : Rules) {A : DataType → DataType → Option DataType} (space : Space) (swap : Bool) (s w v : List ℕ) (l r : ℕ) (g : Target) (o : Written) {x y : Head}
     → x ≡ head_at (side swap s w) l → y ≡ head_at (side (not swap) s w) r → ((X Y : DataType) → Reads x X → Reads y Y → A X Y ≡ plain_rules rules X Y)
     → ((left : ℕ) → Merges A space left swap s w v l r g o) → (left : ℕ) → Merges (plain_rules rules) space left swap s w v l r g o
 plain_merged rules space swap s w v l r g o ex ey f m left =

@@ -14,9 +14,9 @@ use Rattle.sheet.specs.declared.Head.{Head}
 use Rattle.sheet.proofs.Heads.{span_head}
 use Rattle.buffers.specs.Writes.{Put}
 use Rattle.buffers.specs.Region.{region, Kept, Wrote}
-use Rattle.buffers.specs.Goal.{Tied, tied_to}
+use Rattle.buffers.specs.Target.{Tied, tied_to}
 use Rattle.buffers.specs.declared.Space.{Space}
-use Rattle.buffers.specs.declared.Spot.{Spot}
+use Rattle.buffers.specs.declared.Place.{Place}
 use Rattle.buffers.proofs.Frames.{span_frame, holds_frame}
 use Rattle.buffers.proofs.Copying.{span_region}
 
@@ -49,7 +49,7 @@ module _ (space : Space) (w v : List ℕ) (at next : ℕ) (t : Tied space w v at
       }
 
   -- a field that ended its chain, and the chain that is now behind it
-  pub chain_tied : (o : ℕ) (d e : Spot) (name : List ℕ) (nullable : Bool) (shape : Shape) (parts rest : Fields)
+  pub chain_tied : (o : ℕ) (d e : Place) (name : List ℕ) (nullable : Bool) (shape : Shape) (parts rest : Fields)
       → at < space.n → next ≡ link_to d.at rest → Wrote space w (record { at = at; label = o }) d (field name nullable shape parts end) → Wrote space w d e rest
       → Wrote space v (record { at = at; label = o }) e (field name nullable shape parts rest)
   unfolding count labels

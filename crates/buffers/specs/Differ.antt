@@ -3,7 +3,7 @@
 use Rattle.std.specs.Prelude.{◌≡◌, ℕ, ◌+◌, ◌<◌, ◌≤◌, Bool, false, cond, List, [], ◌∷◌, eqb, ltb}
 use Rattle.std.specs.Prelude.{Option, None, Some}
 use Rattle.std.specs.Bool.{beq}
-use Rattle.sheet.specs.Tests.{all_of, implies}
+use Rattle.sheet.specs.Booleans.{all_of, implies}
 use Rattle.sheet.specs.Types.{Shape, Fields, end, field, count}
 use Rattle.sheet.specs.Names.{same_bytes}
 use Rattle.coercion.specs.Data.{DataType}

@@ -4,19 +4,19 @@ use Rattle.sheet.specs.declared.kind.TheConstants as Kind
 use Rattle.sheet.specs.Head.{zoned_in, zone_at, zone_len}
 use Rattle.sheet.specs.Read.{label_at}
 use Rattle.sheet.specs.declared.Head.{Head}
-use Rattle.plain.specs.declared.zone.Place.{Place}
+use Rattle.plain.specs.declared.zone.ZonePlace.{ZonePlace}
 
 -- the kind and the size of two lists' common list, by their heads
 abbrev pub list_kind : Head → Head → ℕ
 list_kind x y =
-    cond (eqb x.kind Kind.FIXED_SIZE_LIST && eqb y.kind Kind.FIXED_SIZE_LIST) (cond (eqb x.quad y.quad) Kind.FIXED_SIZE_LIST Kind.LIST)
+    cond (eqb x.kind Kind.FIXED_SIZE_LIST && eqb y.kind Kind.FIXED_SIZE_LIST) (cond (eqb x.bytes_4_7 y.bytes_4_7) Kind.FIXED_SIZE_LIST Kind.LIST)
     (cond (eqb x.kind Kind.LARGE_LIST || eqb y.kind Kind.LARGE_LIST) Kind.LARGE_LIST Kind.LIST)
 
 abbrev pub list_size : Head → Head → ℕ
-list_size x y = cond (eqb x.kind Kind.FIXED_SIZE_LIST && eqb y.kind Kind.FIXED_SIZE_LIST) (cond (eqb x.quad y.quad) y.quad 0) 0
+list_size x y = cond (eqb x.kind Kind.FIXED_SIZE_LIST && eqb y.kind Kind.FIXED_SIZE_LIST) (cond (eqb x.bytes_4_7 y.bytes_4_7) y.bytes_4_7 0) 0
 
 -- where the zone of a record stands in a slice of a length, as far as it lies inside
-abbrev pub place_of : Head → ℕ → ℕ → Place
+abbrev pub place_of : Head → ℕ → ℕ → ZonePlace
 place_of h n length =
     record {
       present = zoned_in h;

@@ -1,10 +1,10 @@
-pub mod Out
+pub mod Written
 pub mod Source
 pub mod Differ
 pub mod Records
 pub mod Writes
 pub mod Region
-pub mod Goal
+pub mod Target
 pub mod Typed
 pub mod Heads
 pub mod Span

@@ -1,6 +1,6 @@
 -- What two records have in common, byte by byte.
 use Rattle.std.specs.Prelude.{ℕ, ◌/◌, ◌%◌, Bool, cond, List, [], ◌∷◌, eqb}
-use Rattle.sheet.specs.Tests.{all_of}
+use Rattle.sheet.specs.Booleans.{all_of}
 use Rattle.sheet.specs.Head.{zoned_in, zone_at, zone_len}
 use Rattle.sheet.specs.Read.{label_at}
 use Rattle.sheet.specs.Names.{same_bytes}
@@ -19,4 +19,4 @@ same_figures g h =
 -- bytes 4 to 7, where both or neither place a zone
 abbrev pub same_content : List ℕ → ℕ → Head → List ℕ → ℕ → Head → Bool
 same_content s n g t m h =
-    cond (zoned_in g) (same_bytes (label_at s n (zone_at g) (zone_len g)) (label_at t m (zone_at h) (zone_len h))) (eqb g.quad h.quad)
+    cond (zoned_in g) (same_bytes (label_at s n (zone_at g) (zone_len g)) (label_at t m (zone_at h) (zone_len h))) (eqb g.bytes_4_7 h.bytes_4_7)

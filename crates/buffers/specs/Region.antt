@@ -9,9 +9,9 @@ use Rattle.buffers.specs.Source.{Source}
 use Rattle.sheet.specs.Head.{head_at, zoned_in, zone_len}
 use Rattle.sheet.specs.declared.Head.{Head}
 use Rattle.buffers.specs.declared.Space.{Space}
-use Rattle.buffers.specs.declared.Spot.{Spot}
-use Rattle.buffers.specs.declared.Goal.{Goal}
-use Rattle.buffers.specs.Out.{Out}
+use Rattle.buffers.specs.declared.Place.{Place}
+use Rattle.buffers.specs.declared.Target.{Target}
+use Rattle.buffers.specs.Written.{Written}
 use Rattle.std.specs.Prelude.{Ok, Err}
 use Rattle.buffers.specs.declared.Failure.TheVariants.{NoType, Full}
 
@@ -40,29 +40,29 @@ pub record Held (space : Space) (s : List ℕ) (floor link r o up : ℕ) (t : Fi
   pub differ : names_differ t ≡ true
 
 -- a place in the destination that is within its room
-pub record Inside (space : Space) (to : Spot) : Type 0 where
+pub record Inside (space : Space) (to : Place) : Type 0 where
   pub some : 0 < to.at
   pub records : to.at ≤ space.n
   pub letters : to.label ≤ space.m
 
 -- the next place is not before the last
-abbrev pub Grows : Space → Spot → Out → Type 0
+abbrev pub Grows : Space → Place → Written → Type 0
 Grows space to (Ok d) = Inside space d × ((to.at ≤ d.at) × (to.label ≤ d.label))
 Grows space to (Err NoType) = Unit
 Grows space to (Err Full) = Unit
 
 -- the next place is past a record
-abbrev pub Further : Spot → Out → Type 0
+abbrev pub Further : Place → Written → Type 0
 Further to (Ok d) = to.at < d.at
 Further to (Err NoType) = Unit
 Further to (Err Full) = Unit
 
 -- there is no room for z records and y label bytes
-abbrev pub Short : Space → Spot → ℕ → ℕ → Type 0
+abbrev pub Short : Space → Place → ℕ → ℕ → Type 0
 Short space to z y = (space.n < to.at + z) ⊎ (space.m < to.label + y)
 
 -- a chain was written at a place, up to the next
-pub record Wrote (space : Space) (v : List ℕ) (to d : Spot) (t : Fields) : Type 0 where
+pub record Wrote (space : Space) (v : List ℕ) (to d : Place) (t : Fields) : Type 0 where
   pub records : d.at ≡ to.at + count t
   pub letters : d.label ≡ to.label + length (labels t)
   pub holds : Holds (region space v) space.n to.at to.label t
@@ -75,65 +75,65 @@ moved_link x link at = cond (ltb link x && ltb (at + (x - link)) 65536) (at + (x
 abbrev pub moved_label : ℕ → ℕ → ℕ
 moved_label o len = cond (eqb len 0) 0 o
 
--- the head of record `link` at a goal: its own figures and zone, the goal's name and nullability, its parts
+-- the head of record `link` at a target: its own figures and zone, the target's name and nullability, its parts
 -- after it, and a next record that is given
-abbrev pub goal_head : Head → ℕ → Goal → ℕ → Head
-goal_head h link g next =
+abbrev pub target_head : Head → ℕ → Target → ℕ → Head
+target_head h link g next =
     record {
       kind = h.kind;
       flags = h.flags / 2 * 2 + bit g.nullable;
       figure = h.figure;
       scale = h.scale;
-      quad = cond (zoned_in h) (moved_label (g.label + g.nlen) (zone_len h) + 65536 * zone_len h) h.quad;
+      bytes_4_7 = cond (zoned_in h) (moved_label (g.label + g.name_len) (zone_len h) + 65536 * zone_len h) h.bytes_4_7;
       first = moved_link h.first link g.at;
       next = next;
-      name = moved_label g.label g.nlen;
-      nlen = g.nlen;
-      last = h.last;
+      name = moved_label g.label g.name_len;
+      name_len = g.name_len;
+      byte_15 = h.byte_15;
     }
 
--- a goal within the room, whose name is there
-pub record Ready (space : Space) (g : Goal) : Type 0 where
+-- a target within the room, whose name is there
+pub record Ready (space : Space) (g : Target) : Type 0 where
   pub some : 0 < g.at
   pub records : g.at ≤ space.n
-  pub letters : g.label + g.nlen ≤ space.m
-  pub short : g.nlen ≤ 255
+  pub letters : g.label + g.name_len ≤ space.m
+  pub short : g.name_len ≤ 255
 
--- the name that stands at a goal
-pub record Named (space : Space) (w : List ℕ) (g : Goal) (name : List ℕ) : Type 0 where
-  pub long : length name ≡ g.nlen
+-- the name that stands at a target
+pub record Named (space : Space) (w : List ℕ) (g : Target) (name : List ℕ) : Type 0 where
+  pub long : length name ≡ g.name_len
   pub span : Span (region space w) (16 * space.n + g.label) name
 
--- what is said of a head that was copied: whatever field stands at its place, its shape stands at the goal,
+-- what is said of a head that was copied: whatever field stands at its place, its shape stands at the target,
 -- under whatever name stands there
-abbrev pub HeadMeans : Space → List ℕ → List ℕ → List ℕ → Head → ℕ → Goal → ℕ → Out → Type 0
+abbrev pub HeadMeans : Space → List ℕ → List ℕ → List ℕ → Head → ℕ → Target → ℕ → Written → Type 0
 HeadMeans space s w v h link g next (Ok d) =
     (d.at ≡ g.at + 1)
     × ((floor r o up : ℕ) (name : List ℕ) (nullable : Bool) (shape : Shape) (parts rest : Fields) → Held space s floor link r o up (field name nullable shape parts rest)
-    → h ≡ head_at s link → (d.label ≡ g.label + g.nlen + length (zone_bytes shape.zone))
+    → h ≡ head_at s link → (d.label ≡ g.label + g.name_len + length (zone_bytes shape.zone))
     × ((own : List ℕ) → Named space w g own → Stands (region space v) space.n g.at g.label own g.nullable shape (link_to (g.at + 1) parts) next))
 HeadMeans space s w v h link g next (Err NoType) = ⊥
 HeadMeans space s w v h link g next (Err Full) =
     (floor r o up : ℕ) (name : List ℕ) (nullable : Bool) (shape : Shape) (parts rest : Fields) → Held space s floor link r o up (field name nullable shape parts rest)
-    → h ≡ head_at s link → space.m < g.label + g.nlen + length (zone_bytes shape.zone)
+    → h ≡ head_at s link → space.m < g.label + g.name_len + length (zone_bytes shape.zone)
 
 -- the next place is past the record and the name
-abbrev pub Passes : Space → Goal → Out → Type 0
-Passes space g (Ok d) = Inside space d × ((g.at < d.at) × (g.label + g.nlen ≤ d.label))
+abbrev pub Passes : Space → Target → Written → Type 0
+Passes space g (Ok d) = Inside space d × ((g.at < d.at) × (g.label + g.name_len ≤ d.label))
 Passes space g (Err NoType) = Unit
 Passes space g (Err Full) = Unit
 
-pub record CopiedHead (space : Space) (s w v : List ℕ) (h : Head) (link : ℕ) (g : Goal) (next : ℕ) (o : Out) : Type 0 where
-  pub kept : Kept space w v g.at (g.label + g.nlen)
+pub record CopiedHead (space : Space) (s w v : List ℕ) (h : Head) (link : ℕ) (g : Target) (next : ℕ) (o : Written) : Type 0 where
+  pub kept : Kept space w v g.at (g.label + g.name_len)
   pub passes : Passes space g o
   pub means : HeadMeans space s w v h link g next o
 
 -- the head of a record without a zone was copied as the last of its chain, whatever source it was read from
-abbrev pub CopiedBare : Space → List ℕ → List ℕ → Head → ℕ → Goal → Out → Type 0
+abbrev pub CopiedBare : Space → List ℕ → List ℕ → Head → ℕ → Target → Written → Type 0
 CopiedBare space w v h link g o = (s : List ℕ) → CopiedHead space s w v h link g 0 o
 
 -- what is said of a record that was copied: whatever field stands at its place, its record stands at the destination
-abbrev pub CopyMeans : Space → List ℕ → List ℕ → ℕ → Spot → Out → Type 0
+abbrev pub CopyMeans : Space → List ℕ → List ℕ → ℕ → Place → Written → Type 0
 CopyMeans space s v link to (Ok d) =
     (floor r o up : ℕ) (name : List ℕ) (nullable : Bool) (shape : Shape) (parts rest : Fields) → Held space s floor link r o up (field name nullable shape parts rest)
     → (d.at ≡ to.at + 1) × ((d.label ≡ to.label + length (own_labels name shape))
@@ -143,19 +143,19 @@ CopyMeans space s v link to (Err Full) =
     (floor r o up : ℕ) (name : List ℕ) (nullable : Bool) (shape : Shape) (parts rest : Fields) → Held space s floor link r o up (field name nullable shape parts rest)
     → space.m < to.label + length (own_labels name shape)
 
-pub record CopiedRecord (space : Space) (s w v : List ℕ) (link : ℕ) (to : Spot) (o : Out) : Type 0 where
+pub record CopiedRecord (space : Space) (s w v : List ℕ) (link : ℕ) (to : Place) (o : Written) : Type 0 where
   pub kept : Kept space w v to.at to.label
   pub grows : Grows space to o
   pub further : Further to o
   pub means : CopyMeans space s v link to o
 
 -- what is said of a chain that was copied
-abbrev pub ChainMeans : Space → List ℕ → List ℕ → ℕ → Spot → Out → Type 0
+abbrev pub ChainMeans : Space → List ℕ → List ℕ → ℕ → Place → Written → Type 0
 ChainMeans space s v link to (Ok d) = (floor r o up : ℕ) (t : Fields) → Held space s floor link r o up t → Wrote space v to d t
 ChainMeans space s v link to (Err NoType) = ⊥
 ChainMeans space s v link to (Err Full) = (floor r o up : ℕ) (t : Fields) → Held space s floor link r o up t → Short space to (count t) (length (labels t))
 
-pub record CopiedChain (space : Space) (s w v : List ℕ) (link : ℕ) (to : Spot) (o : Out) : Type 0 where
+pub record CopiedChain (space : Space) (s w v : List ℕ) (link : ℕ) (to : Place) (o : Written) : Type 0 where
   pub kept : Kept space w v to.at to.label
   pub grows : Grows space to o
   pub means : ChainMeans space s v link to o

@@ -10,8 +10,8 @@ use Rattle.sheet.specs.Holds.{Stands}
 use Rattle.sheet.specs.declared.Head.{Head}
 use Rattle.buffers.specs.Region.{region, Kept, Grows, Short, moved_link, moved_label}
 use Rattle.buffers.specs.declared.Space.{Space}
-use Rattle.buffers.specs.declared.Spot.{Spot}
-use Rattle.buffers.specs.Out.{Out}
+use Rattle.buffers.specs.declared.Place.{Place}
+use Rattle.buffers.specs.Written.{Written}
 use Rattle.buffers.specs.declared.Failure.TheVariants.{NoType, Full}
 
 -- a record by itself: what it says, and where its links lead
@@ -59,7 +59,7 @@ moved_items link at (x ∷ xs) = moved_item link at x ∷ moved_items link at xs
 
 -- what is said of records that were copied, from number link up to end: whatever records stand there stand at
 -- the destination
-abbrev pub SpanMeans : Space → List ℕ → List ℕ → ℕ → ℕ → Spot → Out → Type 0
+abbrev pub SpanMeans : Space → List ℕ → List ℕ → ℕ → ℕ → Place → Written → Type 0
 SpanMeans space s v link end to (Ok d) =
     (o : ℕ) (xs : List Item) → Strip s space.n link o xs → ItemsRight xs → link + length xs ≡ end → end ≤ space.n → o + length (item_labels xs) ≤ space.m
     → (d.at ≡ to.at + length xs) × ((d.label ≡ to.label + length (item_labels xs))
@@ -69,7 +69,7 @@ SpanMeans space s v link end to (Err Full) =
     (o : ℕ) (xs : List Item) → Strip s space.n link o xs → ItemsRight xs → link + length xs ≡ end → end ≤ space.n → o + length (item_labels xs) ≤ space.m
     → Short space to (length xs) (length (item_labels xs))
 
-pub record CopiedSpan (space : Space) (s w v : List ℕ) (link end : ℕ) (to : Spot) (o : Out) : Type 0 where
+pub record CopiedSpan (space : Space) (s w v : List ℕ) (link end : ℕ) (to : Place) (o : Written) : Type 0 where
   pub kept : Kept space w v to.at to.label
   pub grows : Grows space to o
   pub means : SpanMeans space s v link end to o
@@ -88,12 +88,12 @@ relinked h link at =
       flags = h.flags;
       figure = h.figure;
       scale = h.scale;
-      quad = h.quad;
+      bytes_4_7 = h.bytes_4_7;
       first = moved_link h.first link at;
       next = moved_link h.next link at;
       name = h.name;
-      nlen = h.nlen;
-      last = h.last;
+      name_len = h.name_len;
+      byte_15 = h.byte_15;
     }
 
 -- a head whose labels belong at a place
@@ -104,16 +104,16 @@ relabelled h label =
       flags = h.flags;
       figure = h.figure;
       scale = h.scale;
-      quad = cond (zoned_in h) (moved_label (label + h.nlen) (zone_len h) + 65536 * zone_len h) h.quad;
+      bytes_4_7 = cond (zoned_in h) (moved_label (label + h.name_len) (zone_len h) + 65536 * zone_len h) h.bytes_4_7;
       first = h.first;
       next = h.next;
-      name = moved_label label h.nlen;
-      nlen = h.nlen;
-      last = h.last;
+      name = moved_label label h.name_len;
+      name_len = h.name_len;
+      byte_15 = h.byte_15;
     }
 
 -- what is said of heads that were moved, whatever records' heads stood in s from number r on
-abbrev pub HeadsMean : Space → List ℕ → ℕ → List ℕ → ℕ → ℕ → Spot → Out → Type 0
+abbrev pub HeadsMean : Space → List ℕ → ℕ → List ℕ → ℕ → ℕ → Place → Written → Type 0
 HeadsMean space s r v link count to (Ok d) =
     ((d.at ≡ to.at + count) × ((to.label ≤ d.label) × (d.label ≤ space.m)))
     × ((o : ℕ) (xs : List Item) → Heads s r o xs → ItemsRight xs → length xs ≡ count → o + length (item_labels xs) ≤ space.m
@@ -123,7 +123,7 @@ HeadsMean space s r v link count to (Err Full) =
     (o : ℕ) (xs : List Item) → Heads s r o xs → ItemsRight xs → length xs ≡ count → o + length (item_labels xs) ≤ space.m
     → space.m < to.label + length (item_labels xs)
 
-pub record MovedHeads (space : Space) (s : List ℕ) (r : ℕ) (w v : List ℕ) (link count : ℕ) (to : Spot) (o : Out) : Type 0 where
+pub record MovedHeads (space : Space) (s : List ℕ) (r : ℕ) (w v : List ℕ) (link count : ℕ) (to : Place) (o : Written) : Type 0 where
   pub kept : Kept space w v to.at space.m
   pub means : HeadsMean space s r v link count to o
 

@@ -4,7 +4,7 @@
 
 ghost use Rattle.std.specs.Prelude.{◌≡◌, ℕ, not, ◌∷◌, [], ◌/◌, ◌%◌, ◌<◌};
 ghost use Rattle.std.specs.Bool.{beq};
-ghost use Rattle.sheet.specs.Tests.{all_of, implies};
+ghost use Rattle.sheet.specs.Booleans.{all_of, implies};
 ghost use Rattle.sheet.specs.Head.{head_at, nullable_in};
 ghost use Rattle.sheet.specs.Read.{label_at, shape_of};
 ghost use Rattle.sheet.specs.Names.{same_bytes};
@@ -37,14 +37,14 @@ fn same_content(a: &[u8], n: usize, g: Head, b: &[u8], m: usize, h: Head) -> boo
     ensures { result ≡ same_content a.now n g b.now m h }
 {
     if g.zoned() {
-        same_zone(a, n, g.quad, b, m, h.quad)
+        same_zone(a, n, g.bytes_4_7, b, m, h.bytes_4_7)
     } else {
-        g.quad == h.quad
+        g.bytes_4_7 == h.bytes_4_7
     }
 }
 
 // Whether bytes 0, 2 and 3 and the bits for sorted and for a zone of two records are the same.
-#[tactic(auto, unfolding(sheet::specs::Tests::all_of))]
+#[tactic(auto, unfolding(sheet::specs::Booleans::all_of))]
 fn same_figures(g: Head, h: Head) -> bool
     ensures { result ≡ same_figures g h }
 {
@@ -69,7 +69,7 @@ fn same_shape(a: &[u8], n: usize, g: Head, b: &[u8], m: usize, h: Head) -> bool
 #[tactic(auto, using(crate::proofs::Sameness::record_is))]
 fn same_record(a: &[u8], n: usize, g: Head, b: &[u8], m: usize, h: Head, named: bool) -> bool
     requires { ((n < 65536) × (m < 65536)) × (Bounded g × Bounded h) }
-    ensures { result ≡ all_of (implies named (same_bytes (label_at a.now n g.name g.nlen) (label_at b.now m h.name h.nlen)) ∷ beq (nullable_in g) (nullable_in h) ∷ same_shape (shape_of a.now n g) (shape_of b.now m h) ∷ []) }
+    ensures { result ≡ all_of (implies named (same_bytes (label_at a.now n g.name g.name_len) (label_at b.now m h.name h.name_len)) ∷ beq (nullable_in g) (nullable_in h) ∷ same_shape (shape_of a.now n g) (shape_of b.now m h) ∷ []) }
 {
     same_figures(g, h)
         && g.flags % 2 == h.flags % 2

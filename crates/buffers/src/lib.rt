@@ -10,8 +10,8 @@
 #![tactic(auto)]
 
 ghost use Rattle.std.specs.Prelude.{◌≡◌, false, ◌+◌, ◌<◌};
-ghost use Rattle.buffers.specs.Goal.{past};
-ghost use Rattle.buffers.specs.Typed.{goal_at};
+ghost use Rattle.buffers.specs.Target.{past};
+ghost use Rattle.buffers.specs.Typed.{target_at};
 
 pub mod alike;
 pub mod copy;
@@ -25,7 +25,7 @@ pub mod stamp;
 mod write;
 
 use coercion::Figures;
-use plain::value::Leaf;
+use plain::value::PlainType;
 
 /// The sizes that all functions share: `n` records of the sheet, its header among them; `m` label
 /// bytes; and `half`, the bytes of half of the work space, as many as the sheet has.
@@ -39,7 +39,7 @@ pub struct Space {
 /// A place in the destination: the number of the next record, and the offset of the next label
 /// among the label bytes.
 #[derive(Clone, Copy)]
-pub struct Spot {
+pub struct Place {
     pub at: usize,
     pub label: usize,
 }
@@ -55,41 +55,41 @@ pub enum Failure {
 
 /// The place behind what was written. After an `Err` the destination is left free from the place on
 /// that the function was given.
-pub type Out = Result<Spot, Failure>;
+pub type Written = Result<Place, Failure>;
 
 /// A place in the destination for a type under a name: its record, and its labels, of which the
-/// first `nlen` bytes are the name and stand there already.
+/// first `name_len` bytes are the name and stand there already.
 #[derive(Clone, Copy)]
-pub struct Goal {
+pub struct Target {
     pub at: usize,
     pub label: usize,
-    pub nlen: usize,
+    pub name_len: usize,
     pub nullable: bool,
 }
 
-impl Spot {
-    /// The goal of a field at this place, under a name of `nlen` bytes.
-    pub fn goal(self, nlen: usize, nullable: bool) -> Goal
-        ensures { result ≡ goal_at self nlen nullable }
+impl Place {
+    /// The target of a field at this place, under a name of `name_len` bytes.
+    pub fn target(self, name_len: usize, nullable: bool) -> Target
+        ensures { result ≡ target_at self name_len nullable }
     {
-        Goal {
+        Target {
             at: self.at,
             label: self.label,
-            nlen,
+            name_len,
             nullable,
         }
     }
 }
 
-impl Goal {
+impl Target {
     /// The place past its record and its labels, the last `zlen` bytes of which are a zone.
-    pub(crate) fn past(self, zlen: usize) -> Spot
-        requires { (self.at < 65536) × (self.label + self.nlen + zlen < 65536) }
+    pub(crate) fn past(self, zlen: usize) -> Place
+        requires { (self.at < 65536) × (self.label + self.name_len + zlen < 65536) }
         ensures { result ≡ past self zlen }
     {
-        Spot {
+        Place {
             at: self.at + 1,
-            label: self.label + self.nlen + zlen,
+            label: self.label + self.name_len + zlen,
         }
     }
 }
@@ -121,10 +121,10 @@ impl From<Figures> for Shape {
 }
 
 /// The shape of a type, which is not sorted.
-impl From<Leaf> for Shape {
+impl From<PlainType> for Shape {
     ghost from_gives = { λ x s. s ≡ record { kind = x.kind; figure = x.figure; scale = x.scale; size = x.size; sorted = false } };
 
-    fn from(x: Leaf) -> Shape {
+    fn from(x: PlainType) -> Shape {
         Shape {
             kind: x.kind,
             figure: x.figure,

@@ -12,7 +12,7 @@ pub fn list_kind(x: Head, y: Head) -> u8
     ensures { result ≡ list_kind x y }
 {
     if x.kind == kind::FIXED_SIZE_LIST && y.kind == kind::FIXED_SIZE_LIST {
-        if x.quad == y.quad {
+        if x.bytes_4_7 == y.bytes_4_7 {
             kind::FIXED_SIZE_LIST
         } else {
             kind::LIST
@@ -29,8 +29,11 @@ pub fn list_size(x: Head, y: Head) -> usize
     requires { Bounded y }
     ensures { (result ≡ list_size x y) × (result < 4294967296) }
 {
-    if x.kind == kind::FIXED_SIZE_LIST && y.kind == kind::FIXED_SIZE_LIST && x.quad == y.quad {
-        y.quad
+    if x.kind == kind::FIXED_SIZE_LIST
+        && y.kind == kind::FIXED_SIZE_LIST
+        && x.bytes_4_7 == y.bytes_4_7
+    {
+        y.bytes_4_7
     } else {
         0
     }

@@ -10,7 +10,7 @@ ghost use Rattle.buffers.specs.Span.{relinked, relabelled, MovedHeads, LabelsBeg
 
 use crate::copy::{moved_label, moved_link, moved_quad, zone_bytes};
 use crate::sides::Sides;
-use crate::{Failure, Out, Space, Spot};
+use crate::{Failure, Place, Space, Written};
 use sheet::Head;
 use sheet::record::head_from;
 use sheet::write::put_head;
@@ -29,27 +29,27 @@ fn relinked(h: Head, link: usize, at: usize) -> Head
 
 // The head of a record whose labels belong at a place.
 fn relabelled(h: Head, label: usize) -> Head
-    requires { (label + h.nlen < 65536) × Bounded h }
+    requires { (label + h.name_len < 65536) × Bounded h }
     ensures { (result ≡ relabelled h label) × Bounded result }
 {
     Head {
-        quad: moved_quad(h, label + h.nlen),
-        name: moved_label(label, h.nlen),
+        bytes_4_7: moved_quad(h, label + h.name_len),
+        name: moved_label(label, h.name_len),
         ..h
     }
 }
 
 // Whether a record has neither a name nor a zone.
-fn is_bare(h: Head) -> bool
-    ensures { result ≡ (eqb h.nlen 0 && not (zoned_in h)) }
+fn is_unlabelled(h: Head) -> bool
+    ensures { result ≡ (eqb h.name_len 0 && not (zoned_in h)) }
 {
-    h.nlen == 0 && !h.zoned()
+    h.name_len == 0 && !h.zoned()
 }
 
 // Mends heads that were copied from number link on: their links and the places of their labels
 // become those of the records where they stand now. Each of the three cases puts its head itself,
 // so that no more is computed than what it changes.
-fn move_heads(work: &mut [u8], space: Space, link: usize, count: usize, to: Spot) -> Out
+fn move_heads(work: &mut [u8], space: Space, link: usize, count: usize, to: Place) -> Written
     requires { Room work.old space × (Inside space to × (to.at + count ≤ space.n)) }
     ensures { MovedHeads space (region space work.old) to.at work.old work.new link count to result }
 {
@@ -59,7 +59,7 @@ fn move_heads(work: &mut [u8], space: Space, link: usize, count: usize, to: Spot
         let h = head_from(&work[space.half..], 16 * at);
         let g = relinked(h, link, to.at);
         if h.zoned() {
-            let own = h.nlen + h.zone_len();
+            let own = h.name_len + h.zone_len();
             if space.m < label + own {
                 return Err(Failure::Full);
             }
@@ -68,19 +68,19 @@ fn move_heads(work: &mut [u8], space: Space, link: usize, count: usize, to: Spot
             at += 1;
             continue;
         }
-        if h.nlen == 0 {
+        if h.name_len == 0 {
             put_head(work, space.half + 16 * at, g);
             at += 1;
             continue;
         }
-        if space.m < label + h.nlen {
+        if space.m < label + h.name_len {
             return Err(Failure::Full);
         }
         put_head(work, space.half + 16 * at, Head { name: label, ..g });
-        label += h.nlen;
+        label += h.name_len;
         at += 1;
     }
-    Ok(Spot { at, label })
+    Ok(Place { at, label })
 }
 
 impl Sides<'_> {
@@ -92,7 +92,7 @@ impl Sides<'_> {
         let mut at = link;
         while at < end {
             let h = self.head(work, at);
-            if h.nlen != 0 {
+            if h.name_len != 0 {
                 return h.name;
             }
             if zone_bytes(h) != 0 {
@@ -107,7 +107,7 @@ impl Sides<'_> {
     // labels they have. It is not inlined, so that the frame in the recursion of `merge` stays
     // small.
     #[inline(never)]
-    fn copy_items(&self, work: &mut [u8], link: usize, end: usize, to: Spot) -> Out
+    fn copy_items(&self, work: &mut [u8], link: usize, end: usize, to: Place) -> Written
         requires room { Room work.old self.now.space × Inside self.now.space to }
         requires fits { (link < end) × ((end ≤ self.now.space.n) × (to.at + (end - link) ≤ self.now.space.n)) }
         ensures { CopiedSpan self.now.space (side self.now.swap self.now.sheet.now work.old) work.old work.new link end to result }
@@ -134,7 +134,7 @@ impl Sides<'_> {
     /// or labels do not fit. Most often it is one record without labels, the index of a Dictionary,
     /// of which a head is put and no more: that case is inlined.
     #[inline(always)]
-    pub fn copy_span(&self, work: &mut [u8], link: usize, end: usize, to: Spot) -> Out
+    pub fn copy_span(&self, work: &mut [u8], link: usize, end: usize, to: Place) -> Written
         requires { Room work.old self.now.space × Inside self.now.space to }
         ensures { CopiedSpan self.now.space (side self.now.swap self.now.sheet.now work.old) work.old work.new link end to result }
     {
@@ -148,9 +148,9 @@ impl Sides<'_> {
         }
         if count == 1 {
             let h = self.head(&*work, link);
-            if is_bare(h) {
+            if is_unlabelled(h) {
                 put_head(work, space.half + 16 * to.at, relinked(h, link, to.at));
-                return Ok(Spot {
+                return Ok(Place {
                     at: to.at + 1,
                     label: to.label,
                 });

@@ -5,7 +5,7 @@ ghost use Prim.Native.Nat.{ℕ, ◌≤◌};
 ghost use Rattle.sheet.specs.Bounds.{Filled};
 ghost use Rattle.buffers.specs.Writes.{side};
 ghost use Rattle.buffers.specs.Region.{Room, Ready};
-ghost use Rattle.buffers.specs.Goal.{LaidZoned};
+ghost use Rattle.buffers.specs.Target.{LaidZoned};
 ghost use Rattle.plain.specs.Plain.{plain_rules};
 ghost use Rattle.buffers.specs.Heads.{place_of, either_zone};
 ghost use Rattle.plain.specs.Steps.{step_of};
@@ -13,21 +13,21 @@ ghost use Rattle.buffers.specs.Typed.{Merges};
 
 use crate::lay::{lay_plain, lay_zoned};
 use crate::sides::Sides;
-use crate::{Failure, Goal, Out};
+use crate::{Failure, Target, Written};
 use coercion::{Figures, Rules};
 use plain::step::{Step, plain_heads};
-use plain::zone::{Place, zone_coercion};
+use plain::zone::{ZonePlace, zone_coercion};
 use sheet::label::fill;
 use sheet::{Head, kind};
 
 // Where the zone of a record stands in a slice of a length: what lies inside, where the slice ends
 // before it does.
-fn zone_place(h: Head, n: usize, length: usize) -> Place
+fn zone_place(h: Head, n: usize, length: usize) -> ZonePlace
     requires { n ≤ 1024 }
     ensures { result ≡ place_of h n length }
 {
     let from = (16 * n + h.zone_at()).min(length);
-    Place {
+    ZonePlace {
         present: h.zoned(),
         from,
         upto: (from + h.zone_len()).min(length),
@@ -51,7 +51,7 @@ impl Sides<'_> {
 
     // Writes a Timestamp of a unit with the zone of two records of which one has a zone. All of the
     // zone is read before one byte is written.
-    fn stamp_zoned(&self, work: &mut [u8], unit: u8, x: Head, y: Head, g: Goal) -> Out
+    fn stamp_zoned(&self, work: &mut [u8], unit: u8, x: Head, y: Head, g: Target) -> Written
         requires { Room work.old self.now.space × Ready self.now.space g }
         ensures { LaidZoned self.now.space work.old work.new g 22 unit (either_zone (side self.now.swap self.now.sheet.now work.old) (side (not self.now.swap) self.now.sheet.now work.old) self.now.space.n x y) result }
     {
@@ -63,7 +63,7 @@ impl Sides<'_> {
 
     // Writes a Timestamp of a unit with the zone of two types: the left's if it has one, else the
     // right's.
-    fn stamp(&self, work: &mut [u8], unit: u8, l: usize, r: usize, g: Goal) -> Out
+    fn stamp(&self, work: &mut [u8], unit: u8, l: usize, r: usize, g: Target) -> Written
         requires { Room work.old self.now.space × Ready self.now.space g }
         ensures { (left : ℕ) → Merges (step_of (Some (Step.Stamp unit))) self.now.space left self.now.swap self.now.sheet.now work.old work.new l r g result }
     {
@@ -75,7 +75,7 @@ impl Sides<'_> {
     }
 
     // Writes what a step says of the types at two links.
-    fn lay_step(&self, work: &mut [u8], step: Step, l: usize, r: usize, g: Goal) -> Out
+    fn lay_step(&self, work: &mut [u8], step: Step, l: usize, r: usize, g: Target) -> Written
         requires { Room work.old self.now.space × Ready self.now.space g }
         ensures { (left : ℕ) → Merges (step_of (Some step)) self.now.space left self.now.swap self.now.sheet.now work.old work.new l r g result }
     {
@@ -89,7 +89,14 @@ impl Sides<'_> {
 
     /// Writes what the rules for types without parts say of the types at `l` and `r`: `NoType`
     /// where they say nothing, `Full` where there is no room for the record or the zone.
-    pub fn plain_rule(&self, work: &mut [u8], rules: Rules, l: usize, r: usize, g: Goal) -> Out
+    pub fn plain_rule(
+        &self,
+        work: &mut [u8],
+        rules: Rules,
+        l: usize,
+        r: usize,
+        g: Target,
+    ) -> Written
         requires { Room work.old self.now.space × Ready self.now.space g }
         ensures { (left : ℕ) → Merges (plain_rules rules) self.now.space left self.now.swap self.now.sheet.now work.old work.new l r g result }
     {

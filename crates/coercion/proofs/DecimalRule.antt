@@ -9,10 +9,10 @@ use native.Mathlib.Omega.{arith}
 use lib.Dec.{leb, eqb}
 use lib.IntN.{sub_ℕ}
 use borrow.Author.Tests.{le-leb, leb-true, eq-eqb, ne_eqb, eqb-true}
-use Rattle.sheet.specs.Tests.{between}
+use Rattle.sheet.specs.Booleans.{between}
 use Rattle.sheet.specs.Kind.{is_decimal, cap, is_numeric}
 use Rattle.sheet.specs.Refusals.{biased, decimal_right, figure_right}
-use Rattle.sheet.proofs.Tests.{all_at, all_cons, all_nil, and_fst, and_snd}
+use Rattle.sheet.proofs.Booleans.{all_at, all_cons, all_nil, and_fst, and_snd}
 use Rattle.coercion.specs.declared.Figures.{Figures}
 use Rattle.coercion.specs.Data.{DataType, or_else, first_of, plain, as_type}
 use Rattle.coercion.specs.Same.{same_type, equal, alike}

@@ -7,11 +7,11 @@ use native.Mathlib.Omega.{arith}
 use native.Mathlib.Decide.{ℕ_discrete, dec_le}
 use lib.Dec.{eqb, leb}
 use borrow.Author.Tests.{eqb-true, leb-true, le-leb}
-use Rattle.sheet.specs.Tests.{between}
+use Rattle.sheet.specs.Booleans.{between}
 use Rattle.sheet.specs.Types.{count}
 use Rattle.sheet.specs.Kind.{is_decimal, cap}
 use Rattle.sheet.specs.Refusals.{biased, decimal_right}
-use Rattle.sheet.proofs.Tests.{and_fst, and_snd, all_at, all_cons, all_nil}
+use Rattle.sheet.proofs.Booleans.{and_fst, and_snd, all_at, all_cons, all_nil}
 use Rattle.coercion.specs.declared.Rules.{Rules}
 use Rattle.coercion.specs.Data.{DataType, plain, first_of, for_list}
 use Rattle.coercion.specs.declared.Figures.{Figures}

@@ -10,7 +10,7 @@ use native.Mathlib.Omega.{arith}
 use lib.ListN.{length}
 use Rattle.sheet.specs.Types.{Fields, end, field, arity}
 use Rattle.sheet.specs.Names.{same_bytes, has_name, repeats}
-use Rattle.sheet.proofs.Tests.{and_fst, and_snd, or_fst, or_snd, never}
+use Rattle.sheet.proofs.Booleans.{and_fst, and_snd, or_fst, or_snd, never}
 use Rattle.sheet.proofs.Bytewise.{same_self, same_equal}
 use Rattle.coercion.specs.Data.{and_then}
 use Rattle.coercion.specs.Nested.{fields_have_same_names, with_name, by_name, partners}

@@ -5,10 +5,10 @@ use Prim.Native.Nat.{ℕ, ◌<◌, ◌≤◌}
 use native.Mathlib.Omega.{arith}
 use lib.Dec.{ltb}
 use borrow.Author.Tests.{ltb-true, leb-true}
-use Rattle.sheet.specs.Tests.{all_of, between}
+use Rattle.sheet.specs.Booleans.{all_of, between}
 use Rattle.sheet.specs.Kind.{is_kind, is_decimal, cap, sized, last_unit, parts_right}
 use Rattle.sheet.specs.Refusals.{decimal_right, figure_right, size_right, figures_right}
-use Rattle.sheet.proofs.Tests.{and_fst, and_snd, all_at, all_cons, all_nil}
+use Rattle.sheet.proofs.Booleans.{and_fst, and_snd, all_at, all_cons, all_nil}
 use Rattle.coercion.specs.Data.{DataType, plain, of_kind}
 use Rattle.coercion.specs.declared.Figures.{Figures}
 use Rattle.coercion.specs.Families.{Family, integers, strings, timestamps, decimals, Member, decimal_of, InFamily, null, member}

@@ -3,7 +3,7 @@ use mathlib.Core.List.{List, [], ◌∷◌}
 use Rattle.std.specs.Prelude.{Option}
 use Prim.Native.Nat.{ℕ, ◌+◌, ◌≤◌}
 use native.Mathlib.Omega.{arith}
-use Rattle.sheet.specs.Tests.{between}
+use Rattle.sheet.specs.Booleans.{between}
 use Rattle.coercion.specs.Data.{DataType}
 use Rattle.coercion.specs.Rules.{is_null}
 use Rattle.coercion.specs.Answers.{coercion, notSupported, has_category, categories_in, all_equal, fold_from, fold_types, type_union_resolution, pair_answer, answer_of}

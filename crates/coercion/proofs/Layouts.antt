@@ -11,7 +11,7 @@ use borrow.Author.Tests.{eq-eqb}
 use Rattle.sheet.specs.declared.kind.TheConstants as Kind
 use Rattle.sheet.specs.Types.{Fields, arity}
 use Rattle.sheet.specs.Names.{repeats}
-use Rattle.sheet.proofs.Tests.{never}
+use Rattle.sheet.proofs.Booleans.{never}
 use Rattle.coercion.specs.Data.{DataType, types_of, for_list}
 use Rattle.coercion.specs.Same.{equal, alike}
 use Rattle.coercion.specs.Nested.{join_fields, fields_have_same_names, by_name, partners, shape_of_kind, struct_coercion}

@@ -5,9 +5,9 @@ use mathlib.Core.Bool
 use mathlib.Core.Bool.{Bool, true, false, ◌&&◌}
 use mathlib.Core.List.{List, [], ◌∷◌}
 use Prim.Native.Nat.{ℕ, ◌<◌, max}
-use Rattle.sheet.specs.Tests.{between}
+use Rattle.sheet.specs.Booleans.{between}
 use Rattle.sheet.specs.Kind.{is_decimal}
-use Rattle.sheet.proofs.Tests.{never, and_fst, and_snd, and_true}
+use Rattle.sheet.proofs.Booleans.{never, and_fst, and_snd, and_true}
 use Rattle.coercion.specs.Data.{DataType, plain}
 use Rattle.coercion.specs.declared.Figures.{Figures}
 use Rattle.coercion.specs.Answers.{Category, numeric, unknown, dateTime}

@@ -10,7 +10,7 @@ use borrow.Author.Tests.{eqb-true}
 use Rattle.sheet.specs.declared.kind.TheConstants as Kind
 use Rattle.sheet.specs.Types.{Zone, absent, present, Shape, Fields, end, field, arity}
 use Rattle.sheet.specs.Names.{same_bytes, has_name, repeats}
-use Rattle.sheet.proofs.Tests.{never, and_fst}
+use Rattle.sheet.proofs.Booleans.{never, and_fst}
 use Rattle.coercion.specs.Data.{DataType, size, may_become, and_then, first_of, figures_of, plain, as_type}
 use Rattle.sheet.specs.Kind.{is_numeric, is_string, is_list, is_date, is_time}
 use Rattle.coercion.specs.Same.{equal, alike}

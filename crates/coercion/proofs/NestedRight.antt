@@ -9,12 +9,12 @@ use lib.Dec.{eqb}
 use borrow.Author.Tests.{eqb-true, eq-eqb}
 use Rattle.sheet.specs.declared.kind.TheConstants as Kind
 use Rattle.sheet.specs.Kind.{is_kind, is_decimal, sized, last_unit, parts_right, names_parts, is_list}
-use Rattle.sheet.specs.Tests.{all_of, between}
+use Rattle.sheet.specs.Booleans.{all_of, between}
 use Rattle.sheet.specs.Types.{absent, Shape, Fields, end, field, arity}
 use Rattle.sheet.specs.Names.{same_bytes}
 use Rattle.sheet.specs.Refusals.{figure_right, size_right, figures_right}
 use Rattle.sheet.specs.Carried.{FieldsRight}
-use Rattle.sheet.proofs.Tests.{all_at, all_cons, all_nil, and_fst, and_snd}
+use Rattle.sheet.proofs.Booleans.{all_at, all_cons, all_nil, and_fst, and_snd}
 use Rattle.coercion.specs.Data.{DataType, size, and_then, first_of}
 use Rattle.coercion.specs.Same.{equal}
 use Rattle.coercion.specs.Wrappers.{value_in, is_of, wrapper_coercion}

@@ -9,9 +9,9 @@ use lib.Dec.{eqb, leb, ltb}
 use borrow.Author.Tests.{eqb-true, leb-true, le-leb, lt-leb, lt-ltb, ne_eqb}
 use Rattle.sheet.specs.declared.kind.TheConstants as Kind
 use Rattle.sheet.specs.Kind.{is_kind, is_decimal, cap, last_unit, parts_right, is_numeric, is_signed, one_is, with_kind}
-use Rattle.sheet.specs.Tests.{all_of, between}
+use Rattle.sheet.specs.Booleans.{all_of, between}
 use Rattle.sheet.specs.Refusals.{biased, decimal_right, figure_right}
-use Rattle.sheet.proofs.Tests.{all_at, all_cons, all_nil, and_fst, and_snd}
+use Rattle.sheet.proofs.Booleans.{all_at, all_cons, all_nil, and_fst, and_snd}
 use Rattle.coercion.specs.Data.{and_then}
 use Rattle.coercion.specs.Numbers.{float_coercion, integer_coercion, decimal, ahead, wider_scale, wider_precision, get_wider_decimal_type, get_wider_decimal_type_cross_variant, digits_of, fraction_of, takes, coerce_numeric_type_to_decimal, get_common_decimal_type, decimal_coercion, numerical_coercion, same_figures, binary_numeric_coercion}
 use Rattle.coercion.specs.declared.Figures.{Figures}

@@ -10,7 +10,7 @@ use lib.Dec.{leb}
 use borrow.Author.Tests.{leb-true, le-leb}
 use Rattle.sheet.specs.Kind.{is_decimal, cap}
 use Rattle.sheet.specs.Refusals.{biased}
-use Rattle.sheet.proofs.Tests.{never, and_fst, and_snd}
+use Rattle.sheet.proofs.Booleans.{never, and_fst, and_snd}
 use Rattle.coercion.specs.Data.{DataType, plain}
 use Rattle.coercion.specs.Numbers.{decimal}
 use Rattle.coercion.specs.Rules.{is_null}

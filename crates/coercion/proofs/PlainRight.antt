@@ -9,11 +9,11 @@ use lib.Dec.{eqb}
 use borrow.Author.Tests.{eqb-true, leb-true, le-leb, ltb-true}
 use Rattle.sheet.specs.declared.kind.TheConstants as Kind
 use Rattle.sheet.specs.Kind.{is_kind, is_decimal, sized, last_unit, parts_right, names_parts, is_numeric, is_string, is_integer, is_date, is_time, is_span, one_is, with_kind}
-use Rattle.sheet.specs.Tests.{all_of, between, implies}
+use Rattle.sheet.specs.Booleans.{all_of, between, implies}
 use Rattle.sheet.specs.Types.{Zone, absent, present, Shape, Fields, arity, zone_bytes}
 use Rattle.sheet.specs.Refusals.{figure_right, size_right, figures_right}
 use Rattle.sheet.specs.Carried.{Label, is_named, is_zoned, FieldRight, FieldsRight}
-use Rattle.sheet.proofs.Tests.{all_at, all_cons, all_nil, and_fst, and_snd}
+use Rattle.sheet.proofs.Booleans.{all_at, all_cons, all_nil, and_fst, and_snd}
 use Rattle.coercion.specs.Data.{DataType, may_become, figures_of, plain, as_type, zoned, of_unit, of_kind}
 use Rattle.coercion.specs.Same.{alike}
 use Rattle.coercion.specs.Strings.{string_coercion, is_long_string, is_binary_or_string, binary_coercion}

@@ -8,11 +8,11 @@ use native.Mathlib.Omega.{arith}
 use native.Mathlib.Decide.{ℕ_discrete}
 use lib.Dec.{eqb, ltb, leb}
 use borrow.Author.Tests.{eqb-true, ltb-true, leb-true, le-leb, ne_eqb, not-true}
-use Rattle.sheet.specs.Tests.{all_of, between}
+use Rattle.sheet.specs.Booleans.{all_of, between}
 use Rattle.sheet.specs.Types.{count}
 use Rattle.sheet.specs.declared.kind.TheConstants as Kind
 use Rattle.sheet.specs.Kind.{is_decimal, cap}
-use Rattle.sheet.proofs.Tests.{never, and_fst, and_snd}
+use Rattle.sheet.proofs.Booleans.{never, and_fst, and_snd}
 use Rattle.coercion.specs.declared.Rules.{Rules}
 use Rattle.coercion.specs.Data.{DataType, plain, of_kind, of_unit, first_of, for_list}
 use Rattle.coercion.specs.declared.Figures.{Figures}

@@ -6,9 +6,9 @@ use Rattle.std.specs.Prelude.{Option, Some}
 use Prim.Native.Nat.{◌+◌, ◌≤◌}
 use native.Mathlib.Omega.{arith}
 use borrow.Author.Tests.{eqb-true, le-leb}
-use Rattle.sheet.specs.Tests.{all_of, between}
+use Rattle.sheet.specs.Booleans.{all_of, between}
 use Rattle.sheet.specs.Types.{Zone, absent, present, Fields, end, field}
-use Rattle.sheet.proofs.Tests.{never, and_fst, and_snd, all_at}
+use Rattle.sheet.proofs.Booleans.{never, and_fst, and_snd, all_at}
 use Rattle.coercion.specs.declared.Rules.{Rules}
 use Rattle.coercion.specs.Data.{DataType, plain, of_kind, for_list}
 use Rattle.coercion.specs.declared.Figures.{Figures}

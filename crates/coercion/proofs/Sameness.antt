@@ -5,10 +5,10 @@ use mathlib.Core.List.{List}
 use Prim.Native.Nat.{ℕ, ◌+◌}
 use native.Mathlib.Omega.{arith}
 use borrow.Author.Tests.{eq-eqb, eqb-true}
-use Rattle.sheet.specs.Tests.{implies}
+use Rattle.sheet.specs.Booleans.{implies}
 use Rattle.sheet.specs.Types.{Zone, absent, present, Shape, Fields, end, field, arity}
 use Rattle.sheet.specs.Names.{same_bytes}
-use Rattle.sheet.proofs.Tests.{all_at, all_cons, all_nil, and_fst, and_snd, never}
+use Rattle.sheet.proofs.Booleans.{all_at, all_cons, all_nil, and_fst, and_snd, never}
 use Rattle.sheet.proofs.Bytewise.{same_self, same_equal}
 use Rattle.coercion.specs.Data.{DataType}
 use Rattle.coercion.specs.Same.{same_zone, same_shape, same_fields, same_type, equal, alike, seen, strip, shown, nameless}

@@ -1,6 +1,6 @@
 -- In a list the later zone wins. Assumes nothing.
 use mathlib.Core.Path.{refl}
-use Rattle.sheet.specs.Tests.{all_of, between}
+use Rattle.sheet.specs.Booleans.{all_of, between}
 use Rattle.sheet.specs.Kind.{is_decimal}
 use Rattle.sheet.specs.Types.{arity, count}
 use Rattle.sheet.specs.Names.{same_bytes}

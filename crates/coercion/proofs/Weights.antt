@@ -11,7 +11,7 @@ use borrow.Author.Tests.{not-true}
 use Rattle.sheet.specs.declared.kind.TheConstants as Kind
 use Rattle.sheet.specs.Types.{Zone, absent, Shape, Fields, end, field, count, zone_bytes, own_labels, labels}
 use Rattle.sheet.specs.Names.{same_bytes, has_name, repeats, names_differ}
-use Rattle.sheet.proofs.Tests.{all_at, all_cons, all_nil, never, or_fst, or_snd}
+use Rattle.sheet.proofs.Booleans.{all_at, all_cons, all_nil, never, or_fst, or_snd}
 use Rattle.sheet.proofs.Bytewise.{same_self, same_equal}
 use Rattle.coercion.specs.Data.{DataType}
 use Rattle.coercion.specs.Nested.{with_name, by_name}

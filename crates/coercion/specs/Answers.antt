@@ -178,7 +178,7 @@ categories_in ts =
 
 -- whether the categories of a list allow an answer
 abbrev pub categories_fit : List DataType → Bool
-categories_fit ts = cond (has_category notSupported ts) false (Rattle.sheet.specs.Tests.between 0 1 (categories_in ts))
+categories_fit ts = cond (has_category notSupported ts) false (Rattle.sheet.specs.Booleans.between 0 1 (categories_in ts))
 
 abbrev pub all_equal : DataType → List DataType → Bool
 all_equal t [] = true
@@ -202,7 +202,7 @@ type_union_resolution rules [] = None
 type_union_resolution rules (t ∷ ts) =
     cond (all_equal t ts) (Some t)
     (cond (has_category notSupported (t ∷ ts)) None
-    (cond (Rattle.sheet.specs.Tests.between 0 1 (categories_in (t ∷ ts))) (fold_types rules (t ∷ ts)) None))
+    (cond (Rattle.sheet.specs.Booleans.between 0 1 (categories_in (t ∷ ts))) (fold_types rules (t ∷ ts)) None))
 
 -- "Union and compare take two types, the left and then the right"
 abbrev pub pair_answer : Rules → List DataType → Option DataType

@@ -1,7 +1,7 @@
 -- Numbers and decimals: the 14 functions of the source from `binary_numeric_coercion` on.
 use Rattle.std.specs.Prelude.{ℕ, ◌+◌, ◌-◌, ◌%◌, min, max, Bool, cond, not, ◌&&◌, ◌||◌, eqb, leb}
 use Rattle.std.specs.Prelude.{Option, None, Some}
-use Rattle.sheet.specs.Tests.{between}
+use Rattle.sheet.specs.Booleans.{between}
 use Rattle.sheet.specs.declared.kind.TheConstants as Kind
 use Rattle.sheet.specs.Kind.{is_decimal, cap, is_numeric, is_signed, one_is, with_kind}
 use Rattle.sheet.specs.Refusals.{biased}

@@ -1,7 +1,7 @@
 -- Sameness and alikeness of types.
 use Rattle.std.specs.Prelude.{ℕ, Bool, true, false, cond, ◌&&◌, List, [], ◌∷◌, eqb}
 use Rattle.std.specs.Bool.{beq}
-use Rattle.sheet.specs.Tests.{all_of, implies}
+use Rattle.sheet.specs.Booleans.{all_of, implies}
 use Rattle.sheet.specs.Types.{Zone, absent, present, Shape, Fields, end, field}
 use Rattle.sheet.specs.Names.{same_bytes}
 use Rattle.coercion.specs.Data.{DataType}

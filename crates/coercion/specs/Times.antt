@@ -2,7 +2,7 @@
 -- `is_time_with_valid_unit`.
 use Rattle.std.specs.Prelude.{ℕ, max, Bool, cond, ◌&&◌, ◌||◌, eqb, leb}
 use Rattle.std.specs.Prelude.{Option, None, Some}
-use Rattle.sheet.specs.Tests.{between}
+use Rattle.sheet.specs.Booleans.{between}
 use Rattle.sheet.specs.declared.kind.TheConstants as Kind
 use Rattle.sheet.specs.Types.{Zone, absent, present}
 use Rattle.sheet.specs.Kind.{is_integer, is_date, is_time, is_span, with_kind}

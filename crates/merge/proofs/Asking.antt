@@ -9,7 +9,7 @@ use native.Mathlib.Omega.{arith}
 use lib.Dec.{eqb, ltb}
 use borrow.Author.Tests.{eqb-true, ltb-true, eq-eqb, ne_eqb}
 use Rattle.sheet.specs.Head.{head_at}
-use Rattle.sheet.proofs.Tests.{never, and_fst, and_snd}
+use Rattle.sheet.proofs.Booleans.{never, and_fst, and_snd}
 use Rattle.coercion.specs.Data.{DataType, is_list_question}
 use Rattle.coercion.specs.Same.{same_type}
 use Rattle.coercion.specs.Answers.{coercion}
@@ -18,17 +18,17 @@ use Rattle.coercion.specs.declared.Question.{Question}
 use Rattle.coercion.specs.declared.Rules.{Rules}
 use Rattle.buffers.specs.Differ.{type_differs, DifferTypes}
 use Rattle.buffers.specs.Writes.{side}
-use Rattle.buffers.specs.Goal.{CopiedType}
+use Rattle.buffers.specs.Target.{CopiedType}
 use Rattle.buffers.specs.Typed.{Typed, Merges}
 use Rattle.plain.specs.Plain.{plain_rules}
-use Rattle.turns.specs.Turns.{nested_of, resolved, unwrapped, either_wrapped, rewrapped, turns_for, turns_of}
+use Rattle.rule_order.specs.Order.{nested_of, resolved, unwrapped, either_wrapped, rewrapped, turns_for, turns_of}
 use Rattle.merge.specs.Descent.{passes}
 use Rattle.merge.specs.Known.{Differs, FirstDifference}
 use Rattle.merge.specs.Merge.{MergesKnown, MergesHinted}
 use Rattle.buffers.specs.declared.Space.{Space}
-use Rattle.buffers.specs.declared.Goal.{Goal}
-use Rattle.buffers.specs.Out.{Out}
-use Rattle.turns.proofs.Orders.{ask_turns, bare_turns, plain_turns}
+use Rattle.buffers.specs.declared.Target.{Target}
+use Rattle.buffers.specs.Written.{Written}
+use Rattle.rule_order.proofs.Orders.{ask_turns, bare_turns, plain_turns}
 use Rattle.merge.proofs.Merging.{chain_some, nothing_known, typed_differs, none_known, hinted_within, known_as, as_known, merges_left}
 use Rattle.buffers.proofs.Sameness.{shapes_unlike}
 use Rattle.buffers.proofs.Differing.{type_same}
@@ -107,7 +107,7 @@ handed {l = l} known e names ef f z x y a b d =
     let i = told ef f x y a b d in
     (sym (type_same names l x y (chain_some a.chain)) ∙ ne_eqb _ 0 (λ q. z (i ∙ q)), λ c p. sym i ∙ same_Some e c p)
 
-module _ (rules : Rules) (space : Space) (left : ℕ) (swap : Bool) (s w : List ℕ) (l r : ℕ) (g : Goal) where
+module _ (rules : Rules) (space : Space) (left : ℕ) (swap : Bool) (s w : List ℕ) (l r : ℕ) (g : Target) where
   abbrev both : DataType → DataType → Option DataType
   both = coercion rules
 
@@ -118,7 +118,7 @@ module _ (rules : Rules) (space : Space) (left : ℕ) (swap : Bool) (s w : List 
   names = is_list_question rules.question
 
   -- two types that are the same
-  pub coerce_same : {known : Option ℕ} {flag : Bool} {e : ℕ} → flag ≡ names → FirstDifference known flag space (side swap s w) l (side (not swap) s w) r e → (v : List ℕ) (o : Out) → e ≡ 0
+  pub coerce_same : {known : Option ℕ} {flag : Bool} {e : ℕ} → flag ≡ names → FirstDifference known flag space (side swap s w) l (side (not swap) s w) r e → (v : List ℕ) (o : Written) → e ≡ 0
       → CopiedType space (side swap s w) w v l g o → MergesKnown known names both space left swap s w v l r g o
   coerce_same {known} ef f v o z c =
       as_known both space swap s w v l r g o known left (omega arith)
@@ -130,13 +130,13 @@ module _ (rules : Rules) (space : Space) (left : ℕ) (swap : Bool) (s w : List 
     differ : (x y : DataType) → Typed space (side swap s w) l x → Typed space (side (not swap) s w) r y → Differs known names l x y → turns_of rules both x y ≡ both x y
     differ x y a b k = sym (turns x y ∙ rw (apart x y a b k).0 refl)
 
-    pub coerce_list : (v : List ℕ) (o : Out) → names ≡ true → ¬ (left ≡ 0)
+    pub coerce_list : (v : List ℕ) (o : Written) → names ≡ true → ¬ (left ≡ 0)
         → MergesKnown d names (resolved rules both) space (left - 1 + 1) swap s w v l r g o → MergesKnown known names both space left swap s w v l r g o
     coerce_list v o f more m =
         known_as both space swap s w v l r g o known left (omega arith)
         (λ x y a b k. (list_turns rules.question rules both x y f ∙ differ x y a b k, (apart x y a b k).1)) m
 
-    pub coerce_pair : {hint : ℕ} (v : List ℕ) (o : Out) → names ≡ false → ¬ (left ≡ 0)
+    pub coerce_pair : {hint : ℕ} (v : List ℕ) (o : Written) → names ≡ false → ¬ (left ≡ 0)
         → MergesHinted hint rules.mask d names (unwrapped rules both) space (left - 1 + 1) swap s w v l r g o → MergesHinted hint rules.mask known names both space left swap s w v l r g o
     coerce_pair v o f more m =
         hinted_within both space swap s w v l r g o known left (omega arith)
@@ -150,7 +150,7 @@ module _ (rules : Rules) (space : Space) (left : ℕ) (swap : Bool) (s w : List 
       right_kind : {y : DataType} → Typed space (side (not swap) s w) r y → y.shape.kind < top
       right_kind b = let p = ltb-true j top (and_snd (ltb k top) (ltb j top) h) in omega (arith, kind_of_lem ej b)
 
-    module _ (v : List ℕ) (o : Out) {k j : ℕ} (ek : k ≡ (head_at (side swap s w) l).kind) (ej : j ≡ (head_at (side (not swap) s w) r).kind) where
+    module _ (v : List ℕ) (o : Written) {k j : ℕ} (ek : k ≡ (head_at (side swap s w) l).kind) (ej : j ≡ (head_at (side (not swap) s w) r).kind) where
       pub coerce_plain : (ltb k 32 && ltb j 32) ≡ true → ((i : ℕ) → Merges (plain_rules rules) space i swap s w v l r g o)
           → MergesKnown known names both space left swap s w v l r g o
       coerce_plain h m =
@@ -169,12 +169,12 @@ module _ (rules : Rules) (space : Space) (left : ℕ) (swap : Bool) (s w : List 
     unlike : Handed names space (side swap s w) l (side (not swap) s w) r None None
     unlike x y a b d = (types_unlike names x y (λ q. ne (sym (kind_of_lem ek a) ∙ q ∙ kind_of_lem ej b)), nothing_known names _ x y)
 
-    pub coerce_unlike : (v : List ℕ) (o : Out) → (ltb k 32 && ltb j 32) ≡ true → ((i : ℕ) → Merges (plain_rules rules) space i swap s w v l r g o)
+    pub coerce_unlike : (v : List ℕ) (o : Written) → (ltb k 32 && ltb j 32) ≡ true → ((i : ℕ) → Merges (plain_rules rules) space i swap s w v l r g o)
         → Merges both space left swap s w v l r g o
     coerce_unlike v o h m = none_known swap (coerce_plain {known = None} {d = None} unlike v o ek ej h m)
 
   -- a wrapper in a list that comes to its rule
-  pub coerce_wrapper : {k j : ℕ} → k ≡ (head_at (side swap s w) l).kind → j ≡ (head_at (side (not swap) s w) r).kind → passes k j ≡ true → (v : List ℕ) (o : Out) → names ≡ true
+  pub coerce_wrapper : {k j : ℕ} → k ≡ (head_at (side swap s w) l).kind → j ≡ (head_at (side (not swap) s w) r).kind → passes k j ≡ true → (v : List ℕ) (o : Written) → names ≡ true
       → Merges (rewrapped k both) space (left - 1 + 1) swap s w v l r g o → Merges both space left swap s w v l r g o
   coerce_wrapper {k} {j} ek ej h v o f m =
       none_known {named = names} swap

@@ -11,9 +11,9 @@ use lib.ListN.{length}
 use Rattle.sheet.specs.Types.{Fields, end, field, count, own_labels, labels}
 use Rattle.sheet.specs.Head.{head_at}
 use Rattle.sheet.specs.declared.Head.{Head}
-use Rattle.sheet.proofs.Tests.{never}
+use Rattle.sheet.proofs.Booleans.{never}
 use Rattle.coercion.specs.Data.{DataType, size}
-use Rattle.buffers.specs.Goal.{type_of}
+use Rattle.buffers.specs.Target.{type_of}
 use Rattle.buffers.specs.Region.{Held}
 use Rattle.buffers.specs.Typed.{Chain, Typed}
 use Rattle.buffers.specs.declared.Space.{Space}

@@ -17,7 +17,7 @@ use Rattle.buffers.specs.Region.{region, Kept, Held, Inside, Short, Wrote}
 use Rattle.buffers.specs.Typed.{Typed}
 use Rattle.buffers.specs.Span.{Item, item_labels, Strip, ItemsRight, moved_items, CopiedSpan}
 use Rattle.buffers.specs.declared.Space.{Space}
-use Rattle.buffers.specs.declared.Spot.{Spot}
+use Rattle.buffers.specs.declared.Place.{Place}
 use Rattle.std.specs.Prelude.{Ok, Err}
 use Rattle.buffers.specs.declared.Failure.TheVariants.{Full}
 use Rattle.buffers.proofs.Frames.{stands_frame}
@@ -168,13 +168,13 @@ module _ {space : Space} {s : List ℕ} {l i : ℕ} {x t : DataType} (a : Typed 
   low : a.chain.label + length (own_labels a.name x.shape) + length (item_labels (front_items c (l + 1))) ≤ space.m
   low = omega (arith, held.low, front_letters (front_at c (l + 1)) t)
 
-  module _ {w v : List ℕ} {to : Spot} where
+  module _ {w v : List ℕ} {to : Place} where
     -- there is no room for them, and none for the parts
     pub parts_short : CopiedSpan space s w v (l + 1) i to (Err Full) → Short space to (count x.parts) (length (labels x.parts))
     parts_short k =
         ⊎_elim (λ q. inl (omega (arith, records c (l + 1)))) (λ q. inr (omega (arith, letters_of c (l + 1)))) (k.means _ (front_items c (l + 1)) stand right place inside low)
 
-    module _ {d : Spot} (k : CopiedSpan space s w v (l + 1) i to (Ok d)) where
+    module _ {d : Place} (k : CopiedSpan space s w v (l + 1) i to (Ok d)) where
       -- where the type begins that comes behind them
       pub span_records : d.at + size t ≡ to.at + count x.parts
       span_records = let m = k.means _ (front_items c (l + 1)) stand right place inside low in omega (arith, m.0, records c (l + 1))
@@ -183,7 +183,7 @@ module _ {space : Space} {s : List ℕ} {l i : ℕ} {x t : DataType} (a : Typed 
       span_letters = let m = k.means _ (front_items c (l + 1)) stand right place inside low in omega (arith, m.1.0, letters_of c (l + 1))
 
       -- the parts, where that type is another
-      module _ (few : space.n ≤ 1024) (ahead : Inside space to) {v' : List ℕ} (stays : Kept space v v' d.at d.label) {e : Spot} (u : DataType) (wrote : Wrote space v' d e (alone c.name c.nullable u)) where
+      module _ (few : space.n ≤ 1024) (ahead : Inside space to) {v' : List ℕ} (stays : Kept space v v' d.at d.label) {e : Place} (u : DataType) (wrote : Wrote space v' d e (alone c.name c.nullable u)) where
         short : to.at + count x.parts < 65536
         short = omega (arith, few, ahead.records, held.source.leads.inside, ap (λ (f : Fields). count f) c.is)
 

@@ -20,18 +20,18 @@ use Rattle.coercion.specs.Nested.{before, join_fields, by_name}
 use Rattle.coercion.specs.declared.Rules.{Rules}
 use Rattle.buffers.specs.Writes.{side}
 use Rattle.buffers.specs.Region.{Room, Kept, Inside, Grows, Wrote}
-use Rattle.buffers.specs.Goal.{letters, spot_of, field_for, Means, Tied}
+use Rattle.buffers.specs.Target.{letters, spot_of, field_for, Means, Tied}
 use Rattle.partners.specs.Feeds.{Feeds, Fed, Unfed, RowIs}
-use Rattle.buffers.specs.Typed.{Chain, Typed, ChainIs, goal_at, NamedAt}
+use Rattle.buffers.specs.Typed.{Chain, Typed, ChainIs, target_at, NamedAt}
 use Rattle.buffers.specs.Differ.{RowsKnown}
 use Rattle.merge.specs.Known.{Differs, row_known, known_names}
 use Rattle.merge.specs.Merge.{MergesKnown, Rowed}
 use Rattle.buffers.specs.declared.Space.{Space}
-use Rattle.buffers.specs.declared.Spot.{Spot}
-use Rattle.buffers.specs.declared.Goal.{Goal}
+use Rattle.buffers.specs.declared.Place.{Place}
+use Rattle.buffers.specs.declared.Target.{Target}
 use Rattle.partners.specs.declared.Row.{Row}
 use Rattle.partners.specs.declared.Feed.{Feed}
-use Rattle.buffers.specs.Out.{Out}
+use Rattle.buffers.specs.Written.{Written}
 use Rattle.std.specs.Prelude.{Ok, Err}
 use Rattle.buffers.specs.declared.Failure.{Failure}
 use Rattle.buffers.specs.declared.Failure.TheVariants.{NoType, Full}
@@ -79,8 +79,8 @@ labels_none : length (labels end) ≡ 0
 unfolding labels
 labels_none = refl
 
-module _ (known : Option ℕ) (named : Bool) (c : DataType → DataType → Option DataType) (space : Space) (left : ℕ) (swap : Bool) (s w : List ℕ) (feed : Feed) (l r p : ℕ) (to : Spot) where
-  pub rows_end : (o : Out) → Inside space to → l ≡ 0 → o ≡ cond (eqb p 0) (Ok to) (Err NoType) → Rowed known named c space left swap s w w feed l r p to o
+module _ (known : Option ℕ) (named : Bool) (c : DataType → DataType → Option DataType) (space : Space) (left : ℕ) (swap : Bool) (s w : List ℕ) (feed : Feed) (l r p : ℕ) (to : Place) where
+  pub rows_end : (o : Written) → Inside space to → l ≡ 0 → o ≡ cond (eqb p 0) (Ok to) (Err NoType) → Rowed known named c space left swap s w w feed l r p to o
   unfolding count labels
   rows_end o inside z e =
       record {
@@ -103,7 +103,7 @@ module _ (known : Option ℕ) (named : Bool) (c : DataType → DataType → Opti
       go (field name nullable shape parts rest) rf pf tf nf a q f = absurd (omega (arith, chain_some a))
 
   -- what is said of a field that is there
-  pub rows_means : (v : List ℕ) (o : Out) → ¬ (l ≡ 0)
+  pub rows_means : (v : List ℕ) (o : Written) → ¬ (l ≡ 0)
       → ((name : List ℕ) (nullable : Bool) (shape : Shape) (parts rest rf pf tf nf : Fields) → Chain space (side swap s w) l (field name nullable shape parts rest)
       → Chain space (side (not swap) s w) r rf → Chain space (side (not swap) s w) p pf → Feeds feed (field name nullable shape parts rest) rf pf tf nf
       → count (field name nullable shape parts rest) + count tf ≤ left → RowsKnown known named l (field name nullable shape parts rest) pf
@@ -134,11 +134,11 @@ module _ (known : Option ℕ) (named : Bool) (c : DataType → DataType → Opti
       }
 
 -- the first row of a chain was merged under its name, and the rows behind it
-module _ (known : Option ℕ) (named : Bool) (rules : Rules) (space : Space) (left : ℕ) (swap : Bool) (s w : List ℕ) (feed : Feed) (l r p : ℕ) (to : Spot) (room : Room w space) (inside : Inside space to)
+module _ (known : Option ℕ) (named : Bool) (rules : Rules) (space : Space) (left : ℕ) (swap : Bool) (s w : List ℕ) (feed : Feed) (l r p : ℕ) (to : Place) (room : Room w space) (inside : Inside space to)
     (h : Head) (eh : h ≡ head_at (side swap s w) l) (z : ¬ (l ≡ 0)) (row : Row) (is : RowIs (known_names named known) space swap s w feed l r p row) (lt : ¬ (row.partner ≡ 0))
     (v : List ℕ) (b : Bool) (label : NamedAt space (side swap s w) w v h to b) where
-  abbrev goal : Goal
-  goal = goal_at to h.nlen row.nullable
+  abbrev goal : Target
+  goal = target_at to h.name_len row.nullable
 
   abbrev both : DataType → DataType → Option DataType
   both = coercion rules
@@ -150,7 +150,7 @@ module _ (known : Option ℕ) (named : Bool) (rules : Rules) (space : Space) (le
   unfolding join_fields
   join_fed name nullable shape parts rest rf tf nf f = rw f.types (rw f.nullables (rw f.joins refl))
 
-  long : (name : List ℕ) (nullable : Bool) (shape : Shape) (parts rest : Fields) → Chain space (side swap s w) l (field name nullable shape parts rest) → h.nlen ≡ length name
+  long : (name : List ℕ) (nullable : Bool) (shape : Shape) (parts rest : Fields) → Chain space (side swap s w) l (field name nullable shape parts rest) → h.name_len ≡ length name
   long name nullable shape parts rest a = sym (name_length_lem a h eh)
 
   row_labels : (name : List ℕ) (nullable : Bool) (shape : Shape) (parts rest : Fields)
@@ -190,7 +190,7 @@ module _ (known : Option ℕ) (named : Bool) (rules : Rules) (space : Space) (le
         subst (λ (i : Option ℕ). Differs i named l (record { shape = shape; parts = parts }) f.type) (sym ek)
         (row_known_lem known named name nullable shape parts rest a h.next (next_at_lem a h eh) pf c f.partner k)
 
-    kept : Kept space v u to.at (to.label + h.nlen) → Kept space w u to.at to.label
+    kept : Kept space v u to.at (to.label + h.name_len) → Kept space w u to.at to.label
     kept k = kept_trans label.kept (kept_wider to.at to.label (omega arith) (omega arith) k)
 
     pub rows_none : MergesKnown first-known named both space left swap s v u l row.partner goal (Err NoType) → Rowed known named both space left swap s w u feed l r p to (Err NoType)
@@ -235,7 +235,7 @@ module _ (known : Option ℕ) (named : Bool) (rules : Rules) (space : Space) (le
     rows_stopped Full m = rows_full m
 
     -- the first row was written up to d, and the rows behind it were merged from there
-    module _ (d : Spot) (m : MergesKnown first-known named both space left swap s v u l row.partner goal (Ok d)) where
+    module _ (d : Place) (m : MergesKnown first-known named both space left swap s v u l row.partner goal (Ok d)) where
       kept₂ : Kept space w u to.at to.label
       kept₂ = kept m.writes.kept
 
@@ -272,7 +272,7 @@ module _ (known : Option ℕ) (named : Bool) (rules : Rules) (space : Space) (le
               }
 
       -- the rows behind it
-      module _ (y : List ℕ) (o : Out) (k : Rowed known named both space (left - 1) swap s u y feed h.next r row.next d o) where
+      module _ (y : List ℕ) (o : Written) (k : Rowed known named both space (left - 1) swap s u y feed h.next r row.next d o) where
         kept₃ : Kept space w y to.at to.label
         kept₃ = kept_trans kept₂ (kept_wider to.at to.label (omega (arith, m.writes.passes.1.0)) (omega (arith, m.writes.passes.1.1)) k.kept)
 
@@ -326,7 +326,7 @@ module _ (known : Option ℕ) (named : Bool) (rules : Rules) (space : Space) (le
       rows_rest_stopped y NoType k = rows_rest_none y k
       rows_rest_stopped y Full k = rows_rest_full y k
 
-      pub rows_done : (y y' : List ℕ) (e' : Spot) (next : ℕ) → Rowed known named both space (left - 1) swap s u y feed h.next r row.next d (Ok e')
+      pub rows_done : (y y' : List ℕ) (e' : Place) (next : ℕ) → Rowed known named both space (left - 1) swap s u y feed h.next r row.next d (Ok e')
           → next ≡ cond (eqb d.at e'.at) 0 d.at → Tied space y y' to.at next → Rowed known named both space left swap s w y' feed l r p to (Ok e')
       unfolding count
       rows_done y y' e' next k en tied =

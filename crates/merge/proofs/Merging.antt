@@ -14,20 +14,20 @@ use Rattle.sheet.specs.declared.Head.{Head}
 use Rattle.coercion.specs.Data.{DataType, size, single}
 use Rattle.coercion.specs.Answers.{coercion}
 use Rattle.coercion.proofs.Shorter.{coercion_smaller, coercion_shorter}
-use Rattle.sheet.proofs.Tests.{all_at, all_cons, all_nil}
+use Rattle.sheet.proofs.Booleans.{all_at, all_cons, all_nil}
 use Rattle.coercion.specs.Same.{same_type}
 use Rattle.coercion.specs.declared.Rules.{Rules}
 use Rattle.buffers.specs.Source.{SameTypes}
 use Rattle.buffers.specs.Writes.{side}
 use Rattle.buffers.specs.Region.{Room, Kept}
-use Rattle.buffers.specs.Goal.{letters, Means, CopiedType}
+use Rattle.buffers.specs.Target.{letters, Means, CopiedType}
 use Rattle.buffers.specs.Typed.{Chain, Typed, Merges}
 use Rattle.buffers.specs.Differ.{type_differs, DifferTypes}
 use Rattle.merge.specs.Known.{Differs}
 use Rattle.merge.specs.Merge.{Tabled, MergesKnown, MergesHinted}
 use Rattle.buffers.specs.declared.Space.{Space}
-use Rattle.buffers.specs.declared.Goal.{Goal}
-use Rattle.buffers.specs.Out.{Out}
+use Rattle.buffers.specs.declared.Target.{Target}
+use Rattle.buffers.specs.Written.{Written}
 use Rattle.std.specs.Prelude.{Ok, Err}
 use Rattle.buffers.specs.declared.Failure.TheVariants.{NoType, Full}
 use Rattle.buffers.proofs.Sources.{source_lower}
@@ -76,14 +76,14 @@ typed_differs named f a b =
     f _ _ _ _ _ _ _ _ _ _ _ _ _ _ _ _ (source_lower 0 (omega arith) a.chain.held.source) (source_lower 0 (omega arith) b.chain.held.source)
 
 -- the same meaning, for more room
-pub means_for : (space : Space) (w v : List ℕ) (g : Goal) {z y : ℕ} (z' y' : ℕ) (o : Out) {m m' : Option DataType} → z ≤ z' → y ≤ y' → m ≡ m' → Means space w v g z y o m
+pub means_for : (space : Space) (w v : List ℕ) (g : Target) {z y : ℕ} (z' y' : ℕ) (o : Written) {m m' : Option DataType} → z ≤ z' → y ≤ y' → m ≡ m' → Means space w v g z y o m
     → Means space w v g z' y' o m'
 means_for space w v g {z} {y} z' y' o {m} p q e a = subst (Means space w v g z' y' o) e (means_more space w v g z y z' y' o m p q a)
 
 -- what is said of a goal after something else was written at it: the name there stood there before
-pub means_after : (space : Space) (w v u : List ℕ) (g : Goal) (z y : ℕ) (o : Out) (m : Option DataType) → Kept space w v g.at (g.label + g.nlen) → Means space v u g z y o m → Means space w u g z y o m
+pub means_after : (space : Space) (w v u : List ℕ) (g : Target) (z y : ℕ) (o : Written) (m : Option DataType) → Kept space w v g.at (g.label + g.name_len) → Means space v u g z y o m → Means space w u g z y o m
 means_after space w v u g z y (Ok d) None k a = absurd a
-means_after space w v u g z y (Ok d) (Some t) k a = λ name nm. a name (named_kept space w v g.at (g.label + g.nlen) g (omega arith) k nm)
+means_after space w v u g z y (Ok d) (Some t) k a = λ name nm. a name (named_kept space w v g.at (g.label + g.name_len) g (omega arith) k nm)
 means_after space w v u g z y (Err NoType) None k a = tt
 means_after space w v u g z y (Err NoType) (Some t) k a = absurd a
 means_after space w v u g z y (Err Full) m k a = a
@@ -97,24 +97,24 @@ pub nothing_known : (named : Bool) (l : ℕ) (x y : DataType) → Differs None n
 nothing_known named l x y d e = absurd (none-some d e)
 
 -- two types of which something may be known, and of which nothing is
-pub any_known : (known : Option ℕ) {named : Bool} {A : DataType → DataType → Option DataType} {space : Space} {left : ℕ} (swap : Bool) {s w v : List ℕ} {l r : ℕ} {g : Goal} {o : Out}
+pub any_known : (known : Option ℕ) {named : Bool} {A : DataType → DataType → Option DataType} {space : Space} {left : ℕ} (swap : Bool) {s w v : List ℕ} {l r : ℕ} {g : Target} {o : Written}
     → Merges A space left swap s w v l r g o → MergesKnown known named A space left swap s w v l r g o
 any_known known swap m = record { writes = m.writes; means = λ x y a b q d. m.means x y a b q }
 
-pub none_known : {named : Bool} {A : DataType → DataType → Option DataType} {space : Space} {left : ℕ} (swap : Bool) {s w v : List ℕ} {l r : ℕ} {g : Goal} {o : Out}
+pub none_known : {named : Bool} {A : DataType → DataType → Option DataType} {space : Space} {left : ℕ} (swap : Bool) {s w v : List ℕ} {l r : ℕ} {g : Target} {o : Written}
     → MergesKnown None named A space left swap s w v l r g o → Merges A space left swap s w v l r g o
 none_known {named} swap {l = l} m = record { writes = m.writes; means = λ x y a b q. m.means x y a b q (nothing_known named l x y) }
 
 -- two types of whose wrappers something may be known, and of whose nothing is
-pub any_hint : (hint mask : ℕ) {known : Option ℕ} {named : Bool} {A : DataType → DataType → Option DataType} {space : Space} {left : ℕ} (swap : Bool) {s w v : List ℕ} {l r : ℕ} {g : Goal} {o : Out}
+pub any_hint : (hint mask : ℕ) {known : Option ℕ} {named : Bool} {A : DataType → DataType → Option DataType} {space : Space} {left : ℕ} (swap : Bool) {s w v : List ℕ} {l r : ℕ} {g : Target} {o : Written}
     → MergesKnown known named A space left swap s w v l r g o → MergesHinted hint mask known named A space left swap s w v l r g o
 any_hint hint mask swap m = record { writes = m.writes; means = λ x y a b q d n. m.means x y a b q d }
 
-pub none_hint : {mask : ℕ} {known : Option ℕ} {named : Bool} {A : DataType → DataType → Option DataType} {space : Space} {left : ℕ} (swap : Bool) {s w v : List ℕ} {l r : ℕ} {g : Goal} {o : Out}
+pub none_hint : {mask : ℕ} {known : Option ℕ} {named : Bool} {A : DataType → DataType → Option DataType} {space : Space} {left : ℕ} (swap : Bool) {s w v : List ℕ} {l r : ℕ} {g : Target} {o : Written}
     → MergesHinted 0 mask known named A space left swap s w v l r g o → MergesKnown known named A space left swap s w v l r g o
 none_hint swap m = record { writes = m.writes; means = λ x y a b q d. m.means x y a b q d (λ n. absurd (n refl)) }
 
-module _ {A : DataType → DataType → Option DataType} (B : DataType → DataType → Option DataType) (space : Space) (swap : Bool) (s w v : List ℕ) (l r : ℕ) (g : Goal) (o : Out) where
+module _ {A : DataType → DataType → Option DataType} (B : DataType → DataType → Option DataType) (space : Space) (swap : Bool) (s w v : List ℕ) (l r : ℕ) (g : Target) (o : Written) where
   -- a rule that says the same of the types at hand, of which as much is known, where no more records are left in them
   pub hinted_within : {hint mask : ℕ} {known : Option ℕ} (known' : Option ℕ) {named : Bool} {left : ℕ} (left' : ℕ) → left' ≤ left
       → ((x y : DataType) → Typed space (side swap s w) l x → Typed space (side (not swap) s w) r y → size x + size y ≤ left' → Differs known' named l x y → Hint hint mask x y
@@ -151,9 +151,9 @@ module _ {A : DataType → DataType → Option DataType} (B : DataType → DataT
             (m.means y x b (subst (λ (u : List ℕ). Typed space u l x) (sym (side_twice swap s w)) a) (omega arith));
       }
 
-module _ (B : DataType → DataType → Option DataType) (space : Space) (left : ℕ) (swap : Bool) (s w : List ℕ) (l r : ℕ) (g : Goal) where
+module _ (B : DataType → DataType → Option DataType) (space : Space) (left : ℕ) (swap : Bool) (s w : List ℕ) (l r : ℕ) (g : Target) where
   -- the left type as it is
-  pub merges_left : (v : List ℕ) (o : Out) → ((x y : DataType) → Typed space (side swap s w) l x → Typed space (side (not swap) s w) r y → Some x ≡ B x y)
+  pub merges_left : (v : List ℕ) (o : Written) → ((x y : DataType) → Typed space (side swap s w) l x → Typed space (side (not swap) s w) r y → Some x ≡ B x y)
       → CopiedType space (side swap s w) w v l g o → Merges B space left swap s w v l r g o
   merges_left v o f c =
       record {
@@ -165,7 +165,7 @@ module _ (B : DataType → DataType → Option DataType) (space : Space) (left :
       }
 
   -- the right type as it is
-  pub merges_right : (v : List ℕ) (o : Out) → ((x y : DataType) → Typed space (side swap s w) l x → Typed space (side (not swap) s w) r y → Some y ≡ B x y)
+  pub merges_right : (v : List ℕ) (o : Written) → ((x y : DataType) → Typed space (side swap s w) l x → Typed space (side (not swap) s w) r y → Some y ≡ B x y)
       → CopiedType space (side (not swap) s w) w v r g o → Merges B space left swap s w v l r g o
   merges_right v o f c =
       record {
@@ -181,7 +181,7 @@ module _ (B : DataType → DataType → Option DataType) (space : Space) (left :
       → Differs known named l x y → None ≡ B x y) → MergesKnown known named B space left swap s w w l r g (Err NoType)
   known_none known named f =
       record {
-        writes = record { kept = kept_self w g.at (g.label + g.nlen); passes = tt };
+        writes = record { kept = kept_self w g.at (g.label + g.name_len); passes = tt };
         means = λ x y a b q d. subst (Means space w w g (size x + size y) (letters x + letters y) (Err NoType)) (f x y a b q d) tt;
       }
 

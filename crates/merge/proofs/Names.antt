@@ -8,16 +8,16 @@ use Rattle.std.specs.Result.{IsErrAnd}
 use Rattle.sheet.specs.Bounds.{Bounded}
 use Rattle.sheet.specs.declared.Head.{Head}
 use Rattle.buffers.specs.Region.{Inside, Ready}
-use Rattle.buffers.specs.declared.Goal.{Goal}
+use Rattle.buffers.specs.declared.Target.{Target}
 use Rattle.buffers.specs.declared.Space.{Space}
-use Rattle.buffers.specs.declared.Spot.{Spot}
+use Rattle.buffers.specs.declared.Place.{Place}
 use Rattle.buffers.proofs.Fielding.{field_ready}
-use Rattle.buffers.specs.Typed.{NamedGoal}
+use Rattle.buffers.specs.Typed.{NamedTarget}
 
 -- what a `?` returns
 pub stopped : {T E : Type 0} {e : E} (r : Result T E) → IsErrAnd r (λ d. d ≡ e) → r ≡ Err e
 stopped (Ok x) h = absurd h
 stopped (Err d) h = rw h refl
 
-pub goal_ready : {space : Space} {s w v : List ℕ} {h : Head} {nullable : Bool} {to : Spot} {g : Goal} → Inside space to → Bounded h → NamedGoal space s w v h nullable to (Ok g) → Ready space g
-goal_ready {space} {nullable = nullable} i b n = subst (λ (g : Goal). Ready space g) (sym n.goal) (field_ready nullable i b refl n.named)
+pub goal_ready : {space : Space} {s w v : List ℕ} {h : Head} {nullable : Bool} {to : Place} {g : Target} → Inside space to → Bounded h → NamedTarget space s w v h nullable to (Ok g) → Ready space g
+goal_ready {space} {nullable = nullable} i b n = subst (λ (g : Target). Ready space g) (sym n.goal) (field_ready nullable i b refl n.named)

@@ -12,14 +12,14 @@ use Rattle.sheet.specs.Types.{Fields, arity}
 use Rattle.sheet.specs.Head.{head_at}
 use Rattle.sheet.specs.Names.{repeats, names_differ}
 use Rattle.sheet.specs.declared.Head.{Head}
-use Rattle.sheet.proofs.Tests.{all_at, and_fst, and_snd}
+use Rattle.sheet.proofs.Booleans.{all_at, and_fst, and_snd}
 use Rattle.coercion.specs.Data.{DataType, size}
 use Rattle.coercion.specs.Wrappers.{is_of}
 use Rattle.coercion.specs.Nested.{join_fields, by_name, fields_have_same_names, partners, list_of, struct_of, struct_coercion}
 use Rattle.coercion.specs.Answers.{list_struct}
 use Rattle.buffers.specs.Writes.{side}
 use Rattle.buffers.specs.Region.{Held}
-use Rattle.buffers.specs.Goal.{letters, Means, shape_for}
+use Rattle.buffers.specs.Target.{letters, Means, shape_for}
 use Rattle.buffers.specs.Typed.{Chain, Typed}
 use Rattle.buffers.specs.Differ.{RowsKnown}
 use Rattle.partners.specs.Feeds.{Feeds}
@@ -28,8 +28,8 @@ use Rattle.merge.specs.Known.{Differs, known_names}
 use Rattle.partners.specs.Naming.{structs_feed, StructsFed}
 use Rattle.merge.specs.Merge.{MergesKnown, Under}
 use Rattle.buffers.specs.declared.Space.{Space}
-use Rattle.buffers.specs.declared.Goal.{Goal}
-use Rattle.buffers.specs.Out.{Out}
+use Rattle.buffers.specs.declared.Target.{Target}
+use Rattle.buffers.specs.Written.{Written}
 use Rattle.std.specs.Prelude.{Err}
 use Rattle.buffers.specs.declared.Failure.TheVariants.{NoType}
 use Rattle.partners.specs.declared.Feed.{Feed}
@@ -89,7 +89,7 @@ and_assoc true j k = refl
 and_assoc false j k = refl
 
 -- two types of which one is no Struct
-pub struct_other : (c : DataType → DataType → Option DataType) (space : Space) (left : ℕ) (swap : Bool) (s w : List ℕ) (l r : ℕ) (g : Goal) (x y : Head) → x ≡ head_at (side swap s w) l
+pub struct_other : (c : DataType → DataType → Option DataType) (space : Space) (left : ℕ) (swap : Bool) (s w : List ℕ) (l r : ℕ) (g : Target) (x y : Head) → x ≡ head_at (side swap s w) l
     → y ≡ head_at (side (not swap) s w) r → {known : Option ℕ} {by_names : Bool} → (eqb x.kind 35 && eqb y.kind 35) ≡ false
     → MergesKnown known by_names (struct_coercion c) space (left + 1) swap s w w l r g (Err NoType)
 unfolding struct_coercion
@@ -102,7 +102,7 @@ struct_other c space left swap s w l r g x y ex ey {known} h =
         ∙ and_assoc (eqb x.kind 35) (eqb y.kind 35) (eqb (arity X.parts) (arity Y.parts)) ∙ rw h refl
 
 -- the parts of two types, and what was asked of them
-module _ (c : DataType → DataType → Option DataType) (space : Space) (left : ℕ) (swap : Bool) (s w : List ℕ) (l r : ℕ) (g : Goal) (x y : Head)
+module _ (c : DataType → DataType → Option DataType) (space : Space) (left : ℕ) (swap : Bool) (s w : List ℕ) (l r : ℕ) (g : Target) (x y : Head)
     (ex : x ≡ head_at (side swap s w) l) (ey : y ≡ head_at (side (not swap) s w) r) {alike : Bool}
     (fa : Asks same_arity space (side swap s w) (side (not swap) s w) l x.first y.first alike) where
   module _ {X Y : DataType} (a : Typed space (side swap s w) l X) (b : Typed space (side (not swap) s w) r Y) where
@@ -127,7 +127,7 @@ module _ (c : DataType → DataType → Option DataType) (space : Space) (left :
 
   -- two Structs, by the fields that feed theirs
   module _ (h : ((eqb x.kind 35 && eqb y.kind 35) && alike) ≡ true) (known : Option ℕ) (by_names : Bool) {feed : Feed}
-      (ff : StructFed (known_names by_names known) space (side swap s w) (side (not swap) s w) l x.first y.first feed) (v : List ℕ) (o : Out)
+      (ff : StructFed (known_names by_names known) space (side swap s w) (side (not swap) s w) l x.first y.first feed) (v : List ℕ) (o : Written)
       (u : Under known by_names c space left swap s w v feed (shape_for 35 0 0 0 false) x.first y.first y.first g o) where
     module _ {X Y : DataType} (a : Typed space (side swap s w) l X) (b : Typed space (side (not swap) s w) r Y) (q : size X + size Y ≤ left + 1) (d : Differs known by_names l X Y) where
       abbrev Merged : Type 0
@@ -193,7 +193,7 @@ module _ (c : DataType → DataType → Option DataType) (space : Space) (left :
         (λ X Y a b q d.
         rw (sym (arities a b) ∙ h) (rw (names_missing X.parts Y.parts (fed_none (same_order X.parts Y.parts) (fields_have_same_names X.parts Y.parts) (fed_by f a b d))) refl))
 
-    module _ {feed : Feed} (f : FedBy (Some feed)) (k : (head_at (side swap s w) l).kind ≡ 35) (k' : (head_at (side (not swap) s w) r).kind ≡ 35) (v : List ℕ) (o : Out)
+    module _ {feed : Feed} (f : FedBy (Some feed)) (k : (head_at (side swap s w) l).kind ≡ 35) (k' : (head_at (side (not swap) s w) r).kind ≡ 35) (v : List ℕ) (o : Written)
         (u : Under known by_names c space left swap s w v feed (shape_for 35 0 0 0 false) x.first y.first y.first g o) where
       module _ {X Y : DataType} (a : Typed space (side swap s w) l X) (b : Typed space (side (not swap) s w) r Y) (q : size X + size Y ≤ left + 1) (d : Differs known by_names l X Y) where
         abbrev ListMerged : Type 0

@@ -19,17 +19,17 @@ use Rattle.coercion.specs.Nested.{join_fields, list_of, struct_coercion, entry_t
 use Rattle.coercion.proofs.Maybe.{If, if_then}
 use Rattle.buffers.specs.Writes.{side}
 use Rattle.buffers.specs.Region.{Room, region, Kept, Grows, Ready, Named, Passes, Wrote, CopiedHead}
-use Rattle.buffers.specs.Goal.{letters, spot_of, field_for, Means, Writes, Laid, type_of, shape_for}
-use Rattle.turns.specs.Turns.{both_wrapped, map_rule}
-use Rattle.buffers.specs.Typed.{Chain, Typed, Merges, ChainIs, goal_at, NamedAt}
+use Rattle.buffers.specs.Target.{letters, spot_of, field_for, Means, Writes, Laid, type_of, shape_for}
+use Rattle.rule_order.specs.Order.{both_wrapped, map_rule}
+use Rattle.buffers.specs.Typed.{Chain, Typed, Merges, ChainIs, target_at, NamedAt}
 use Rattle.buffers.specs.Differ.{RowsKnown}
 use Rattle.merge.specs.Known.{Differs, row_known}
 use Rattle.merge.specs.Merge.{MergesKnown, MergesField, field_of, Rowed, Under}
 use Rattle.buffers.specs.declared.Space.{Space}
-use Rattle.buffers.specs.declared.Spot.{Spot}
-use Rattle.buffers.specs.declared.Goal.{Goal}
+use Rattle.buffers.specs.declared.Place.{Place}
+use Rattle.buffers.specs.declared.Target.{Target}
 use Rattle.partners.specs.declared.Feed.{Feed}
-use Rattle.buffers.specs.Out.{Out}
+use Rattle.buffers.specs.Written.{Written}
 use Rattle.std.specs.Prelude.{Ok, Err}
 use Rattle.buffers.specs.declared.Failure.{Failure}
 use Rattle.buffers.specs.declared.Failure.TheVariants.{NoType, Full}
@@ -44,20 +44,20 @@ use Rattle.buffers.proofs.Rows.{chain_end, chain_link, chain_typed, chain_nullab
 use Rattle.buffers.proofs.Fielding.{name_length_lem}
 
 -- a record stands at a goal with a link to its parts, whose place is d
-pub record Parent (space : Space) (w v : List ℕ) (g : Goal) (shape : Shape) (link : ℕ) (d : Spot) : Type 0 where
+pub record Parent (space : Space) (w v : List ℕ) (g : Target) (shape : Shape) (link : ℕ) (d : Place) : Type 0 where
   pub at : d.at ≡ g.at + 1
-  pub label : d.label ≡ g.label + g.nlen + length (zone_bytes shape.zone)
+  pub label : d.label ≡ g.label + g.name_len + length (zone_bytes shape.zone)
   pub stands : (name : List ℕ) → Named space w g name → Stands (region space v) space.n g.at g.label name g.nullable shape link 0
 
 -- the place after a record without a zone
-abbrev pub after : Goal → Spot
-after g = record { at = g.at + 1; label = g.label + g.nlen }
+abbrev pub after : Target → Place
+after g = record { at = g.at + 1; label = g.label + g.name_len }
 
-pub parent_laid : {space : Space} {w v : List ℕ} {g : Goal} {kind figure scale sz first : ℕ} {sorted : Bool} → Laid space w v g (shape_for kind figure scale sz sorted) first
+pub parent_laid : {space : Space} {w v : List ℕ} {g : Target} {kind figure scale sz first : ℕ} {sorted : Bool} → Laid space w v g (shape_for kind figure scale sz sorted) first
     → Parent space w v g (shape_for kind figure scale sz sorted) first (after g)
 parent_laid l = record { at = refl; label = omega arith; stands = l.stands }
 
-pub parent_copied : {space : Space} {s w v : List ℕ} {h : Head} {link : ℕ} {g : Goal} {d : Spot} {name : List ℕ} {nullable : Bool} {shape : Shape} {parts rest : Fields}
+pub parent_copied : {space : Space} {s w v : List ℕ} {h : Head} {link : ℕ} {g : Target} {d : Place} {name : List ℕ} {nullable : Bool} {shape : Shape} {parts rest : Fields}
     → h ≡ head_at s link → CopiedHead space s w v h link g 0 (Ok d) → Chain space s link (field name nullable shape parts rest)
     → Parent space w v g shape (link_to (g.at + 1) parts) d
 parent_copied {name = name} {nullable} {shape} {parts} {rest} e c a =
@@ -65,7 +65,7 @@ parent_copied {name = name} {nullable} {shape} {parts} {rest} e c a =
     record { at = c.means.0; label = m.0; stands = m.1 }
 
 -- the record, and the chain of its parts
-pub parent_wrote : {space : Space} {w v : List ℕ} (u : List ℕ) {g : Goal} {shape : Shape} {link : ℕ} {d e : Spot} (parts : Fields) → Parent space w v g shape link d
+pub parent_wrote : {space : Space} {w v : List ℕ} (u : List ℕ) {g : Target} {shape : Shape} {link : ℕ} {d e : Place} (parts : Fields) → Parent space w v g shape link d
     → link ≡ link_to (g.at + 1) parts → Kept space v u d.at d.label → Wrote space u d e parts
     → (name : List ℕ) → Named space w g name → Wrote space u (spot_of g) e (field_for g name (type_of shape parts))
 unfolding count labels
@@ -87,7 +87,7 @@ parent_wrote {space} {w} {v} u {g} {shape} {link} {d} {e} parts p el k q name nm
     }
 
 -- the same of whatever an answer says of the parts
-pub parent_means : {space : Space} {w v : List ℕ} (u : List ℕ) {g : Goal} {shape : Shape} {link : ℕ} {d : Spot} (z y : ℕ) (o : Out) (m : Option Fields)
+pub parent_means : {space : Space} {w v : List ℕ} (u : List ℕ) {g : Target} {shape : Shape} {link : ℕ} {d : Place} (z y : ℕ) (o : Written) (m : Option Fields)
     → Parent space w v g shape link d → If (λ parts. link ≡ link_to (g.at + 1) parts) m → Kept space v u d.at d.label → ChainIs space u d z y o m
     → Means space w u g (1 + z) (length (zone_bytes shape.zone) + y) o (list_of shape m)
 parent_means u z y (Ok e) None p el k a = absurd a
@@ -97,18 +97,18 @@ parent_means u z y (Err NoType) (Some parts) p el k a = absurd a
 parent_means u z y (Err Full) m p el k a = ⊎_elim (λ i. inl (omega (arith, p.at))) (λ i. inr (omega (arith, p.label))) a
 
 -- writes at a goal, and then after its record
-pub kept_on : {space : Space} {w v u : List ℕ} (g : Goal) {d : Spot} → Kept space w v g.at (g.label + g.nlen) → Passes space g (Ok d) → Kept space v u d.at d.label
-    → Kept space w u g.at (g.label + g.nlen)
-kept_on g a p k = kept_trans a (kept_wider g.at (g.label + g.nlen) (omega (arith, p.1.0)) p.1.1 k)
+pub kept_on : {space : Space} {w v u : List ℕ} (g : Target) {d : Place} → Kept space w v g.at (g.label + g.name_len) → Passes space g (Ok d) → Kept space v u d.at d.label
+    → Kept space w u g.at (g.label + g.name_len)
+kept_on g a p k = kept_trans a (kept_wider g.at (g.label + g.name_len) (omega (arith, p.1.0)) p.1.1 k)
 
-pub writes_on : {space : Space} {w v u : List ℕ} (g : Goal) {d : Spot} (o : Out) → Kept space w v g.at (g.label + g.nlen) → Passes space g (Ok d)
+pub writes_on : {space : Space} {w v u : List ℕ} (g : Target) {d : Place} (o : Written) → Kept space w v g.at (g.label + g.name_len) → Passes space g (Ok d)
     → Kept space v u d.at d.label → Grows space d o → Writes space w u g o
 writes_on g (Ok e) a p k q =
     record { kept = kept_on g a p k; passes = (q.0, (omega (arith, p.1.0, q.1.0), omega (arith, p.1.1, q.1.1))) }
 writes_on g (Err NoType) a p k q = record { kept = kept_on g a p k; passes = tt }
 writes_on g (Err Full) a p k q = record { kept = kept_on g a p k; passes = tt }
 
-pub after_passes : {space : Space} (g : Goal) → Ready space g → g.at < space.n → Passes space g (Ok (after g))
+pub after_passes : {space : Space} (g : Target) → Ready space g → g.at < space.n → Passes space g (Ok (after g))
 after_passes g ready lt = (record { some = omega arith; records = omega arith; letters = ready.letters }, (omega arith, omega arith))
 
 always : {A : Type 0} (o : Option A) → If (λ a. Unit {0}) o
@@ -135,8 +135,8 @@ link_is {l = l} at end a = rw (eq-eqb l 0 (chain_link refl a)) refl
 link_is {l = l} at (field name nullable shape parts rest) a = rw (ne_eqb l 0 (λ e. omega (arith, chain_some a))) refl
 
 -- the record of a type with parts, and the merged rows
-module _ {known : Option ℕ} {named : Bool} (c : DataType → DataType → Option DataType) (space : Space) (left : ℕ) (swap : Bool) (s w : List ℕ) (feed : Feed) (l r p : ℕ) (g : Goal) where
-  pub under_on : (v u : List ℕ) (o : Out) {kind figure scale sz first : ℕ} {sorted : Bool} → Room w space → Ready space g → g.at < space.n → first ≡ cond (eqb l 0) 0 (g.at + 1)
+module _ {known : Option ℕ} {named : Bool} (c : DataType → DataType → Option DataType) (space : Space) (left : ℕ) (swap : Bool) (s w : List ℕ) (feed : Feed) (l r p : ℕ) (g : Target) where
+  pub under_on : (v u : List ℕ) (o : Written) {kind figure scale sz first : ℕ} {sorted : Bool} → Room w space → Ready space g → g.at < space.n → first ≡ cond (eqb l 0) 0 (g.at + 1)
       → Laid space w v g (shape_for kind figure scale sz sorted) first → Rowed known named c space left swap s v u feed l r p (after g) o
       → Under known named c space left swap s w u feed (shape_for kind figure scale sz sorted) l r p g o
   under_on v u o room ready lt e laid rows =
@@ -153,10 +153,10 @@ module _ {known : Option ℕ} {named : Bool} (c : DataType → DataType → Opti
       linked lf tf nf e = rw e (join_link c (g.at + 1) lf tf nf)
 
       over : (way : Bool) {i : ℕ} {t : Fields} → Chain space (side way s w) i t → Chain space (side way s v) i t
-      over way a = chain_side way space s w v g.at (g.label + g.nlen) room laid.kept a
+      over way a = chain_side way space s w v g.at (g.label + g.name_len) room laid.kept a
 
 -- the record of the left did not fit
-pub head_crowded : (B : DataType → DataType → Option DataType) (space : Space) (left : ℕ) (swap : Bool) (s w : List ℕ) (l r : ℕ) (g : Goal) (h : Head) → h ≡ head_at (side swap s w) l
+pub head_crowded : (B : DataType → DataType → Option DataType) (space : Space) (left : ℕ) (swap : Bool) (s w : List ℕ) (l r : ℕ) (g : Target) (h : Head) → h ≡ head_at (side swap s w) l
     → (v : List ℕ) → CopiedHead space (side swap s w) w v h l g 0 (Err Full) → Merges B space left swap s w v l r g (Err Full)
 head_crowded B space left swap s w l r g h eh v m =
     record {
@@ -167,15 +167,15 @@ head_crowded B space left swap s w l r g h eh v m =
           inr (omega (arith, m.means d.floor d.at d.label d.up a.name a.nullable x.shape x.parts a.rest d.held eh));
     }
 
-pub head_stopped : (B : DataType → DataType → Option DataType) (space : Space) (left : ℕ) (swap : Bool) (s w : List ℕ) (l r : ℕ) (g : Goal) (h : Head) → h ≡ head_at (side swap s w) l
+pub head_stopped : (B : DataType → DataType → Option DataType) (space : Space) (left : ℕ) (swap : Bool) (s w : List ℕ) (l r : ℕ) (g : Target) (h : Head) → h ≡ head_at (side swap s w) l
     → (v : List ℕ) (f : Failure) → CopiedHead space (side swap s w) w v h l g 0 (Err f) → Merges B space left swap s w v l r g (Err f)
 head_stopped B space left swap s w l r g h eh v NoType m = absurd m.means
 head_stopped B space left swap s w l r g h eh v Full m = head_crowded B space left swap s w l r g h eh v m
 
 -- two wrappers: the left's record was copied, and the parts of both were merged
-module _ (known : Option ℕ) {named : Bool} (c : DataType → DataType → Option DataType) (space : Space) (left : ℕ) (swap : Bool) (s w : List ℕ) (l r : ℕ) (g : Goal) (room : Room w space) (h k : Head)
+module _ (known : Option ℕ) {named : Bool} (c : DataType → DataType → Option DataType) (space : Space) (left : ℕ) (swap : Bool) (s w : List ℕ) (l r : ℕ) (g : Target) (room : Room w space) (h k : Head)
     (eh : h ≡ head_at (side swap s w) l) (ek : k ≡ head_at (side (not swap) s w) r) (v : List ℕ) where
-  pub both_on : (d : Spot) (u : List ℕ) (o : Out) → CopiedHead space (side swap s w) w v h l g 0 (Ok d)
+  pub both_on : (d : Place) (u : List ℕ) (o : Written) → CopiedHead space (side swap s w) w v h l g 0 (Ok d)
       → Rowed known named c space left swap s v u Feed.Own h.first k.first k.first d o → MergesKnown known named (both_wrapped c) space (left + 1) swap s w u l r g o
   both_on d u o m rows =
       record {
@@ -189,17 +189,17 @@ module _ (known : Option ℕ) {named : Bool} (c : DataType → DataType → Opti
       }
     where
       over : (way : Bool) {i : ℕ} {t : Fields} → Chain space (side way s w) i t → Chain space (side way s v) i t
-      over way a = chain_side way space s w v g.at (g.label + g.nlen) room m.kept a
+      over way a = chain_side way space s w v g.at (g.label + g.name_len) room m.kept a
 
 -- what was written at the goal of a field, from the field's place on
-pub goal_grows : (space : Space) (to : Spot) (nlen : ℕ) (nullable : Bool) (o : Out) → Passes space (goal_at to nlen nullable) o → Grows space to o
-goal_grows space to nlen nullable (Ok d) p = (p.0, (omega (arith, p.1.0), omega (arith, p.1.1)))
-goal_grows space to nlen nullable (Err NoType) p = tt
-goal_grows space to nlen nullable (Err Full) p = tt
+pub target_grows : (space : Space) (to : Place) (name_len : ℕ) (nullable : Bool) (o : Written) → Passes space (target_at to name_len nullable) o → Grows space to o
+target_grows space to name_len nullable (Ok d) p = (p.0, (omega (arith, p.1.0), omega (arith, p.1.1)))
+target_grows space to name_len nullable (Err NoType) p = tt
+target_grows space to name_len nullable (Err Full) p = tt
 
 -- what is said of a field by what is said of its type under its name
-pub field_told : (space : Space) (v u : List ℕ) (to : Spot) {nlen : ℕ} {own : Bool} {name : List ℕ} {nullable : Bool} (z y y' : ℕ) (o : Out) (t : Option DataType) → nlen ≡ length name → own ≡ nullable → length name + y ≤ y'
-    → Named space v (goal_at to nlen own) name → Means space v u (goal_at to nlen own) z y o t → ChainIs space u to z y' o (field_of name nullable t)
+pub field_told : (space : Space) (v u : List ℕ) (to : Place) {name_len : ℕ} {own : Bool} {name : List ℕ} {nullable : Bool} (z y y' : ℕ) (o : Written) (t : Option DataType) → name_len ≡ length name → own ≡ nullable → length name + y ≤ y'
+    → Named space v (target_at to name_len own) name → Means space v u (target_at to name_len own) z y o t → ChainIs space u to z y' o (field_of name nullable t)
 field_told space v u to z y y' (Ok d) None en eb le nm a = absurd a
 field_told space v u to {name = name} z y y' (Ok d) (Some t) en eb le nm a = subst (λ (b : Bool). Wrote space u to d (field name b t.shape t.parts end)) eb (a name nm)
 field_told space v u to z y y' (Err NoType) None en eb le nm a = tt
@@ -207,17 +207,17 @@ field_told space v u to z y y' (Err NoType) (Some t) en eb le nm a = absurd a
 field_told space v u to z y y' (Err Full) t en eb le nm a = ⊎_elim (λ i. inl (omega arith)) (λ i. inr (omega arith)) a
 
 -- a field that was merged with a type: its name, and then its type
-module _ (A : DataType → DataType → Option DataType) (space : Space) (left : ℕ) (swap : Bool) (s w : List ℕ) (l r : ℕ) (to : Spot) (h : Head) (eh : h ≡ head_at (side swap s w) l)
+module _ (A : DataType → DataType → Option DataType) (space : Space) (left : ℕ) (swap : Bool) (s w : List ℕ) (l r : ℕ) (to : Place) (h : Head) (eh : h ≡ head_at (side swap s w) l)
     (v : List ℕ) (b : Bool) (named : NamedAt space (side swap s w) w v h to b) where
   field_merged : {known own-known : Option ℕ} {by_names : Bool}
       → ((name : List ℕ) (nullable : Bool) (x y : DataType) (rest : Fields) → Chain space (side swap s w) l (field name nullable x.shape x.parts rest) → (t : Typed space (side (not swap) s w) r y)
       → RowsKnown known by_names l (field name nullable x.shape x.parts rest) (field t.name t.nullable y.shape y.parts t.rest) → Differs own-known by_names l x y)
-      → (u : List ℕ) (o : Out) (own : Bool) → Room w space → b ≡ true → own ≡ nullable_in h → MergesKnown own-known by_names A space left swap s v u l r (goal_at to h.nlen own) o
+      → (u : List ℕ) (o : Written) (own : Bool) → Room w space → b ≡ true → own ≡ nullable_in h → MergesKnown own-known by_names A space left swap s v u l r (target_at to h.name_len own) o
       → MergesField known by_names A space left swap s w u l r to o
   field_merged told-known u o own room z eo m =
       record {
         kept = kept_trans named.kept (kept_wider to.at to.label (omega arith) (omega arith) m.writes.kept);
-        grows = goal_grows space to h.nlen own o m.writes.passes;
+        grows = target_grows space to h.name_len own o m.writes.passes;
         means =
             λ name nullable x y rest a t q d.
             field_told space v u to (size x + size y) (letters x + letters y) (length name + letters x + letters y) o (A x y) (sym (name_length_lem a h eh)) (eo ∙ chain_nullable a h eh) (omega arith) (named.named z l name nullable own x.shape x.parts rest a eh)
@@ -225,13 +225,13 @@ module _ (A : DataType → DataType → Option DataType) (space : Space) (left :
             (told-known name nullable x y rest a t d));
       }
 
-  module _ {by_names : Bool} (u : List ℕ) (o : Out) (own : Bool) (room : Room w space) (z : b ≡ true) (eo : own ≡ nullable_in h) where
+  module _ {by_names : Bool} (u : List ℕ) (o : Written) (own : Bool) (room : Room w space) (z : b ≡ true) (eo : own ≡ nullable_in h) where
     -- nothing was known of its type
-    pub field_alone : Merges A space left swap s v u l r (goal_at to h.nlen own) o → MergesField None by_names A space left swap s w u l r to o
+    pub field_alone : Merges A space left swap s v u l r (target_at to h.name_len own) o → MergesField None by_names A space left swap s w u l r to o
     field_alone m = field_merged (λ name nullable x y rest a t k. nothing_known by_names _ x y) u o own room z eo (any_known None swap m)
 
     -- what was known of its chain was handed down
-    pub field_on : {known own-known : Option ℕ} → own-known ≡ row_known known l h.next r r → MergesKnown own-known by_names A space left swap s v u l r (goal_at to h.nlen own) o
+    pub field_on : {known own-known : Option ℕ} → own-known ≡ row_known known l h.next r r → MergesKnown own-known by_names A space left swap s v u l r (target_at to h.name_len own) o
         → MergesField known by_names A space left swap s w u l r to o
     field_on {known} ek m =
         field_merged (λ name nullable x y rest a t k.
@@ -239,7 +239,7 @@ module _ (A : DataType → DataType → Option DataType) (space : Space) (left :
         u o own room z eo m
 
 -- two maps
-module _ (c : DataType → DataType → Option DataType) (space : Space) (left : ℕ) (swap : Bool) (s w : List ℕ) (l r : ℕ) (g : Goal) (h k : Head)
+module _ (c : DataType → DataType → Option DataType) (space : Space) (left : ℕ) (swap : Bool) (s w : List ℕ) (l r : ℕ) (g : Target) (h k : Head)
     (eh : h ≡ head_at (side swap s w) l) (ek : k ≡ head_at (side (not swap) s w) r) where
   pub map_left_end : {known : Option ℕ} {by_names : Bool} → h.first ≡ 0 → MergesKnown known by_names (map_rule c) space left swap s w w l r g (Err NoType)
   map_left_end {known} z = any_known known swap (merges_none (map_rule c) space left swap s w l r g (λ x y a b q. go x y (chain_end z (chain_first h eh a.chain))))
@@ -261,7 +261,7 @@ module _ (c : DataType → DataType → Option DataType) (space : Space) (left :
   sorted_is : {space : Space} {s : List ℕ} {link : ℕ} {t : DataType} (h : Head) → h ≡ head_at s link → Typed space s link t → sorted_in h ≡ t.shape.sorted
   sorted_is h e a = ap (λ (sh : Shape). sh.sorted) (read_shape a.chain.held.source h e)
 
-  module _ (room : Room w space) (ready : Ready space g) (lt : g.at < space.n) (v u : List ℕ) (o : Out) (sorted : Bool) (es : sorted ≡ (sorted_in h && sorted_in k))
+  module _ (room : Room w space) (ready : Ready space g) (lt : g.at < space.n) (v u : List ℕ) (o : Written) (sorted : Bool) (es : sorted ≡ (sorted_in h && sorted_in k))
       (some_left : ¬ (h.first ≡ 0)) (some_right : ¬ (k.first ≡ 0)) (laid : Laid space w v g (shape_for 36 0 0 0 sorted) (g.at + 1))
       (known : Option ℕ) (named : Bool) (m : MergesField known named (struct_coercion c) space left swap s v u h.first k.first (after g) o) where
     linked : (n : List ℕ) (b : Bool) (t : Option DataType) → If (λ parts. g.at + 1 ≡ link_to (g.at + 1) parts) (field_of n b t)
@@ -275,7 +275,7 @@ module _ (c : DataType → DataType → Option DataType) (space : Space) (left :
     shaped n b sh p q (Some t) e = rw e refl
 
     over : (way : Bool) {i : ℕ} {t : Fields} → Chain space (side way s w) i t → Chain space (side way s v) i t
-    over way a = chain_side way space s w v g.at (g.label + g.nlen) room laid.kept a
+    over way a = chain_side way space s w v g.at (g.label + g.name_len) room laid.kept a
 
     entries : {sx : Bool} (f f' : Fields) → sorted ≡ sx → Chain space (side swap s w) h.first f → Chain space (side (not swap) s w) k.first f'
         → 1 + count f + (1 + count f') ≤ left → RowsKnown known named h.first f f'

@@ -8,15 +8,15 @@ use Prim.Native.Nat.{ℕ}
 use native.Mathlib.Omega.{arith}
 use borrow.Author.Tests.{eq-eqb, ne_eqb}
 use Rattle.sheet.specs.Kind.{names_parts, is_wrapper}
-use Rattle.sheet.specs.Tests.{between}
+use Rattle.sheet.specs.Booleans.{between}
 use Rattle.sheet.specs.Types.{Shape, Fields, field}
 use Rattle.sheet.specs.Carried.{is_named, FieldRight, FieldsRight}
-use Rattle.sheet.proofs.Tests.{never}
+use Rattle.sheet.proofs.Booleans.{never}
 use Rattle.coercion.specs.Data.{DataType, and_then, is_list_question}
 use Rattle.coercion.specs.Answers.{coercion}
 use Rattle.coercion.specs.declared.Rules.{Rules}
-use Rattle.buffers.specs.Goal.{type_of}
-use Rattle.turns.specs.Turns.{rewrap, rewrapped}
+use Rattle.buffers.specs.Target.{type_of}
+use Rattle.rule_order.specs.Order.{rewrap, rewrapped}
 use Rattle.wrappers.proofs.Cores.{implies_no, wrapper_is}
 use Rattle.merge.specs.Descent.{Wrapper, alone, nest, AllPass, AllDictionaries, innermost}
 use Rattle.merge.proofs.Asking.{by_rule}

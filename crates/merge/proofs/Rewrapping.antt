@@ -13,14 +13,14 @@ use lib.ListN.{length, length-append}
 use lib.Dec.{eqb, leb}
 use borrow.Author.Tests.{eq-eqb, eqb-true, leb-true}
 use Rattle.sheet.specs.Kind.{is_decimal, sized, last_unit, parts_right, is_wrapper}
-use Rattle.sheet.specs.Tests.{between}
+use Rattle.sheet.specs.Booleans.{between}
 use Rattle.sheet.specs.Types.{Zone, absent, Shape, Fields, end, field, arity, count, zone_bytes, labels}
 use Rattle.sheet.specs.Head.{head_at}
 use Rattle.sheet.specs.Encode.{link_to}
 use Rattle.sheet.specs.Refusals.{figure_right, size_right, figures_right}
 use Rattle.sheet.specs.Carried.{is_zoned, FieldsRight}
 use Rattle.sheet.specs.declared.Head.{Head}
-use Rattle.sheet.proofs.Tests.{never, all_at, and_snd}
+use Rattle.sheet.proofs.Booleans.{never, all_at, and_snd}
 use Rattle.coercion.specs.Data.{DataType, size, is_list_question}
 use Rattle.coercion.proofs.Maybe.{If}
 use Rattle.coercion.proofs.PlainRight.{Sound, own_right}
@@ -29,18 +29,18 @@ use Rattle.coercion.specs.declared.Rules.{Rules}
 use Rattle.plain.proofs.Plain.{end_is}
 use Rattle.buffers.specs.Writes.{side}
 use Rattle.buffers.specs.Region.{Room, region, Kept, Grows, Wrote, CopiedHead}
-use Rattle.buffers.specs.Goal.{letters, Means, Writes, type_of, LaidPlain}
+use Rattle.buffers.specs.Target.{letters, Means, Writes, type_of, LaidPlain}
 use Rattle.buffers.specs.Span.{CopiedSpan}
 use Rattle.buffers.specs.Typed.{Chain, Typed, Merges, ChainIs}
 use Rattle.buffers.specs.declared.Space.{Space}
-use Rattle.buffers.specs.declared.Spot.{Spot}
-use Rattle.buffers.specs.declared.Goal.{Goal}
-use Rattle.buffers.specs.Out.{Out}
+use Rattle.buffers.specs.declared.Place.{Place}
+use Rattle.buffers.specs.declared.Target.{Target}
+use Rattle.buffers.specs.Written.{Written}
 use Rattle.buffers.specs.declared.Failure.{Failure}
 use Rattle.buffers.specs.declared.Failure.TheVariants.{NoType, Full}
 use Rattle.buffers.proofs.Frames.{kept_trans, kept_wider}
 use Rattle.buffers.proofs.Chained.{room_kept, labels_sum}
-use Rattle.turns.specs.Turns.{rewrapped}
+use Rattle.rule_order.specs.Order.{rewrapped}
 use Rattle.wrappers.proofs.Cores.{implies_no, absent_is}
 use Rattle.merge.specs.declared.descent.Descent.{Descent}
 use Rattle.merge.specs.Descent.{Wrapper, alone, nest, AllPass, AllDictionaries, innermost, Descends, Descended, view, PlacedView, run_gives_way, Settled}
@@ -97,7 +97,7 @@ none_between : (zs : List Wrapper) (f : Fields) → count (nest zs f) ≡ count 
 none_between [] f e = refl
 none_between (z ∷ zs) f e = absurd (omega (arith, e, nest_longer z zs f))
 
-module _ (rules : Rules) (of_list : is_list_question rules.question ≡ true) (space : Space) (left : ℕ) (swap : Bool) (s w : List ℕ) (k l r : ℕ) (g : Goal) (room : Room w space)
+module _ (rules : Rules) (of_list : is_list_question rules.question ≡ true) (space : Space) (left : ℕ) (swap : Bool) (s w : List ℕ) (k l r : ℕ) (g : Target) (room : Room w space)
     (is : is_wrapper k ≡ true) (h : Head) (eh : h ≡ head_at (side swap s w) l) (ek : (head_at (side swap s w) l).kind ≡ k)
     (descent : Descent) (down : Descended space (side swap s w) k (head_at (side (not swap) s w) r).kind l descent) where
   abbrev c : DataType → DataType → Option DataType
@@ -114,12 +114,12 @@ module _ (rules : Rules) (of_list : is_list_question rules.question ≡ true) (s
   Way x = Descends space (side swap s w) (head_at (side (not swap) s w) r).kind l descent x
 
   -- what is said of a wrapper, with the way down from it
-  abbrev Says : List ℕ → Out → DataType → Type 0
+  abbrev Says : List ℕ → Written → DataType → Type 0
   Says v o x =
       Typed space (side swap s w) l x → Way x → (y : DataType) → Typed space (side (not swap) s w) r y → size x + size y ≤ left + 1
       → Means space w v g (size x + size y) (letters x + letters y) o (rewrapped x.shape.kind c x y)
 
-  merged : (v : List ℕ) (o : Out) → Writes space w v g o → ((x : DataType) → Says v o x) → Merges answer space (left + 1) swap s w v l r g o
+  merged : (v : List ℕ) (o : Written) → Writes space w v g o → ((x : DataType) → Says v o x) → Merges answer space (left + 1) swap s w v l r g o
   merged v o wr f =
       record {
         writes = wr;
@@ -225,14 +225,14 @@ module _ (rules : Rules) (of_list : is_list_question rules.question ≡ true) (s
       (λ q. omega (arith, q.0, last))
 
   -- the record was copied
-  module _ (v₁ : List ℕ) (a : Spot) (cp : CopiedHead space (side swap s w) w v₁ h l g 0 (Ok a)) where
+  module _ (v₁ : List ℕ) (a : Place) (cp : CopiedHead space (side swap s w) w v₁ h l g 0 (Ok a)) where
     over₁ : {x : DataType} → Typed space (side swap s w) l x → Typed space (side swap s v₁) l x
-    over₁ t = typed_side swap space s w v₁ g.at (g.label + g.nlen) room cp.kept t
+    over₁ t = typed_side swap space s w v₁ g.at (g.label + g.name_len) room cp.kept t
 
     parent : {x : DataType} → Typed space (side swap s w) l x → Parent space w v₁ g x.shape (link_to (g.at + 1) x.parts) a
     parent t = parent_copied eh cp t.chain
 
-    span_at : {v : List ℕ} {o : Out} {x : DataType} → Way x → CopiedSpan space (side swap s v₁) v₁ v descent.first descent.core a o → CopiedSpan space (side swap s v₁) v₁ v (l + 1) descent.core a o
+    span_at : {v : List ℕ} {o : Written} {x : DataType} → Way x → CopiedSpan space (side swap s v₁) v₁ v descent.first descent.core a o → CopiedSpan space (side swap s v₁) v₁ v (l + 1) descent.core a o
     span_at {v} {o} d sp = subst (λ (i : ℕ). CopiedSpan space (side swap s v₁) v₁ v i descent.core a o) d.first sp
 
     pub span_stopped : (v₂ : List ℕ) (f : Failure) → CopiedSpan space (side swap s v₁) v₁ v₂ descent.first descent.core a (Err f) → Merges answer space (left + 1) swap s w v₂ l r g (Err f)
@@ -244,8 +244,8 @@ module _ (rules : Rules) (of_list : is_list_question rules.question ≡ true) (s
         ⊎_elim (λ z. inl (omega (arith, z, p.at))) (λ z. inr (omega (arith, z, p.label))) (parts_short (over₁ t) (cut d) (span_at d sp)))
 
     -- the records behind it were copied
-    module _ (v₂ : List ℕ) (b : Spot) (sp : CopiedSpan space (side swap s v₁) v₁ v₂ descent.first descent.core a (Ok b)) where
-      kept₂ : Kept space w v₂ g.at (g.label + g.nlen)
+    module _ (v₂ : List ℕ) (b : Place) (sp : CopiedSpan space (side swap s v₁) v₁ v₂ descent.first descent.core a (Ok b)) where
+      kept₂ : Kept space w v₂ g.at (g.label + g.name_len)
       kept₂ = kept_on g cp.kept cp.passes sp.kept
 
       -- writes from the core on
@@ -253,12 +253,12 @@ module _ (rules : Rules) (of_list : is_list_question rules.question ≡ true) (s
       wider m = kept_trans sp.kept (kept_wider a.at a.label sp.grows.1.0 sp.grows.1.1 m)
 
       -- what is said of the core
-      core : {named : Bool} {v₃ : List ℕ} {o : Out} → MergesField None named c space left swap s v₂ v₃ descent.core r b o → {x : DataType} → Typed space (side swap s w) l x → (d : Way x)
+      core : {named : Bool} {v₃ : List ℕ} {o : Written} → MergesField None named c space left swap s v₂ v₃ descent.core r b o → {x : DataType} → Typed space (side swap s w) l x → (d : Way x)
           → (y : DataType) → Typed space (side (not swap) s w) r y → size x + size y ≤ left + 1
           → ChainIs space v₃ b (size d.core + size y) (length d.name + letters d.core + letters y) o (field_of d.name d.nullable (c d.core y))
       core mf t d y u q =
-          mf.means d.name d.nullable d.core y end (chain_side swap space s w v₂ g.at (g.label + g.nlen) room kept₂ d.stands)
-          (typed_side (not swap) space s w v₂ g.at (g.label + g.nlen) room kept₂ u) (omega (arith, q, span_records (over₁ t) (cut d) (span_at d sp), sp.grows.1.0)) (λ i e. absurd (none-some i e))
+          mf.means d.name d.nullable d.core y end (chain_side swap space s w v₂ g.at (g.label + g.name_len) room kept₂ d.stands)
+          (typed_side (not swap) space s w v₂ g.at (g.label + g.name_len) room kept₂ u) (omega (arith, q, span_records (over₁ t) (cut d) (span_at d sp), sp.grows.1.0)) (λ i e. absurd (none-some i e))
 
       core_none : {named : Bool} (v₃ : List ℕ) → MergesField None named c space left swap s v₂ v₃ descent.core r b (Err NoType) → Merges answer space (left + 1) swap s w v₃ l r g (Err NoType)
       core_none v₃ mf =
@@ -284,12 +284,12 @@ module _ (rules : Rules) (of_list : is_list_question rules.question ≡ true) (s
       core_stopped v₃ Full mf = core_full v₃ mf
 
       -- the core was merged, and the wrapper settled
-      module _ {named : Bool} (v₃ : List ℕ) (e : Spot) (mf : MergesField None named c space left swap s v₂ v₃ descent.core r b (Ok e)) (v₄ : List ℕ) (o : Out)
+      module _ {named : Bool} (v₃ : List ℕ) (e : Place) (mf : MergesField None named c space left swap s v₂ v₃ descent.core r b (Ok e)) (v₄ : List ℕ) (o : Written)
           (st : Settled space (side swap s v₃) v₃ v₄ descent a g b.at e o) where
         kept₃ : Kept space v₁ v₃ a.at a.label
         kept₃ = wider mf.kept
 
-        kept_all : Kept space w v₃ g.at (g.label + g.nlen)
+        kept_all : Kept space w v₃ g.at (g.label + g.name_len)
         kept_all = kept_on g cp.kept cp.passes kept₃
 
         grows : Grows space a (Ok e)
@@ -298,7 +298,7 @@ module _ (rules : Rules) (of_list : is_list_question rules.question ≡ true) (s
         -- the wrapper stays
         module _ (gw : run_gives_way space v₃ descent b.at ≡ false) where
           stayed : Writes space w v₄ g o
-          stayed = subst₂ (λ (o : Out) (u : List ℕ). Writes space w u g o) (sym (st.stays gw).0) (sym (st.stays gw).1) (writes_on g (Ok e) cp.kept cp.passes kept₃ grows)
+          stayed = subst₂ (λ (o : Written) (u : List ℕ). Writes space w u g o) (sym (st.stays gw).0) (sym (st.stays gw).1) (writes_on g (Ok e) cp.kept cp.passes kept₃ grows)
 
           said_stays : {x y : DataType} (t : Typed space (side swap s w) l x) (d : Way x) → Typed space (side (not swap) s w) r y → (z₁ y₁ : ℕ) (m : DataType) → c d.core y ≡ Some m
               → Wrote space v₃ b e (alone d.name d.nullable m) → Means space w v₄ g z₁ y₁ o (rewrapped x.shape.kind c x y)
@@ -306,7 +306,7 @@ module _ (rules : Rules) (of_list : is_list_question rules.question ≡ true) (s
               let parts = parts_wrote (over₁ t) (cut d) (span_at d sp) room.few cp.passes.0 mf.kept m wrote in
               let kind : (head_at (region space v₃) b.at).kind ≡ m.shape.kind = ap (λ (x : Head). x.kind) wrote.holds.0.head in
               subst (Means space w v₄ g z₁ y₁ o) (sym (kept_of t d u q (stays_bare d m (ap₂ (λ (b : Bool) (i : ℕ). not b && eqb i 27) {x = eqb descent.run descent.core} refl (sym kind) ∙ gw))))
-              (subst₂ (λ (o : Out) (u : List ℕ). Means space w u g z₁ y₁ o (Some (type_of x.shape (with_type (cut d) m)))) (sym (st.stays gw).0) (sym (st.stays gw).1)
+              (subst₂ (λ (o : Written) (u : List ℕ). Means space w u g z₁ y₁ o (Some (type_of x.shape (with_type (cut d) m)))) (sym (st.stays gw).0) (sym (st.stays gw).1)
               (parent_wrote v₃ (with_type (cut d) m) (parent t) (ap (link_to (g.at + 1)) (cut d).is) kept₃ parts))
 
         -- the run of Dictionaries gives way
@@ -348,8 +348,8 @@ module _ (rules : Rules) (of_list : is_list_question rules.question ≡ true) (s
                 go f i =
                     let made = field d.part_name d.part_nullable d.part d.part_parts (nest d.kept (alone f.name₁ f.nullable₁ view)) in
                     let is = d.is ∙ ap (λ (v : Fields). field d.part_name d.part_nullable d.part d.part_parts (nest d.kept v)) f.is in
-                    let stands = typed_side swap space s w v₃ g.at (g.label + g.nlen) room kept_all t in
-                    let chain = chain_side swap space s w v₃ g.at (g.label + g.nlen) room kept_all (subst (Chain space (side swap s w) descent.run) f.is i.1.0) in
+                    let stands = typed_side swap space s w v₃ g.at (g.label + g.name_len) room kept_all t in
+                    let chain = chain_side swap space s w v₃ g.at (g.label + g.name_len) room kept_all (subst (Chain space (side swap s w) descent.run) f.is i.1.0) in
                     let ends : descent.run + size f.type ≡ l + size x = omega (arith, i.1.1, ap (λ (v : Fields). count v) f.is, alone_count f.name₁ f.nullable₁ f.type) in
                     let parts : ChainIs space v₄ a (count x.parts) (length (labels x.parts)) o (Some made)
                     = placed.means l x d.part_name d.part_nullable d.part d.part_parts d.kept f.name₁ f.nullable₁ f.type stands d.first is chain ends in

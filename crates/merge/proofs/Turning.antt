@@ -12,7 +12,7 @@ use Rattle.sheet.specs.declared.kind.TheConstants as Kind
 use Rattle.sheet.specs.Types.{Shape, Fields, end}
 use Rattle.sheet.specs.Head.{head_at}
 use Rattle.sheet.specs.declared.Head.{Head}
-use Rattle.sheet.proofs.Tests.{never}
+use Rattle.sheet.proofs.Booleans.{never}
 use Rattle.coercion.specs.Data.{DataType, size, or_else, and_then, is_list_question}
 use Rattle.sheet.specs.Kind.{is_list, is_wrapper}
 use Rattle.coercion.specs.Same.{same_type}
@@ -24,19 +24,19 @@ use Rattle.coercion.specs.declared.Rules.{Rules}
 use Rattle.buffers.specs.Source.{SameTypes}
 use Rattle.buffers.specs.Writes.{side}
 use Rattle.buffers.specs.Region.{Room, Kept}
-use Rattle.buffers.specs.Goal.{letters, Means, CopiedType, shape_for}
+use Rattle.buffers.specs.Target.{letters, Means, CopiedType, shape_for}
 use Rattle.buffers.specs.Heads.{list_kind, list_size}
 use Rattle.plain.specs.Steps.{Reads}
 use Rattle.plain.specs.Plain.{plain_rules}
-use Rattle.turns.proofs.Orders.{map_turns}
-use Rattle.turns.specs.Turns.{struct_rule, nested_of, list_rule, map_rule, both_wrapped, rewrapped, either_wrapped, resolved, wrapper_rule, unwrapped}
+use Rattle.rule_order.proofs.Orders.{map_turns}
+use Rattle.rule_order.specs.Order.{struct_rule, nested_of, list_rule, map_rule, both_wrapped, rewrapped, either_wrapped, resolved, wrapper_rule, unwrapped}
 use Rattle.buffers.specs.Typed.{Typed, Merges}
 use Rattle.merge.specs.Known.{Differs, row_known}
 use Rattle.merge.specs.Merge.{MergesKnown, MergesHinted, Under}
 use Rattle.buffers.specs.declared.Space.{Space}
-use Rattle.buffers.specs.declared.Spot.{Spot}
-use Rattle.buffers.specs.declared.Goal.{Goal}
-use Rattle.buffers.specs.Out.{Out}
+use Rattle.buffers.specs.declared.Place.{Place}
+use Rattle.buffers.specs.declared.Target.{Target}
+use Rattle.buffers.specs.Written.{Written}
 use Rattle.std.specs.Prelude.{Ok, Err}
 use Rattle.buffers.specs.declared.Failure.TheVariants.{NoType, Full}
 use Rattle.partners.specs.declared.Feed.TheVariants as Feed
@@ -45,7 +45,7 @@ use Rattle.merge.proofs.Knowing.{parts_known, value_known}
 use Rattle.merge.proofs.Merging.{typed_side, typed_same, nothing_known, any_known, any_hint, means_for, means_after, hinted_within, known_as, as_known, merges_swapped, merges_left, merges_right, merges_none}
 use Rattle.wrappers.specs.Ways.{Hint, without}
 use Rattle.wrappers.specs.Walks.{Way, kind_in}
-use Rattle.wrappers.specs.declared.walk.Turn.{Turn}
+use Rattle.wrappers.specs.declared.walk.Choice.{Choice}
 use Rattle.wrappers.proofs.Choosing.{typed_whole, way_rule, way_none}
 use Rattle.wrappers.proofs.Hints.{hint_for, without_value, without_self}
 use Rattle.wrappers.proofs.Values.{side_twice, kind_of_lem, kind_is, chain_first, Two, typed_two, value_of}
@@ -80,29 +80,29 @@ pub both_below : {k j i : ℕ} → k < i → j < i → (ltb k i && ltb j i) ≡ 
 both_below {k} {j} {i} e f = both_true (lt-ltb k i e) (lt-ltb j i f)
 
 -- what was merged after something else was written at the same goal
-pub merges_after : {known : Option ℕ} {named : Bool} {A : DataType → DataType → Option DataType} {space : Space} {left : ℕ} (swap : Bool) {s w v u : List ℕ} {l r : ℕ} {g : Goal} {o : Out} → Room w space
-    → Kept space w v g.at (g.label + g.nlen) → MergesKnown known named A space left swap s v u l r g o → MergesKnown known named A space left swap s w u l r g o
+pub merges_after : {known : Option ℕ} {named : Bool} {A : DataType → DataType → Option DataType} {space : Space} {left : ℕ} (swap : Bool) {s w v u : List ℕ} {l r : ℕ} {g : Target} {o : Written} → Room w space
+    → Kept space w v g.at (g.label + g.name_len) → MergesKnown known named A space left swap s v u l r g o → MergesKnown known named A space left swap s w u l r g o
 merges_after {A = A} {space} {left} swap {s} {w} {v} {u} {l} {r} {g} {o} room k m =
     record {
       writes = record { kept = kept_trans k m.writes.kept; passes = m.writes.passes };
       means =
           λ x y a b q d.
           means_after space w v u g (size x + size y) (letters x + letters y) o (A x y) k
-          (m.means x y (typed_side swap space s w v g.at (g.label + g.nlen) room k a) (typed_side (not swap) space s w v g.at (g.label + g.nlen) room k b) q d);
+          (m.means x y (typed_side swap space s w v g.at (g.label + g.name_len) room k a) (typed_side (not swap) space s w v g.at (g.label + g.name_len) room k b) q d);
     }
 
 -- the first of two rules that says something
-or_done : (space : Space) (w v : List ℕ) (g : Goal) (z y : ℕ) (d : Spot) (a b : Option DataType) → Means space w v g z y (Ok d) a → Means space w v g z y (Ok d) (or_else a b)
+or_done : (space : Space) (w v : List ℕ) (g : Target) (z y : ℕ) (d : Place) (a b : Option DataType) → Means space w v g z y (Ok d) a → Means space w v g z y (Ok d) (or_else a b)
 or_done space w v g z y d None b k = absurd k
 or_done space w v g z y d (Some t) b k = k
 
-or_none : (space : Space) (w v u : List ℕ) (g : Goal) (z y : ℕ) (o : Out) (a b : Option DataType) → Means space w v g z y (Err NoType) a → Means space w u g z y o b → Means space w u g z y o (or_else a b)
+or_none : (space : Space) (w v u : List ℕ) (g : Target) (z y : ℕ) (o : Written) (a b : Option DataType) → Means space w v g z y (Err NoType) a → Means space w u g z y o b → Means space w u g z y o (or_else a b)
 or_none space w v u g z y o None b k m = m
 or_none space w v u g z y o (Some t) b k m = absurd k
 
 module _ {hint mask : ℕ} {known : Option ℕ} {named : Bool} {A : DataType → DataType → Option DataType} (B : DataType → DataType → Option DataType) {space : Space} {left : ℕ} (swap : Bool)
-    {s w v : List ℕ} {l r : ℕ} {g : Goal} where
-  pub either_done : {d : Spot} → MergesHinted hint mask known named A space left swap s w v l r g (Ok d)
+    {s w v : List ℕ} {l r : ℕ} {g : Target} where
+  pub either_done : {d : Place} → MergesHinted hint mask known named A space left swap s w v l r g (Ok d)
       → MergesHinted hint mask known named (λ x y. or_else (A x y) (B x y)) space left swap s w v l r g (Ok d)
   either_done {d} m =
       record { writes = m.writes; means = λ x y a b q i n. or_done space w v g (size x + size y) (letters x + letters y) d (A x y) (B x y) (m.means x y a b q i n) }
@@ -111,7 +111,7 @@ module _ {hint mask : ℕ} {known : Option ℕ} {named : Bool} {A : DataType →
       → MergesHinted hint mask known named (λ x y. or_else (A x y) (B x y)) space left swap s w v l r g (Err Full)
   either_full m = record { writes = m.writes; means = λ x y a b q i n. m.means x y a b q i n }
 
-  pub either_next : {u : List ℕ} {o : Out} → Room w space → MergesHinted hint mask known named A space left swap s w v l r g (Err NoType) → MergesKnown known named B space left swap s v u l r g o
+  pub either_next : {u : List ℕ} {o : Written} → Room w space → MergesHinted hint mask known named A space left swap s w v l r g (Err NoType) → MergesKnown known named B space left swap s v u l r g o
       → MergesHinted hint mask known named (λ x y. or_else (A x y) (B x y)) space left swap s w u l r g o
   either_next {u} {o} room m n =
       let k = merges_after swap room m.writes.kept n in
@@ -138,7 +138,7 @@ both_two c l lf rf x y =
     go (Some t) None = refl
     go (Some t) (Some t₂) = rw (sym (or_self x.b)) (rw (sym (or_self x.b₂)) refl)
 
-module _ (known : Option ℕ) (named : Bool) (rules : Rules) (c : DataType → DataType → Option DataType) (space : Space) (left : ℕ) (swap : Bool) (s w : List ℕ) (l r : ℕ) (g : Goal) where
+module _ (known : Option ℕ) (named : Bool) (rules : Rules) (c : DataType → DataType → Option DataType) (space : Space) (left : ℕ) (swap : Bool) (s w : List ℕ) (l r : ℕ) (g : Target) where
   abbrev S : List ℕ
   S = side swap s w
 
@@ -150,16 +150,16 @@ module _ (known : Option ℕ) (named : Bool) (rules : Rules) (c : DataType → D
     one_of : {x y : DataType} (i : ℕ) → Typed space S l x → Typed space T r y → (is_of i x || is_of i y) ≡ (eqb k i || eqb j i)
     one_of i a b = ap₂ ◌||◌ (kind_is ek i a) (kind_is ej i b)
 
-    pub resolve_dictionary : (v : List ℕ) (o : Out) → (eqb k 37 || eqb j 37) ≡ true → MergesKnown known named (either_wrapped 37 c) space (left + 1) swap s w v l r g o → MergesKnown known named (resolved rules c) space (left + 1) swap s w v l r g o
+    pub resolve_dictionary : (v : List ℕ) (o : Written) → (eqb k 37 || eqb j 37) ≡ true → MergesKnown known named (either_wrapped 37 c) space (left + 1) swap s w v l r g o → MergesKnown known named (resolved rules c) space (left + 1) swap s w v l r g o
     unfolding resolved
     resolve_dictionary v o h = known_as (resolved rules c) space swap s w v l r g o known (left + 1) (omega arith) (λ x y a b d. (rw (one_of 37 a b ∙ h) refl, d))
 
-    pub resolve_runs : (v : List ℕ) (o : Out) → (eqb k 37 || eqb j 37) ≡ false → (eqb k 38 || eqb j 38) ≡ true → MergesKnown known named (either_wrapped 38 c) space (left + 1) swap s w v l r g o
+    pub resolve_runs : (v : List ℕ) (o : Written) → (eqb k 37 || eqb j 37) ≡ false → (eqb k 38 || eqb j 38) ≡ true → MergesKnown known named (either_wrapped 38 c) space (left + 1) swap s w v l r g o
         → MergesKnown known named (resolved rules c) space (left + 1) swap s w v l r g o
     unfolding resolved
     resolve_runs v o n h = known_as (resolved rules c) space swap s w v l r g o known (left + 1) (omega arith) (λ x y a b d. (rw (one_of 37 a b ∙ n) (rw (one_of 38 a b ∙ h) refl), d))
 
-    pub resolve_nested : (v : List ℕ) (o : Out) → (eqb k 37 || eqb j 37) ≡ false → (eqb k 38 || eqb j 38) ≡ false → MergesKnown known named (nested_of rules c) space (left + 1) swap s w v l r g o
+    pub resolve_nested : (v : List ℕ) (o : Written) → (eqb k 37 || eqb j 37) ≡ false → (eqb k 38 || eqb j 38) ≡ false → MergesKnown known named (nested_of rules c) space (left + 1) swap s w v l r g o
         → MergesKnown known named (resolved rules c) space (left + 1) swap s w v l r g o
     unfolding resolved
     resolve_nested v o n h = known_as (resolved rules c) space swap s w v l r g o known (left + 1) (omega arith) (λ x y a b d. (rw (one_of 37 a b ∙ n) (rw (one_of 38 a b ∙ h) refl), d))
@@ -176,13 +176,13 @@ asked rules pairs x y a b =
     ap (λ (o : Option DataType). or_else o (nested_of rules (coercion rules) x y)) (sym (way_rule rules pairs x y (typed_whole a) (typed_whole b)))
     ∙ or_assoc (wrapper_coercion 37 (coercion rules) x y) (wrapper_coercion 38 (coercion rules) x y) (nested_of rules (coercion rules) x y)
 
-module _ {hint mask : ℕ} (known : Option ℕ) (named : Bool) (rules : Rules) (pairs : is_list_question rules.question ≡ false) (space : Space) (left : ℕ) (swap : Bool) (s w : List ℕ) (l r : ℕ) (g : Goal)
+module _ {hint mask : ℕ} (known : Option ℕ) (named : Bool) (rules : Rules) (pairs : is_list_question rules.question ≡ false) (space : Space) (left : ℕ) (swap : Bool) (s w : List ℕ) (l r : ℕ) (g : Target)
     (v : List ℕ) where
-  as_unwrapped : {u : List ℕ} {o : Out} → MergesHinted hint mask known named (λ x y. or_else (wrapper_rule rules (coercion rules) x y) (nested_of rules (coercion rules) x y)) space (left + 1) swap s w u l r g o
+  as_unwrapped : {u : List ℕ} {o : Written} → MergesHinted hint mask known named (λ x y. or_else (wrapper_rule rules (coercion rules) x y) (nested_of rules (coercion rules) x y)) space (left + 1) swap s w u l r g o
       → MergesHinted hint mask known named (unwrapped rules (coercion rules)) space (left + 1) swap s w u l r g o
   as_unwrapped {u} {o} = hinted_within (unwrapped rules (coercion rules)) space swap s w u l r g o known (left + 1) (omega arith) (λ x y a b q d n. (asked rules pairs x y a b, d))
 
-  pub unwrap_done : (d : Spot) → MergesHinted hint mask known named (wrapper_rule rules (coercion rules)) space (left + 1) swap s w v l r g (Ok d)
+  pub unwrap_done : (d : Place) → MergesHinted hint mask known named (wrapper_rule rules (coercion rules)) space (left + 1) swap s w v l r g (Ok d)
       → MergesHinted hint mask known named (unwrapped rules (coercion rules)) space (left + 1) swap s w v l r g (Ok d)
   unwrap_done d m = as_unwrapped (either_done (nested_of rules (coercion rules)) swap m)
 
@@ -190,15 +190,15 @@ module _ {hint mask : ℕ} (known : Option ℕ) (named : Bool) (rules : Rules) (
       → MergesHinted hint mask known named (unwrapped rules (coercion rules)) space (left + 1) swap s w v l r g (Err Full)
   unwrap_full m = as_unwrapped (either_full (nested_of rules (coercion rules)) swap m)
 
-  pub unwrap_nested : Room w space → (u : List ℕ) (o : Out) → MergesHinted hint mask known named (wrapper_rule rules (coercion rules)) space (left + 1) swap s w v l r g (Err NoType)
+  pub unwrap_nested : Room w space → (u : List ℕ) (o : Written) → MergesHinted hint mask known named (wrapper_rule rules (coercion rules)) space (left + 1) swap s w v l r g (Err NoType)
       → MergesKnown known named (nested_of rules (coercion rules)) space (left + 1) swap s v u l r g o
       → MergesHinted hint mask known named (unwrapped rules (coercion rules)) space (left + 1) swap s w u l r g o
   unwrap_nested room u o m n = as_unwrapped (either_next (nested_of rules (coercion rules)) swap room m n)
 
 -- the rule for wrappers that is asked
-module _ {hint : ℕ} {known : Option ℕ} {named : Bool} (rules : Rules) (c : DataType → DataType → Option DataType) (space : Space) (left : ℕ) (swap : Bool) (s w : List ℕ) (l r : ℕ) (g : Goal)
-    {t : Option Turn} (way : Way hint rules.mask (left + 1) swap s w l r t) where
-  pub way_merged : (v : List ℕ) (o : Out) → MergesHinted hint rules.mask known named (wrapper_coercion (kind_in t) c) space (left + 1) swap s w v l r g o
+module _ {hint : ℕ} {known : Option ℕ} {named : Bool} (rules : Rules) (c : DataType → DataType → Option DataType) (space : Space) (left : ℕ) (swap : Bool) (s w : List ℕ) (l r : ℕ) (g : Target)
+    {t : Option Choice} (way : Way hint rules.mask (left + 1) swap s w l r t) where
+  pub way_merged : (v : List ℕ) (o : Written) → MergesHinted hint rules.mask known named (wrapper_coercion (kind_in t) c) space (left + 1) swap s w v l r g o
       → MergesHinted hint rules.mask known named (wrapper_rule rules c) space (left + 1) swap s w v l r g o
   way_merged v o =
       hinted_within (wrapper_rule rules c) space swap s w v l r g o known (left + 1) (omega arith)
@@ -212,9 +212,9 @@ module _ {hint : ℕ} {known : Option ℕ} {named : Bool} (rules : Rules) (c : D
       (any_hint hint rules.mask swap (any_known known swap (merges_none (λ x y. None) space (left + 1) swap s w l r g (λ x y a b q. refl))))
 
 -- wrappers of a kind, in a list
-module _ (known : Option ℕ) {named : Bool} (c : DataType → DataType → Option DataType) (space : Space) (left : ℕ) (swap : Bool) (s w : List ℕ) (l r : ℕ) (g : Goal)
+module _ (known : Option ℕ) {named : Bool} (c : DataType → DataType → Option DataType) (space : Space) (left : ℕ) (swap : Bool) (s w : List ℕ) (l r : ℕ) (g : Target)
     {k j i : ℕ} (ek : k ≡ (head_at (side swap s w) l).kind) (ej : j ≡ (head_at (side (not swap) s w) r).kind) (is : is_wrapper i ≡ true) where
-  pub wrap_both : (v : List ℕ) (o : Out) → k ≡ i → j ≡ i → MergesKnown known named (both_wrapped c) space (left + 1) swap s w v l r g o → MergesKnown known named (either_wrapped i c) space (left + 1) swap s w v l r g o
+  pub wrap_both : (v : List ℕ) (o : Written) → k ≡ i → j ≡ i → MergesKnown known named (both_wrapped c) space (left + 1) swap s w v l r g o → MergesKnown known named (either_wrapped i c) space (left + 1) swap s w v l r g o
   unfolding either_wrapped
   wrap_both v o p q =
       known_as (either_wrapped i c) space swap s w v l r g o known (left + 1) (omega arith)
@@ -224,13 +224,13 @@ module _ (known : Option ℕ) {named : Bool} (c : DataType → DataType → Opti
         d,
       ))
 
-  pub wrap_left : (v : List ℕ) (o : Out) → k ≡ i → ¬ (j ≡ i) → MergesKnown known named (rewrapped i c) space (left + 1) swap s w v l r g o → MergesKnown known named (either_wrapped i c) space (left + 1) swap s w v l r g o
+  pub wrap_left : (v : List ℕ) (o : Written) → k ≡ i → ¬ (j ≡ i) → MergesKnown known named (rewrapped i c) space (left + 1) swap s w v l r g o → MergesKnown known named (either_wrapped i c) space (left + 1) swap s w v l r g o
   unfolding either_wrapped
   wrap_left v o p q =
       known_as (either_wrapped i c) space swap s w v l r g o known (left + 1) (omega arith)
       (λ x y a b d. (rw (kind_is ek i a ∙ eq-eqb k i p) (rw (kind_is ej i b ∙ ne_eqb j i q) refl), d))
 
-  pub wrap_right : (v : List ℕ) (o : Out) → ¬ (k ≡ i) → j ≡ i → Merges (rewrapped i c) space (left + 1) (not swap) s w v r l g o → MergesKnown known named (either_wrapped i c) space (left + 1) swap s w v l r g o
+  pub wrap_right : (v : List ℕ) (o : Written) → ¬ (k ≡ i) → j ≡ i → Merges (rewrapped i c) space (left + 1) (not swap) s w v r l g o → MergesKnown known named (either_wrapped i c) space (left + 1) swap s w v l r g o
   unfolding either_wrapped
   wrap_right v o p q m =
       any_known known swap
@@ -250,7 +250,7 @@ On space left swap s w l r i mask hint own =
     (x y : DataType) → Typed space (side swap s w) l x → Typed space (side (not swap) s w) r y → size x + size y ≤ left + 1 → Hint hint mask x y → Hint own mask (without i x) (without i y)
 
 -- a wrapper of a kind on either side, in union and compare
-module _ (c : DataType → DataType → Option DataType) (space : Space) (left : ℕ) (swap : Bool) (s w : List ℕ) (l r : ℕ) (g : Goal)
+module _ (c : DataType → DataType → Option DataType) (space : Space) (left : ℕ) (swap : Bool) (s w : List ℕ) (l r : ℕ) (g : Target)
     {k j i : ℕ} (ek : k ≡ (head_at (side swap s w) l).kind) (ej : j ≡ (head_at (side (not swap) s w) r).kind) (is : is_wrapper i ≡ true) where
   pub wrapper_none : ¬ (k ≡ i) → ¬ (j ≡ i) → Merges (wrapper_coercion i c) space (left + 1) swap s w w l r g (Err NoType)
   unfolding wrapper_coercion
@@ -258,7 +258,7 @@ module _ (c : DataType → DataType → Option DataType) (space : Space) (left :
       merges_none (wrapper_coercion i c) space (left + 1) swap s w l r g
       (λ x y a b m. rw (kind_is ek i a ∙ ne_eqb k i p) (rw (kind_is ej i b ∙ ne_eqb j i q) refl))
 
-  module _ (v : List ℕ) (o : Out) where
+  module _ (v : List ℕ) (o : Written) where
     pub wrapper_both : (mask hint own : ℕ) → On space left swap s w l r i mask hint own → (known own-known : Option ℕ) {named : Bool} {m₁ m₂ : ℕ} → m₁ ≡ (head_at (side swap s w) (head_at (side swap s w) l).first).next
         → m₂ ≡ (head_at (side (not swap) s w) (head_at (side (not swap) s w) r).first).next → k ≡ i → j ≡ i → own-known ≡ row_known known m₁ 0 m₂ m₂
         → MergesHinted own mask own-known named c space left swap s w v m₁ m₂ g o → MergesHinted hint mask known named (wrapper_coercion i c) space (left + 1) swap s w v l r g o
@@ -330,8 +330,8 @@ module _ (c : DataType → DataType → Option DataType) (space : Space) (left :
           }
 
 -- two types that are no wrappers, by the kinds of both
-module _ (known : Option ℕ) (named : Bool) (rules : Rules) (c : DataType → DataType → Option DataType) (space : Space) (left : ℕ) (swap : Bool) (s w : List ℕ) (l r : ℕ) (g : Goal)
-    {k j : ℕ} (ek : k ≡ (head_at (side swap s w) l).kind) (ej : j ≡ (head_at (side (not swap) s w) r).kind) (v : List ℕ) (o : Out) where
+module _ (known : Option ℕ) (named : Bool) (rules : Rules) (c : DataType → DataType → Option DataType) (space : Space) (left : ℕ) (swap : Bool) (s w : List ℕ) (l r : ℕ) (g : Target)
+    {k j : ℕ} (ek : k ≡ (head_at (side swap s w) l).kind) (ej : j ≡ (head_at (side (not swap) s w) r).kind) (v : List ℕ) (o : Written) where
   module _ {X Y : DataType} (a : Typed space (side swap s w) l X) (b : Typed space (side (not swap) s w) r Y) where
     lists : (is_list X.shape.kind && is_list Y.shape.kind) ≡ (is_list k && is_list j)
     lists = ap₂ (λ (m n : ℕ). is_list m && is_list n) (kind_of_lem ek a) (kind_of_lem ej b)
@@ -382,7 +382,7 @@ module _ (known : Option ℕ) (named : Bool) (rules : Rules) (c : DataType → D
           (λ X Y a b d. rw (lists a b ∙ n) (rw (are a b 35 ∙ h) (rw (are a b 36 ∙ e) refl))) (m (left + 1))
 
 -- the shape of two lists' common list, by their heads
-size_of : {h : Head} {t : DataType} → Reads h t → eqb t.shape.kind 34 ≡ true → t.shape.size ≡ h.quad
+size_of : {h : Head} {t : DataType} → Reads h t → eqb t.shape.kind 34 ≡ true → t.shape.size ≡ h.bytes_4_7
 size_of {h} {t} a e =
     let k = eqb-true t.shape.kind 34 e in
     a.size (a.bare (ne_eqb t.shape.kind Kind.TIMESTAMP (λ q. omega arith)))
@@ -399,18 +399,18 @@ shape_listed {x} {y} {X} {Y} a b = rw (sym a.kind) (rw (sym b.kind) (go (eqb X.s
     fixed false n = refl
 
     go : (p : Bool) → eqb X.shape.kind 34 ≡ p → (q : Bool) → eqb Y.shape.kind 34 ≡ q
-        → shape_for (cond (p && q) (cond (eqb x.quad y.quad) 34 32) (cond (eqb X.shape.kind 33 || eqb Y.shape.kind 33) 33 32)) 0 0
-        (cond (p && q) (cond (eqb x.quad y.quad) y.quad 0) 0) false
+        → shape_for (cond (p && q) (cond (eqb x.bytes_4_7 y.bytes_4_7) 34 32) (cond (eqb X.shape.kind 33 || eqb Y.shape.kind 33) 33 32)) 0 0
+        (cond (p && q) (cond (eqb x.bytes_4_7 y.bytes_4_7) y.bytes_4_7 0) 0) false
         ≡ cond (p && q) (cond (eqb X.shape.size Y.shape.size) (shape_for 34 0 0 Y.shape.size false) (shape_for 32 0 0 0 false))
         (cond (eqb X.shape.kind 33 || eqb Y.shape.kind 33) (shape_for 33 0 0 0 false) (shape_for 32 0 0 0 false))
-    go true e true f = rw (size_of a e) (rw (size_of b f) (fixed (eqb x.quad y.quad) y.quad))
+    go true e true f = rw (size_of a e) (rw (size_of b f) (fixed (eqb x.bytes_4_7 y.bytes_4_7) y.bytes_4_7))
     go true e false f = large (eqb X.shape.kind 33 || eqb Y.shape.kind 33)
     go false e q f = large (eqb X.shape.kind 33 || eqb Y.shape.kind 33)
 
 -- two lists
-module _ {known : Option ℕ} {named : Bool} (c : DataType → DataType → Option DataType) (space : Space) (left : ℕ) (swap : Bool) (s w : List ℕ) (l r : ℕ) (g : Goal) (x y : Head)
+module _ {known : Option ℕ} {named : Bool} (c : DataType → DataType → Option DataType) (space : Space) (left : ℕ) (swap : Bool) (s w : List ℕ) (l r : ℕ) (g : Target) (x y : Head)
     (ex : x ≡ head_at (side swap s w) l) (ey : y ≡ head_at (side (not swap) s w) r) where
-  pub list_merged : {kind sz : ℕ} → kind ≡ list_kind x y → sz ≡ list_size x y → (v : List ℕ) (o : Out)
+  pub list_merged : {kind sz : ℕ} → kind ≡ list_kind x y → sz ≡ list_size x y → (v : List ℕ) (o : Written)
       → Under known named c space left swap s w v Feed.Place (shape_for kind 0 0 sz false) x.first y.first y.first g o
       → MergesKnown known named (list_rule c) space (left + 1) swap s w v l r g o
   list_merged ek es v o u =

@@ -5,12 +5,12 @@ use Rattle.sheet.specs.Types.{Shape, Fields, end, field, count, labels}
 use Rattle.sheet.specs.Head.{head_at}
 use Rattle.coercion.specs.Data.{DataType, size}
 use Rattle.buffers.specs.Region.{region, Kept, Grows}
-use Rattle.buffers.specs.Goal.{type_of, shape_for, LaidPlain}
+use Rattle.buffers.specs.Target.{type_of, shape_for, LaidPlain}
 use Rattle.buffers.specs.Typed.{Chain, Typed, ChainIs}
 use Rattle.buffers.specs.declared.Space.{Space}
-use Rattle.buffers.specs.declared.Spot.{Spot}
-use Rattle.buffers.specs.declared.Goal.{Goal}
-use Rattle.buffers.specs.Out.{Out}
+use Rattle.buffers.specs.declared.Place.{Place}
+use Rattle.buffers.specs.declared.Target.{Target}
+use Rattle.buffers.specs.Written.{Written}
 use Rattle.std.specs.Prelude.{Some, Ok}
 use Rattle.merge.specs.declared.descent.Descent.{Descent}
 
@@ -94,14 +94,14 @@ abbrev pub view : DataType
 view = type_of (shape_for Kind.UTF8_VIEW 0 0 0 false) end
 
 -- Utf8View was written at a place under the name and nullability of the field at a link
-pub record NamedView (space : Space) (s w v : List ℕ) (link : ℕ) (to : Spot) (o : Out) : Type 0 where
+pub record NamedView (space : Space) (s w v : List ℕ) (link : ℕ) (to : Place) (o : Written) : Type 0 where
   pub kept : Kept space w v to.at to.label
   pub grows : Grows space to o
   pub means : (name : List ℕ) (nullable : Bool) (t : DataType) (rest : Fields) → Chain space s link (field name nullable t.shape t.parts rest)
       → ChainIs space v to 1 (length name) o (Some (alone name nullable view))
 
 -- the parts of a wrapper, the first of which is record r, were written at a place, with Utf8View where record i stands
-pub record PlacedView (space : Space) (s w v : List ℕ) (r i : ℕ) (to : Spot) (o : Out) : Type 0 where
+pub record PlacedView (space : Space) (s w v : List ℕ) (r i : ℕ) (to : Place) (o : Written) : Type 0 where
   pub kept : Kept space w v to.at to.label
   pub grows : Grows space to o
   pub means : (l : ℕ) (x : DataType) (n : List ℕ) (b : Bool) (part : Shape) (p : Fields) (zs : List Wrapper) (name : List ℕ) (nullable : Bool) (t : DataType) → Typed space s l x → r ≡ l + 1
@@ -112,9 +112,9 @@ pub record PlacedView (space : Space) (s w v : List ℕ) (r i : ℕ) (to : Spot)
 abbrev pub run_gives_way : Space → List ℕ → Descent → ℕ → Bool
 run_gives_way space w d i = not (eqb d.run d.core) && eqb (head_at (region space w) i).kind Kind.UTF8_VIEW
 
--- a wrapper, written at a goal with its parts from a up to e, stays so, or its run of Dictionaries gives way to
+-- a wrapper, written at a target with its parts from a up to e, stays so, or its run of Dictionaries gives way to
 -- the Utf8View at record i
-pub record Settled (space : Space) (s w v : List ℕ) (d : Descent) (a : Spot) (g : Goal) (i : ℕ) (e : Spot) (o : Out) : Type 0 where
+pub record Settled (space : Space) (s w v : List ℕ) (d : Descent) (a : Place) (g : Target) (i : ℕ) (e : Place) (o : Written) : Type 0 where
   pub stays : run_gives_way space w d i ≡ false → (o ≡ Ok e) × (v ≡ w)
   pub whole : run_gives_way space w d i ≡ true → d.run < d.first → LaidPlain space w v g view.shape o
   pub part : run_gives_way space w d i ≡ true → d.first ≤ d.run → PlacedView space s w v d.first d.run a o

@@ -5,13 +5,13 @@
 ghost use Rattle.std.specs.Prelude.{◌≡◌, true, false, cond, ◌+◌, ◌-◌, eqb};
 ghost use Rattle.coercion.specs.Answers.{coercion};
 ghost use Rattle.buffers.specs.Region.{Room, Ready};
-ghost use Rattle.turns.specs.Turns.{resolved, unwrapped, nested_of};
+ghost use Rattle.rule_order.specs.Order.{resolved, unwrapped, nested_of};
 ghost use Rattle.merge.specs.Merge.{Tabled, MergesKnown, MergesHinted};
 ghost use Rattle.coercion.specs.Data.{is_list_question};
 
 use crate::Merger;
 use crate::known::Known;
-use buffers::{Failure, Goal, Out};
+use buffers::{Failure, Target, Written};
 use sheet::kind::{self, is_list};
 
 // How many records the type at a link has. It ends where the chain goes on, or with the last
@@ -32,7 +32,7 @@ impl Merger<'_> {
     ///
     /// The table of partners is as short as the left type allows, since each of its entries is set
     /// to 0.
-    pub fn coerce(&self, work: &mut [u8], known: Known, l: usize, r: usize, g: Goal) -> Out
+    pub fn coerce(&self, work: &mut [u8], known: Known, l: usize, r: usize, g: Target) -> Written
         requires { Room work.old self.now.sides.space × Ready self.now.sides.space g }
         ensures { MergesHinted known.hint self.now.rules.mask known.differs (is_list_question self.now.rules.question) (coercion self.now.rules) self.now.sides.space known.left self.now.sides.swap self.now.sides.sheet.now work.old work.new l r g result }
     {
@@ -49,7 +49,7 @@ impl Merger<'_> {
     // The same, where the left type has many records. It is not inlined, so that the large table is
     // not in the frame of `coerce`.
     #[inline(never)]
-    fn coerce_many(&self, work: &mut [u8], known: &Known, l: usize, r: usize, g: Goal) -> Out
+    fn coerce_many(&self, work: &mut [u8], known: &Known, l: usize, r: usize, g: Target) -> Written
         requires { Room work.old self.now.sides.space × Ready self.now.sides.space g }
         ensures { MergesHinted known.now.hint self.now.rules.mask known.now.differs (is_list_question self.now.rules.question) (coercion self.now.rules) self.now.sides.space known.now.left self.now.sides.swap self.now.sides.sheet.now work.old work.new l r g result }
     {
@@ -65,8 +65,8 @@ impl Merger<'_> {
         known: &Known,
         l: usize,
         r: usize,
-        g: Goal,
-    ) -> Out
+        g: Target,
+    ) -> Written
         requires room { Room work.old self.now.sides.space × Ready self.now.sides.space g }
         requires tabled { Tabled self.now.sides.space self.now.sides.sheet.now work.old table.old }
         ensures merges_hinted { MergesHinted known.now.hint self.now.rules.mask known.now.differs (is_list_question self.now.rules.question) (coercion self.now.rules) self.now.sides.space known.now.left self.now.sides.swap self.now.sides.sheet.now work.old work.new l r g result }
@@ -106,8 +106,8 @@ impl Merger<'_> {
         known: &Known,
         l: usize,
         r: usize,
-        g: Goal,
-    ) -> Out
+        g: Target,
+    ) -> Written
         requires room { Room work.old self.now.sides.space × Ready self.now.sides.space g }
         requires of_list { is_list_question self.now.rules.question ≡ true }
         requires tabled { Tabled self.now.sides.space self.now.sides.sheet.now work.old table.old }
@@ -136,8 +136,8 @@ impl Merger<'_> {
         known: &Known,
         l: usize,
         r: usize,
-        g: Goal,
-    ) -> Out
+        g: Target,
+    ) -> Written
         requires room { Room work.old self.now.sides.space × Ready self.now.sides.space g }
         requires of_pair { is_list_question self.now.rules.question ≡ false }
         requires tabled { Tabled self.now.sides.space self.now.sides.sheet.now work.old table.old }
@@ -161,8 +161,8 @@ impl Merger<'_> {
         known: &Known,
         l: usize,
         r: usize,
-        g: Goal,
-    ) -> Out
+        g: Target,
+    ) -> Written
         requires room { Room work.old self.now.sides.space × Ready self.now.sides.space g }
         requires tabled { Tabled self.now.sides.space self.now.sides.sheet.now work.old table.old }
         ensures merges_known { MergesKnown known.now.differs (is_list_question self.now.rules.question) (nested_of self.now.rules (coercion self.now.rules)) self.now.sides.space (known.now.left + 1) self.now.sides.swap self.now.sides.sheet.now work.old work.new l r g result }

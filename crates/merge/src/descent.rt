@@ -10,7 +10,7 @@ ghost use Rattle.merge.specs.Descent.{passes, run_gives_way, Descended, Stops, N
 
 use crate::Merger;
 use buffers::lay::lay_plain;
-use buffers::{Goal, Out, Space, Spot};
+use buffers::{Place, Space, Target, Written};
 use coercion::Figures;
 use sheet::kind;
 use sheet::record::head_at;
@@ -105,19 +105,19 @@ impl<'a> Merger<'a> {
     }
 
     // Utf8View under the name and nullability of a record.
-    fn named_view(&self, work: &mut [u8], link: usize, to: Spot) -> Out
+    fn named_view(&self, work: &mut [u8], link: usize, to: Place) -> Written
         requires { Room work.old self.now.sides.space × Inside self.now.sides.space to }
         ensures { NamedView self.now.sides.space (side self.now.sides.swap self.now.sides.sheet.now work.old) work.old work.new link to result }
     {
         let h = self.sides.head(&*work, link);
-        let g = self.sides.name_goal(work, h, h.nullable(), to)?;
+        let g = self.sides.name_target(work, h, h.nullable(), to)?;
         lay_plain(work, self.sides.space, g, Figures::of_kind(kind::UTF8_VIEW))
     }
 
     // The parts of a wrapper, the first of which is record r, with Utf8View in the place of record
     // i.
     #[inline(never)]
-    fn place_view(&self, work: &mut [u8], r: usize, i: usize, to: Spot) -> Out
+    fn place_view(&self, work: &mut [u8], r: usize, i: usize, to: Place) -> Written
         requires { Room work.old self.now.sides.space × Inside self.now.sides.space to }
         ensures { PlacedView self.now.sides.space (side self.now.sides.swap self.now.sides.sheet.now work.old) work.old work.new r i to result }
     {
@@ -127,15 +127,15 @@ impl<'a> Merger<'a> {
 
     /// A wrapper that was written at `g`, its parts from `a` up to `e`, about a core at record `i`.
     /// Dictionaries directly about Utf8View give way to it.
-    pub(crate) fn settle(
+    pub(crate) fn drop_redundant_dictionaries(
         &self,
         work: &mut [u8],
         descent: Descent,
-        a: Spot,
-        g: Goal,
+        a: Place,
+        g: Target,
         i: usize,
-        e: Spot,
-    ) -> Out
+        e: Place,
+    ) -> Written
         requires { Room work.old self.now.sides.space × (Inside self.now.sides.space a × Ready self.now.sides.space g) }
         ensures { Settled self.now.sides.space (side self.now.sides.swap self.now.sides.sheet.now work.old) work.old work.new descent a g i e result }
     {

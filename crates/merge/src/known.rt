@@ -15,7 +15,7 @@ pub struct Known {
     /// The record of the left at which they first differ, 0 where they are the same, if that is
     /// known. Names count in a list.
     pub differs: Option<usize>,
-    /// What is known of their wrappers, as `wrappers::walk::Turn` has it; 0 for nothing.
+    /// What is known of their wrappers, as `wrappers::walk::Choice` has it; 0 for nothing.
     pub hint: u8,
 }
 

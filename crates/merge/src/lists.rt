@@ -3,8 +3,8 @@
 ghost use Rattle.std.specs.Prelude.{◌+◌, ◌<◌};
 ghost use Rattle.coercion.specs.Answers.{coercion};
 ghost use Rattle.buffers.specs.Region.{Room, Ready};
-ghost use Rattle.buffers.specs.Goal.{shape_for};
-ghost use Rattle.turns.specs.Turns.{list_rule};
+ghost use Rattle.buffers.specs.Target.{shape_for};
+ghost use Rattle.rule_order.specs.Order.{list_rule};
 ghost use Rattle.merge.specs.Merge.{Tabled, MergesKnown, Under};
 ghost use Rattle.coercion.specs.Data.{is_list_question};
 
@@ -13,7 +13,7 @@ use crate::known::Known;
 use buffers::field::first_link;
 use buffers::lay::lay;
 use buffers::lists::{list_kind, list_size};
-use buffers::{Failure, Goal, Out, Shape, Spot};
+use buffers::{Failure, Place, Shape, Target, Written};
 use coercion::Figures;
 use partners::{Chains, Feed};
 
@@ -27,8 +27,8 @@ impl Merger<'_> {
         known: &Known,
         l: usize,
         r: usize,
-        g: Goal,
-    ) -> Out
+        g: Target,
+    ) -> Written
         requires room { Room work.old self.now.sides.space × Ready self.now.sides.space g }
         requires tabled { Tabled self.now.sides.space self.now.sides.sheet.now work.old table.old }
         ensures merges_known { MergesKnown known.now.differs (is_list_question self.now.rules.question) (list_rule (coercion self.now.rules)) self.now.sides.space (known.now.left + 1) self.now.sides.swap self.now.sides.sheet.now work.old work.new l r g result }
@@ -54,20 +54,20 @@ impl Merger<'_> {
         feed: Feed,
         shape: Shape,
         chains: &Chains,
-        g: Goal,
-    ) -> Out
+        g: Target,
+    ) -> Written
         requires room { (Room work.old self.now.sides.space × Ready self.now.sides.space g) × (shape.size < 4294967296) }
         requires tabled { Tabled self.now.sides.space self.now.sides.sheet.now work.old table.old }
         ensures under { Under known.now.differs (is_list_question self.now.rules.question) (coercion self.now.rules) self.now.sides.space known.now.left self.now.sides.swap self.now.sides.sheet.now work.old work.new feed (shape_for shape.kind shape.figure shape.scale shape.size shape.sorted) chains.now.l chains.now.r chains.now.p g result }
         ensures stays_tabled { Tabled self.now.sides.space self.now.sides.sheet.now work.new table.new }
     {
         let at = g.at;
-        let label = g.label + g.nlen;
+        let label = g.label + g.name_len;
         if self.sides.space.n <= at {
             return Err(Failure::Full);
         }
         lay(work, self.sides.space, g, shape, first_link(at, chains.l));
-        let to = Spot { at: at + 1, label };
+        let to = Place { at: at + 1, label };
         self.rows(work, table, known, feed, chains, to)
     }
 }

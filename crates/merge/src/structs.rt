@@ -6,7 +6,7 @@ ghost use Rattle.coercion.specs.Nested.{struct_coercion};
 ghost use Rattle.sheet.specs.Head.{head_at, sorted_in};
 ghost use Rattle.buffers.specs.Writes.{side};
 ghost use Rattle.buffers.specs.Region.{Room, Inside, Ready};
-ghost use Rattle.turns.specs.Turns.{map_rule};
+ghost use Rattle.rule_order.specs.Order.{map_rule};
 ghost use Rattle.partners.specs.Naming.{StructsFed};
 ghost use Rattle.merge.specs.Known.{known_names};
 ghost use Rattle.merge.specs.Merge.{Tabled, MergesKnown, MergesField, Rowed};
@@ -16,7 +16,7 @@ use crate::Merger;
 use crate::known::{Known, row_known};
 use buffers::field::{next_link, row_end};
 use buffers::lay::{lay, tie};
-use buffers::{Failure, Goal, Out, Shape, Spot};
+use buffers::{Failure, Place, Shape, Target, Written};
 use coercion::Figures;
 use partners::names::{same_arity, struct_feed};
 use partners::rows::row;
@@ -61,8 +61,8 @@ impl Merger<'_> {
         known: &Known,
         l: usize,
         r: usize,
-        g: Goal,
-    ) -> Out
+        g: Target,
+    ) -> Written
         requires room { Room work.old self.now.sides.space × Ready self.now.sides.space g }
         requires tabled { Tabled self.now.sides.space self.now.sides.sheet.now work.old table.old }
         ensures merges_known { MergesKnown known.now.differs (is_list_question self.now.rules.question) (struct_coercion (coercion self.now.rules)) self.now.sides.space (known.now.left + 1) self.now.sides.swap self.now.sides.sheet.now work.old work.new l r g result }
@@ -93,8 +93,8 @@ impl Merger<'_> {
         known: &Known,
         l: usize,
         r: usize,
-        g: Goal,
-    ) -> Out
+        g: Target,
+    ) -> Written
         requires room { Room work.old self.now.sides.space × Ready self.now.sides.space g }
         requires structs { ((head_at (side self.now.sides.swap self.now.sides.sheet.now work.old) l).kind ≡ 35) × ((head_at (side (not self.now.sides.swap) self.now.sides.sheet.now work.old) r).kind ≡ 35) }
         requires tabled { Tabled self.now.sides.space self.now.sides.sheet.now work.old table.old }
@@ -123,15 +123,15 @@ impl Merger<'_> {
         known: &Known,
         l: usize,
         r: usize,
-        g: Goal,
-    ) -> Out
+        g: Target,
+    ) -> Written
         requires room { Room work.old self.now.sides.space × Ready self.now.sides.space g }
         requires tabled { Tabled self.now.sides.space self.now.sides.sheet.now work.old table.old }
         ensures merges_known { MergesKnown known.now.differs (is_list_question self.now.rules.question) (map_rule (coercion self.now.rules)) self.now.sides.space (known.now.left + 1) self.now.sides.swap self.now.sides.sheet.now work.old work.new l r g result }
         ensures stays_tabled { Tabled self.now.sides.space self.now.sides.sheet.now work.new table.new }
     {
         let at = g.at;
-        let label = g.label + g.nlen;
+        let label = g.label + g.name_len;
         if self.sides.space.n <= at {
             return Err(Failure::Full);
         }
@@ -145,7 +145,7 @@ impl Merger<'_> {
             ..Shape::from(Figures::of_kind(kind::MAP))
         };
         lay(work, self.sides.space, g, shape, at + 1);
-        self.entry(work, table, known, a, b, Spot { at: at + 1, label })
+        self.entry(work, table, known, a, b, Place { at: at + 1, label })
     }
 
     // The entries of two maps under the left's name and nullability.
@@ -157,8 +157,8 @@ impl Merger<'_> {
         known: &Known,
         l: usize,
         r: usize,
-        to: Spot,
-    ) -> Out
+        to: Place,
+    ) -> Written
         requires room { Room work.old self.now.sides.space × Inside self.now.sides.space to }
         requires tabled { Tabled self.now.sides.space self.now.sides.sheet.now work.old table.old }
         ensures merges_field { MergesField known.now.differs (is_list_question self.now.rules.question) (struct_coercion (coercion self.now.rules)) self.now.sides.space (known.now.left + 1) self.now.sides.swap self.now.sides.sheet.now work.old work.new l r to result }
@@ -166,7 +166,7 @@ impl Merger<'_> {
     {
         let x = self.sides.head(&*work, l);
         let own = row_known(known.differs, l, x.next, r, r);
-        let g = self.sides.name_goal(work, x, x.nullable(), to)?;
+        let g = self.sides.name_target(work, x, x.nullable(), to)?;
         let known = Known {
             differs: own,
             ..*known
@@ -184,8 +184,8 @@ impl Merger<'_> {
         known: &Known,
         feed: Feed,
         chains: &Chains,
-        to: Spot,
-    ) -> Out
+        to: Place,
+    ) -> Written
         requires room { Room work.old self.now.sides.space × Inside self.now.sides.space to }
         requires tabled { Tabled self.now.sides.space self.now.sides.sheet.now work.old table.old }
         ensures rowed { Rowed known.now.differs (is_list_question self.now.rules.question) (coercion self.now.rules) self.now.sides.space known.now.left self.now.sides.swap self.now.sides.sheet.now work.old work.new feed chains.now.l chains.now.r chains.now.p to result }
@@ -206,7 +206,7 @@ impl Merger<'_> {
         if partner == 0 {
             return Err(Failure::NoType);
         }
-        let g = self.sides.name_goal(work, x, row.nullable, to)?;
+        let g = self.sides.name_target(work, x, row.nullable, to)?;
         let field = Known {
             differs: own,
             hint: 0,

@@ -6,7 +6,7 @@ ghost use Rattle.sheet.specs.Head.{head_at};
 ghost use Rattle.buffers.specs.Writes.{side};
 ghost use Rattle.buffers.specs.Region.{Room, Inside, Ready};
 ghost use Rattle.sheet.specs.Kind.{is_wrapper};
-ghost use Rattle.turns.specs.Turns.{wrapper_rule, either_wrapped, both_wrapped, rewrapped};
+ghost use Rattle.rule_order.specs.Order.{wrapper_rule, either_wrapped, both_wrapped, rewrapped};
 ghost use Rattle.buffers.specs.Typed.{Merges};
 ghost use Rattle.merge.specs.Merge.{Tabled, MergesKnown, MergesHinted, MergesField};
 ghost use Rattle.coercion.specs.Data.{is_list_question};
@@ -14,10 +14,10 @@ ghost use Rattle.coercion.specs.Data.{is_list_question};
 use crate::Merger;
 use crate::descent::passes;
 use crate::known::{Known, row_known};
-use buffers::{Failure, Goal, Out, Spot};
+use buffers::{Failure, Place, Target, Written};
 use partners::{Chains, Feed};
 use sheet::kind;
-use wrappers::walk::way;
+use wrappers::walk::chosen_wrapper;
 
 impl Merger<'_> {
     /// Two types of a list, of which one at least is a wrapper of a kind.
@@ -30,8 +30,8 @@ impl Merger<'_> {
         kind: u8,
         l: usize,
         r: usize,
-        g: Goal,
-    ) -> Out
+        g: Target,
+    ) -> Written
         requires room { Room work.old self.now.sides.space × Ready self.now.sides.space g }
         requires of_list { is_list_question self.now.rules.question ≡ true }
         requires wrapper { is_wrapper kind ≡ true }
@@ -63,8 +63,8 @@ impl Merger<'_> {
         known: &Known,
         l: usize,
         r: usize,
-        g: Goal,
-    ) -> Out
+        g: Target,
+    ) -> Written
         requires room { Room work.old self.now.sides.space × Ready self.now.sides.space g }
         requires tabled { Tabled self.now.sides.space self.now.sides.sheet.now work.old table.old }
         ensures merges_known { MergesKnown known.now.differs (is_list_question self.now.rules.question) (both_wrapped (coercion self.now.rules)) self.now.sides.space (known.now.left + 1) self.now.sides.swap self.now.sides.sheet.now work.old work.new l r g result }
@@ -92,8 +92,8 @@ impl Merger<'_> {
         kind: u8,
         l: usize,
         r: usize,
-        g: Goal,
-    ) -> Out
+        g: Target,
+    ) -> Written
         requires room { Room work.old self.now.sides.space × Ready self.now.sides.space g }
         requires of_list { is_list_question self.now.rules.question ≡ true }
         requires wrapper { (is_wrapper kind ≡ true) × ((head_at (side self.now.sides.swap self.now.sides.sheet.now work.old) l).kind ≡ kind) }
@@ -110,7 +110,7 @@ impl Merger<'_> {
         let a = self.sides.copy_parent(work, x, l, g)?;
         let b = self.sides.copy_span(work, descent.first, core, a)?;
         let e = self.coerce_field(work, table, left, core, r, b)?;
-        self.settle(work, descent, a, g, b.at, e)
+        self.drop_redundant_dictionaries(work, descent, a, g, b.at, e)
     }
 
     // The value of a wrapper, coerced with a type of the other side under its own name and
@@ -123,8 +123,8 @@ impl Merger<'_> {
         left: usize,
         l: usize,
         r: usize,
-        to: Spot,
-    ) -> Out
+        to: Place,
+    ) -> Written
         requires room { Room work.old self.now.sides.space × Inside self.now.sides.space to }
         requires of_list { is_list_question self.now.rules.question ≡ true }
         requires tabled { Tabled self.now.sides.space self.now.sides.sheet.now work.old table.old }
@@ -132,7 +132,7 @@ impl Merger<'_> {
         ensures stays_tabled { Tabled self.now.sides.space self.now.sides.sheet.now work.new table.new }
     {
         let x = self.sides.head(&*work, l);
-        let g = self.sides.name_goal(work, x, x.nullable(), to)?;
+        let g = self.sides.name_target(work, x, x.nullable(), to)?;
         self.coerce_value(work, table, left, l, r, g)
     }
 
@@ -146,8 +146,8 @@ impl Merger<'_> {
         left: usize,
         l: usize,
         r: usize,
-        g: Goal,
-    ) -> Out
+        g: Target,
+    ) -> Written
         requires room { Room work.old self.now.sides.space × Ready self.now.sides.space g }
         requires of_list { is_list_question self.now.rules.question ≡ true }
         requires tabled { Tabled self.now.sides.space self.now.sides.sheet.now work.old table.old }
@@ -182,15 +182,15 @@ impl Merger<'_> {
         known: &Known,
         l: usize,
         r: usize,
-        g: Goal,
-    ) -> Out
+        g: Target,
+    ) -> Written
         requires room { Room work.old self.now.sides.space × Ready self.now.sides.space g }
         requires tabled { Tabled self.now.sides.space self.now.sides.sheet.now work.old table.old }
         ensures merges_hinted { MergesHinted known.now.hint self.now.rules.mask known.now.differs (is_list_question self.now.rules.question) (wrapper_rule self.now.rules (coercion self.now.rules)) self.now.sides.space (known.now.left + 1) self.now.sides.swap self.now.sides.sheet.now work.old work.new l r g result }
         ensures stays_tabled { Tabled self.now.sides.space self.now.sides.sheet.now work.new table.new }
     {
         let (left, hint) = (known.left, known.hint);
-        let Some(t) = way(&self.sides, &*work, self.rules.mask, left, hint, l, r) else {
+        let Some(t) = chosen_wrapper(&self.sides, &*work, self.rules.mask, left, hint, l, r) else {
             return Err(Failure::NoType);
         };
         let kind = t.kind;

@@ -13,7 +13,7 @@ use Rattle.sheet.specs.Head.{head_at}
 use Rattle.sheet.specs.declared.Head.{Head}
 use Rattle.coercion.specs.Nested.{by_name}
 use Rattle.buffers.specs.Writes.{side}
-use Rattle.buffers.specs.Goal.{type_of}
+use Rattle.buffers.specs.Target.{type_of}
 use Rattle.buffers.specs.Differ.{RowsKnown}
 use Rattle.partners.specs.Feeds.{EndOf, Feeds, Fed, RowIs}
 use Rattle.buffers.specs.Typed.{Chain}

@@ -11,7 +11,7 @@ use Rattle.sheet.specs.Head.{head_at}
 use Rattle.sheet.specs.Encode.{link_to}
 use Rattle.sheet.specs.Names.{same_bytes}
 use Rattle.sheet.specs.declared.Head.{Head}
-use Rattle.sheet.proofs.Tests.{never}
+use Rattle.sheet.proofs.Booleans.{never}
 use Rattle.buffers.specs.Differ.{fields_differ, RowsKnown, known_past}
 use Rattle.buffers.specs.Typed.{Chain}
 use Rattle.buffers.specs.declared.Space.{Space}

@@ -18,7 +18,7 @@ use Rattle.sheet.specs.Names.{same_bytes, has_name, repeats, names_differ}
 use Rattle.sheet.specs.Bounds.{Bounded}
 use Rattle.sheet.specs.declared.Head.{Head}
 use Rattle.sheet.proofs.Bytewise.{same_self, same_equal}
-use Rattle.sheet.proofs.Tests.{never, and_fst, and_snd, or_fst, or_snd}
+use Rattle.sheet.proofs.Booleans.{never, and_fst, and_snd, or_fst, or_snd}
 use Rattle.coercion.specs.Data.{and_then}
 use Rattle.coercion.specs.Nested.{with_name, by_name, fields_have_same_names}
 use Rattle.coercion.proofs.Maybe.{if_some}
@@ -35,10 +35,10 @@ use Rattle.buffers.proofs.Chained.{held_next}
 use Rattle.partners.proofs.Noting.{Pairs, picks_end, noted_long, notes_trans, noted_says}
 
 -- a name has at most 255 bytes
-pub label_short : (s : List ℕ) (n : ℕ) {h : Head} {u : List ℕ} → Bounded h → u ≡ label_at s n h.name h.nlen → length u ≤ 255
+pub label_short : (s : List ℕ) (n : ℕ) {h : Head} {u : List ℕ} → Bounded h → u ≡ label_at s n h.name h.name_len → length u ≤ 255
 label_short s n {h} b e =
-    let k = ap length e ∙ length-take h.nlen (drop (16 * n + h.name) s) in
-    omega (arith, b.nlen, k)
+    let k = ap length e ∙ length-take h.name_len (drop (16 * n + h.name) s) in
+    omega (arith, b.name_len, k)
 
 pub some_not_none {ℓ} : {A : Type 0} {B : Type ℓ} {o : Option A} {a : A} → o ≡ None → o ≡ Some a → B
 some_not_none {a = a} e f = absurd (none-some a (sym e ∙ f))
@@ -168,14 +168,14 @@ module _ (name : List ℕ) (nullable : Bool) (shape : Shape) (parts rest : Field
 
 -- the name of a record, in a buffer of n records
 module _ (n : ℕ) (s want : List ℕ) (link : ℕ) (h : Head) (e : h ≡ head_at s link) where
-  pub name_is : {b : Bool} → b ≡ same_bytes want (label_at s n h.name h.nlen) → (space : Space) → n ≡ space.n
+  pub name_is : {b : Bool} → b ≡ same_bytes want (label_at s n h.name h.name_len) → (space : Space) → n ≡ space.n
       → {floor r o up : ℕ} {label : List ℕ} {nullable : Bool} {shape : Shape} {parts rest : Fields}
       → Source s space.n floor link r o up (field label nullable shape parts rest) → same_bytes want label ≡ b
   name_is b space en a =
-      sym (b ∙ ap (λ (k : ℕ). same_bytes want (label_at s k h.name h.nlen)) en ∙ ap (same_bytes want) (read_name a h e))
+      sym (b ∙ ap (λ (k : ℕ). same_bytes want (label_at s k h.name h.name_len)) en ∙ ap (same_bytes want) (read_name a h e))
 
   -- a record that has the name, at an end of a chain
-  pub picks_here : 0 < link → true ≡ same_bytes want (label_at s n h.name h.nlen) → (space : Space) → n ≡ space.n
+  pub picks_here : 0 < link → true ≡ same_bytes want (label_at s n h.name h.name_len) → (space : Space) → n ≡ space.n
       → {label : List ℕ} {nullable : Bool} {shape : Shape} {parts rest : Fields} (t : Fields) → Chain space s link (field label nullable shape parts rest)
       → EndOf (field label nullable shape parts rest) t → Picks space s want t link
   picks_here past b space en {label} {nullable} {shape} {parts} {rest} t c k =
@@ -205,7 +205,7 @@ module _ (n : ℕ) (s : List ℕ) (want : List ℕ) (start floor link : ℕ) (q 
     finds_past h = q 0 (λ space en r o up t a. absurd (held_past t past (omega arith) a))
 
     module _ (h : Head) (e : h ≡ head_at s link) where
-      pub finds_here : true ≡ same_bytes want (label_at s n h.name h.nlen) → Finds n s want start link
+      pub finds_here : true ≡ same_bytes want (label_at s n h.name h.name_len) → Finds n s want start link
       finds_here b = q link go
         where
           go : (space : Space) → n ≡ space.n → Seeks space s want floor link link
@@ -214,7 +214,7 @@ module _ (n : ℕ) (s : List ℕ) (want : List ℕ) (start floor link : ℕ) (q 
               picks_here n s want link h e (omega arith) b space en (field label nullable shape parts rest)
               (record { floor = floor; at = r; label = o; up = up; held = a }) (inl refl)
 
-      pub finds_on : false ≡ same_bytes want (label_at s n h.name h.nlen) → Searched n s want start link h.next
+      pub finds_on : false ≡ same_bytes want (label_at s n h.name h.name_len) → Searched n s want start link h.next
       unfolding has_name
       finds_on b found f = q found go
         where
@@ -259,7 +259,7 @@ module _ (n : ℕ) (s : List ℕ) (link : ℕ) where
             }
 
     -- one that has the name
-    pub within_here : (want : List ℕ) → true ≡ same_bytes want (label_at s n h.name h.nlen) → Finds n s want link j
+    pub within_here : (want : List ℕ) → true ≡ same_bytes want (label_at s n h.name h.name_len) → Finds n s want link j
     within_here want b space t en c = go (w space t en c past).fields (w space t en c past).chain (w space t en c past).ends
       where
         go : (u : Fields) → Chain space s j u → EndOf u t → Picks space s want t j
@@ -267,10 +267,10 @@ module _ (n : ℕ) (s : List ℕ) (link : ℕ) where
         go (field label nullable shape parts rest) d k = picks_here n s want j h e past b space en t d k
 
 -- the name of record i of s, and what was found of it, in buffers of n records
-module _ (n : ℕ) (s : List ℕ) (i : ℕ) (g : Head) (e : g ≡ head_at s i) (want : List ℕ) (ew : want ≡ label_at s n g.name g.nlen) where
+module _ (n : ℕ) (s : List ℕ) (i : ℕ) (g : Head) (e : g ≡ head_at s i) (want : List ℕ) (ew : want ≡ label_at s n g.name g.name_len) where
   pub want_is : (space : Space) {floor a o up : ℕ} {name : List ℕ} {nullable : Bool} {shape : Shape} {parts rest : Fields} → n ≡ space.n
       → Held space s floor i a o up (field name nullable shape parts rest) → want ≡ name
-  want_is space en x = ew ∙ ap (λ (m : ℕ). label_at s m g.name g.nlen) en ∙ read_name x.source g e
+  want_is space en x = ew ∙ ap (λ (m : ℕ). label_at s m g.name g.name_len) en ∙ read_name x.source g e
 
   pub pairs_found : (t : List ℕ) (r found : ℕ) → Finds n t want r found → (space : Space) → n ≡ space.n → Pairs space s t i r found
   pairs_found t r found f space en name nullable shape parts rest rf x y =
@@ -307,7 +307,7 @@ module _ (n : ℕ) (s t : List ℕ) (floor l r key : ℕ) (old : List ℕ) (low 
     pub match_past : n ≤ i → Matched n s t floor l r key old table false
     match_past h = matched false (λ space en. asks_past fields_have_same_names space s t low i r false past (omega arith))
 
-    module _ (g : Head) (e : g ≡ head_at s i) (want : List ℕ) (ew : want ≡ label_at s n g.name g.nlen) (found : ℕ) (f : Finds n t want r found) where
+    module _ (g : Head) (e : g ≡ head_at s i) (want : List ℕ) (ew : want ≡ label_at s n g.name g.name_len) (found : ℕ) (f : Finds n t want r found) where
       pub match_lack : found ≡ 0 → Matched n s t floor l r key old table false
       unfolding fields_have_same_names
       match_lack z = matched false go

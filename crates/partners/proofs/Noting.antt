@@ -14,7 +14,7 @@ use Rattle.sheet.specs.Read.{label_at}
 use Rattle.sheet.specs.declared.Head.{Head}
 use Rattle.sheet.specs.Types.{Shape, Fields, end, field}
 use Rattle.sheet.proofs.Bytewise.{same_equal}
-use Rattle.sheet.proofs.Tests.{and_fst, and_snd}
+use Rattle.sheet.proofs.Booleans.{and_fst, and_snd}
 use Rattle.buffers.specs.Writes.{side}
 use Rattle.buffers.specs.Typed.{Chain}
 use Rattle.buffers.specs.Differ.{known_past}
@@ -147,7 +147,7 @@ module _ (space : Space) (swap : Bool) (s w table : List ℕ) (x : Head) (l r : 
       go false q z = absurd (omega arith)
       go true q z = found (ltb-true l 1024 (and_fst _ (ltb r 1024) q)) (ltb-true r 1024 (and_snd (ltb l 1024) _ q)) (eqb (e / 1024) (1024 * k + r)) refl z
 
-  pub pairs_searched : {j : ℕ} → x ≡ head_at (side swap s w) l → Finds space.n (side (not swap) s w) (label_at (side swap s w) space.n x.name x.nlen) r j
+  pub pairs_searched : {j : ℕ} → x ≡ head_at (side swap s w) l → Finds space.n (side (not swap) s w) (label_at (side swap s w) space.n x.name x.name_len) r j
       → Pairs space (side swap s w) (side (not swap) s w) l r j
   pairs_searched {j} ex f name nullable shape parts rest rf a b =
       subst (λ (u : List ℕ). Picks space (side (not swap) s w) u rf j) (chain_name a x ex) (f space rf refl b)

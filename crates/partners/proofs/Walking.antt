@@ -15,7 +15,7 @@ use Rattle.sheet.specs.Read.{label_at}
 use Rattle.sheet.specs.Names.{same_bytes, has_name}
 use Rattle.sheet.specs.declared.Head.{Head}
 use Rattle.sheet.proofs.Bytewise.{same_equal}
-use Rattle.sheet.proofs.Tests.{and_fst, and_snd}
+use Rattle.sheet.proofs.Booleans.{and_fst, and_snd}
 use Rattle.coercion.specs.Nested.{fields_have_same_names}
 use Rattle.buffers.specs.Differ.{RowsKnown, known_past}
 use Rattle.buffers.specs.Region.{Held}
@@ -106,8 +106,8 @@ module _ (n : ℕ) (s t : List ℕ) (known : Option ℕ) (by_name : Feed) (floor
               step feed f space e a o up name nullable shape parts rest name' nullable' shape' parts' rest' rf x p k y d
               (known_name known name nullable shape parts rest (omega arith) z name' nullable' shape' parts' rest' d)
 
-    module _ (g h : Head) (eg : g ≡ head_at s i) (eh : h ≡ head_at t j) (want : List ℕ) (ew : want ≡ label_at s n g.name g.nlen) {named : Bool}
-        (en : named ≡ (ltb 0 j && (ltb j n && same_bytes want (label_at t n h.name h.nlen)))) where
+    module _ (g h : Head) (eg : g ≡ head_at s i) (eh : h ≡ head_at t j) (want : List ℕ) (ew : want ≡ label_at s n g.name g.name_len) {named : Bool}
+        (en : named ≡ (ltb 0 j && (ltb j n && same_bytes want (label_at t n h.name h.name_len)))) where
       -- the name of a field at the place of another
       names_are : (space : Space) → n ≡ space.n → {a o up : ℕ} {name : List ℕ} {nullable : Bool} {shape : Shape} {parts rest : Fields} (name' : List ℕ) {nullable' : Bool} {shape' : Shape} {parts' rest' : Fields}
           → Held space s low i a o up (field name nullable shape parts rest) → Chain space t j (field name' nullable' shape' parts' rest') → same_bytes name name' ≡ named

@@ -18,7 +18,7 @@ use Rattle.partners.specs.declared.Feed.{Feed}
 
 -- the name of record j
 abbrev pub name_of : List ℕ → ℕ → ℕ → List ℕ
-name_of s n j = label_at s n (head_at s j).name (head_at s j).nlen
+name_of s n j = label_at s n (head_at s j).name (head_at s j).name_len
 
 -- what a search for a name in a chain says: the link of a field of that name, or 0
 pub record Picks (space : Space) (s : List ℕ) (name : List ℕ) (t : Fields) (found : ℕ) : Type 0 where

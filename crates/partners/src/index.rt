@@ -49,7 +49,7 @@ impl Index {
                 return;
             }
             let h = head_at(t, j);
-            let k = row_at(label_at(t, n, h.name, h.nlen));
+            let k = row_at(label_at(t, n, h.name, h.name_len));
             let old = self.heads[k];
             self.olds[j] = old;
             self.heads[k] = j as u16;

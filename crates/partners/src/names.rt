@@ -41,7 +41,7 @@ fn are_listed(
             return false;
         }
         let g = head_at(s, i);
-        let Some(j) = index.look_up(t, n, label_at(s, n, g.name, g.nlen), r) else {
+        let Some(j) = index.look_up(t, n, label_at(s, n, g.name, g.name_len), r) else {
             return are_found_in_order(from, low, i, r, key, table);
         };
         if j == 0 {
@@ -93,7 +93,7 @@ fn are_searched(
             return are_indexed(from, low, i, r, key, table);
         }
         let g = head_at(s, i);
-        let j = find(t, n, label_at(s, n, g.name, g.nlen), r);
+        let j = find(t, n, label_at(s, n, g.name, g.name_len), r);
         if j == 0 {
             return false;
         }
@@ -132,7 +132,7 @@ fn feed_along(
         let g = head_at(s, i);
         let h = head_at(t, j);
         if !are_known(known, i, j) {
-            if !is_field_named(t, n, j, h, label_at(s, n, g.name, g.nlen)) {
+            if !is_field_named(t, n, j, h, label_at(s, n, g.name, g.name_len)) {
                 return are_searched(from, low, i, r, key, table).then_some(by_name);
             }
             note(table, key + i, r, j);

@@ -16,7 +16,7 @@ fn name_of(t: &[u8], n: usize, j: u16) -> &[u8]
     ensures { result.now ≡ name_of t.now n j }
 {
     let h = head_at(t, usize::from(j));
-    label_at(t, n, h.name, h.nlen)
+    label_at(t, n, h.name, h.name_len)
 }
 
 // Lists the records of the chain at a link, and says how many they are. Each is past the one before
@@ -74,7 +74,7 @@ fn are_among(
             return false;
         }
         let g = head_at(s, i);
-        let j = look_up(t, n, label_at(s, n, g.name, g.nlen), r, recs);
+        let j = look_up(t, n, label_at(s, n, g.name, g.name_len), r, recs);
         if j == 0 {
             return false;
         }

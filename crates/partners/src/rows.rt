@@ -42,11 +42,11 @@ impl Rows<'_> {
     // chain at r; 0 where there is none.
     fn searched(&self, x: Head, r: usize) -> usize
         requires { Bounded x }
-        ensures { Finds self.now.sides.space.n (side (not self.now.sides.swap) self.now.sides.sheet.now self.now.work.now) (label_at (side self.now.sides.swap self.now.sides.sheet.now self.now.work.now) self.now.sides.space.n x.name x.nlen) r result }
+        ensures { Finds self.now.sides.space.n (side (not self.now.sides.swap) self.now.sides.sheet.now self.now.work.now) (label_at (side self.now.sides.swap self.now.sides.sheet.now self.now.work.now) self.now.sides.space.n x.name x.name_len) r result }
     {
         let n = self.sides.space.n;
         let (s, t) = self.sides.slices(self.work);
-        find(t, n, label_at(s, n, x.name, x.nlen), r)
+        find(t, n, label_at(s, n, x.name, x.name_len), r)
     }
 
     // The same of record l, where p is the record at its place. Where it is known or the table says

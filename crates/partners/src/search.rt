@@ -14,15 +14,15 @@ use sheet::record::head_at;
 /// Whether a record, whose head is `h`, has a name.
 pub(crate) fn is_named(t: &[u8], n: usize, h: Head, want: &[u8]) -> bool
     requires { ((n < 65536) × Bounded h) × (length want.now ≤ 255) }
-    ensures { result ≡ same_bytes want.now (label_at t.now n h.name h.nlen) }
+    ensures { result ≡ same_bytes want.now (label_at t.now n h.name h.name_len) }
 {
-    same_label(want, 0, want.len(), t, 16 * n + h.name, h.nlen)
+    same_label(want, 0, want.len(), t, 16 * n + h.name, h.name_len)
 }
 
 /// Whether a link leads to a record, whose head is `h`, that has a name.
 pub(crate) fn is_field_named(t: &[u8], n: usize, j: usize, h: Head, want: &[u8]) -> bool
     requires { ((n < 65536) × Bounded h) × (length want.now ≤ 255) }
-    ensures { result ≡ (ltb 0 j && (ltb j n && same_bytes want.now (label_at t.now n h.name h.nlen))) }
+    ensures { result ≡ (ltb 0 j && (ltb j n && same_bytes want.now (label_at t.now n h.name h.name_len))) }
 {
     0 < j && j < n && is_named(t, n, h, want)
 }

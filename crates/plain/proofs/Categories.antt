@@ -5,7 +5,7 @@ use Prim.Native.Nat.{ℕ, ◌<◌, ◌≤◌}
 use native.Mathlib.Omega.{arith}
 use lib.Dec.{eqb, leb}
 use borrow.Author.Tests.{eqb-true, le-leb}
-use Rattle.sheet.specs.Tests.{between}
+use Rattle.sheet.specs.Booleans.{between}
 use Rattle.sheet.specs.Kind.{is_numeric, is_string, is_date, is_time, is_span, is_list}
 use Rattle.coercion.specs.Answers.{array, boolean, numeric, dateTime, composite, unknown, notSupported, own_category}
 use Rattle.coercion.specs.Meaning.{category_bit, is_supported}

@@ -6,9 +6,9 @@ use Prim.Native.Nat.{ℕ, ◌-◌, ◌<◌, ◌≤◌, min, max}
 use native.Mathlib.Omega.{arith}
 use lib.Dec.{eqb, leb}
 use borrow.Author.Tests.{eqb-true, eq-eqb, le-leb, lt-leb, ne_eqb}
-use Rattle.sheet.specs.Tests.{between}
+use Rattle.sheet.specs.Booleans.{between}
 use Rattle.sheet.specs.Kind.{is_decimal, is_integer}
-use Rattle.sheet.proofs.Tests.{never, and_fst, and_snd}
+use Rattle.sheet.proofs.Booleans.{never, and_fst, and_snd}
 use Rattle.coercion.specs.Data.{or_else, of_kind}
 use Rattle.coercion.specs.Numbers.{decimal, decimal_coercion, integer_coercion, numerical_coercion, same_figures}
 use Rattle.coercion.specs.declared.Figures.{Figures}

@@ -5,7 +5,7 @@ pub mod NumberSides
 pub mod TwoStrings
 pub mod Ordering
 pub mod Steps
-pub mod Turns
+pub mod Picking
 pub mod Low
 pub mod Plain
 pub mod Valuing

@@ -6,7 +6,7 @@ use native.Mathlib.Omega.{arith}
 use lib.Dec.{eqb, leb}
 use Rattle.sheet.specs.declared.kind.TheConstants as Kind
 use Rattle.sheet.specs.Kind.{is_decimal, cap, is_numeric, is_integer, is_signed, is_string, is_date, is_time, is_span, one_is, with_kind}
-use Rattle.sheet.specs.Tests.{between}
+use Rattle.sheet.specs.Booleans.{between}
 use Rattle.coercion.specs.Data.{DataType, may_become, figures_of, as_type, and_then}
 use Rattle.coercion.specs.Numbers.{decimal, digits_of, fraction_of, takes, wider_precision, same_figures, get_wider_decimal_type, get_wider_decimal_type_cross_variant, coerce_numeric_type_to_decimal, get_common_decimal_type, decimal_coercion, float_coercion, integer_coercion, numerical_coercion, binary_numeric_coercion}
 use Rattle.coercion.specs.Times.{is_time_with_valid_unit, temporal_coercion, temporal_coercion_nonstrict_timezone}

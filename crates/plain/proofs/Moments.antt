@@ -9,8 +9,8 @@ use Prim.Native.Nat.{ℕ, ◌<◌, ◌≤◌}
 use native.Mathlib.Omega.{arith}
 use lib.Dec.{leb}
 use borrow.Author.Tests.{leb-true, lt-leb, ne_eqb}
-use Rattle.sheet.specs.Tests.{between}
-use Rattle.sheet.proofs.Tests.{and_fst}
+use Rattle.sheet.specs.Booleans.{between}
+use Rattle.sheet.proofs.Booleans.{and_fst}
 use Rattle.sheet.specs.Kind.{is_string}
 use Rattle.coercion.specs.Data.{DataType, or_else}
 use Rattle.coercion.specs.Rules.{time_of_string, string_temporal_coercion}

@@ -8,8 +8,8 @@ use Prim.Native.Nat.{ℕ, ◌≤◌}
 use native.Mathlib.Omega.{arith}
 use lib.Dec.{eqb, leb}
 use borrow.Author.Tests.{eqb-true, le-leb, ne_eqb}
-use Rattle.sheet.specs.Tests.{between}
-use Rattle.sheet.proofs.Tests.{never, and_fst, and_snd}
+use Rattle.sheet.specs.Booleans.{between}
+use Rattle.sheet.proofs.Booleans.{never, and_fst, and_snd}
 use Rattle.coercion.specs.Strings.{binary_coercion}
 use Rattle.coercion.specs.Times.{temporal_coercion}
 use Rattle.coercion.specs.Numbers.{same_figures}

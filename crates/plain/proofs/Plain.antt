@@ -6,7 +6,7 @@ use Prim.Native.Nat.{ℕ, ◌<◌, ◌≤◌}
 use native.Mathlib.Omega.{arith}
 use lib.Dec.{eqb}
 use borrow.Author.Tests.{ne_eqb, lt-leb}
-use Rattle.sheet.specs.Tests.{between}
+use Rattle.sheet.specs.Booleans.{between}
 use Rattle.sheet.specs.Kind.{is_list}
 use Rattle.sheet.specs.Types.{Fields, end, field, arity}
 use Rattle.coercion.specs.Data.{DataType, first_of, or_else, is_list_question}

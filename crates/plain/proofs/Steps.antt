@@ -9,9 +9,9 @@ use borrow.Author.Tests.{ne_eqb}
 use Rattle.sheet.specs.declared.kind.TheConstants as Kind
 use Rattle.sheet.specs.Kind.{is_kind, is_string, is_date, is_time}
 use Rattle.sheet.specs.Types.{Zone, absent, present}
-use Rattle.sheet.specs.Tests.{between}
+use Rattle.sheet.specs.Booleans.{between}
 use Rattle.sheet.specs.declared.Head.{Head}
-use Rattle.sheet.proofs.Tests.{never}
+use Rattle.sheet.proofs.Booleans.{never}
 use Rattle.coercion.specs.declared.Figures.{Figures}
 use Rattle.coercion.specs.Data.{DataType, as_type, is_list_question}
 use Rattle.coercion.specs.Times.{is_time_with_valid_unit, zone_coercion, temporal_coercion, temporal_coercion_nonstrict_timezone}

@@ -11,16 +11,16 @@ use Rattle.std.proofs.lemmas.Nat.{pow_below}
 use lib.Bits.{bit_or, or_shr, or_step}
 use lib.Dec.{eqb}
 use borrow.Author.Tests.{eq-eqb, ne_eqb, eqb-true}
-use Rattle.sheet.proofs.Tests.{and_fst, and_snd}
+use Rattle.sheet.proofs.Booleans.{and_fst, and_snd}
 use Rattle.coercion.specs.Data.{may_become}
 use Rattle.coercion.specs.Same.{same_type}
 use Rattle.coercion.specs.Answers.{coercion}
 use Rattle.coercion.proofs.Tables.{at2}
 use Rattle.coercion.specs.declared.Rules.{Rules}
-use Rattle.plain.specs.declared.value.Leaf.{Leaf}
-use Rattle.plain.specs.Value.{leaf_type, Joins}
+use Rattle.plain.specs.declared.value.PlainType.{PlainType}
+use Rattle.plain.specs.Value.{type_of_plain, Joins}
 use Rattle.plain.specs.Taken.{is_bare, taken_kinds}
-use Rattle.plain.proofs.Valuing.{same_leaf_type}
+use Rattle.plain.proofs.Valuing.{same_plain_types}
 
 -- one bit, moved up
 pub bit_moved : (k : ℕ) → k < 32 → 1 * 2 ^ k % 2 ^ 64 ≡ 2 ^ k
@@ -51,10 +51,10 @@ one_more kinds j k h g e = go (ℕ_discrete k j)
         rest : one_if (eqb j k) ≡ 0
         rest = ap one_if (ne_eqb j k (λ z. q (sym z)))
 
-abbrev bare_leaf : ℕ → Leaf
-bare_leaf k = record { kind = k; figure = 0; scale = 0; size = 0 }
+abbrev bare_type : ℕ → PlainType
+bare_type k = record { kind = k; figure = 0; scale = 0; size = 0 }
 
-pub bare_is : (x : Leaf) → is_bare x ≡ true → x ≡ bare_leaf x.kind
+pub bare_is : (x : PlainType) → is_bare x ≡ true → x ≡ bare_type x.kind
 bare_is x h =
     let a = eqb-true x.figure 0 (and_fst (eqb x.figure 0) (eqb x.scale 0 && eqb x.size 0) h) in
     let r = and_snd (eqb x.figure 0) (eqb x.scale 0 && eqb x.size 0) h in
@@ -62,9 +62,9 @@ bare_is x h =
     let c = eqb-true x.size 0 (and_snd (eqb x.scale 0) (eqb x.size 0) r) in
     λ i. record { kind = x.kind; figure = a i; scale = b i; size = c i }
 
-same_is : (x y : Leaf) → same_type true (leaf_type x) (leaf_type y) ≡ true → x ≡ y
+same_is : (x y : PlainType) → same_type true (type_of_plain x) (type_of_plain y) ≡ true → x ≡ y
 same_is x y h =
-    let t = same_leaf_type x y true ∙ h in
+    let t = same_plain_types x y true ∙ h in
     let r = and_snd (eqb x.kind y.kind) _ t in
     let q = and_snd (eqb x.figure y.figure) _ r in
     let a = eqb-true x.kind y.kind (and_fst _ _ t) in
@@ -74,28 +74,28 @@ same_is x y h =
     λ i. record { kind = a i; figure = b i; scale = c i; size = d i }
 
 -- the types of a set's kinds leave a candidate as it is
-abbrev pub Absorbs : Rules → ℕ → Leaf → Type 0
-Absorbs rules kinds c = (k : ℕ) → k < 32 → may_become kinds k ≡ true → Joins (coercion rules) (bare_leaf k) c (Some c)
+abbrev pub Absorbs : Rules → ℕ → PlainType → Type 0
+Absorbs rules kinds c = (k : ℕ) → k < 32 → may_become kinds k ≡ true → Joins (coercion rules) (bare_type k) c (Some c)
 
-pub absorbs_none : (rules : Rules) (c : Leaf) → Absorbs rules 0 c
+pub absorbs_none : (rules : Rules) (c : PlainType) → Absorbs rules 0 c
 absorbs_none rules c k h e = let z = eqb-true (0 / 2 ^ k % 2) 1 e in absurd (omega (arith, z, ap (λ (x : ℕ). x % 2) (zero-div (2 ^ k))))
 
-module _ (rules : Rules) (kinds : ℕ) (x last next : Leaf) (low : x.kind < 32) (a : Absorbs rules kinds last) (j : Joins (coercion rules) x last (Some next)) where
+module _ (rules : Rules) (kinds : ℕ) (x last next : PlainType) (low : x.kind < 32) (a : Absorbs rules kinds last) (j : Joins (coercion rules) x last (Some next)) where
   one_absorbed : last ≡ next → is_bare x ≡ true → Absorbs rules (bit_or kinds (2 ^ x.kind)) next
   one_absorbed e b k h m = ⊎_elim here there (one_more kinds x.kind k low h m)
     where
-      here : k ≡ x.kind → Joins (coercion rules) (bare_leaf k) next (Some next)
+      here : k ≡ x.kind → Joins (coercion rules) (bare_type k) next (Some next)
       here q =
-          subst (λ (c : Leaf). Joins (coercion rules) (bare_leaf k) c (Some next)) e
-          (subst (λ (z : Leaf). Joins (coercion rules) z last (Some next)) (bare_is x b ∙ ap bare_leaf (sym q)) j)
+          subst (λ (c : PlainType). Joins (coercion rules) (bare_type k) c (Some next)) e
+          (subst (λ (z : PlainType). Joins (coercion rules) z last (Some next)) (bare_is x b ∙ ap bare_type (sym q)) j)
 
-      there : may_become kinds k ≡ true → Joins (coercion rules) (bare_leaf k) next (Some next)
-      there q = subst (λ (c : Leaf). Joins (coercion rules) (bare_leaf k) c (Some c)) e (a k h q)
+      there : may_become kinds k ≡ true → Joins (coercion rules) (bare_type k) next (Some next)
+      there q = subst (λ (c : PlainType). Joins (coercion rules) (bare_type k) c (Some c)) e (a k h q)
 
   pub absorbs_next : {r : ℕ} → r ≡ taken_kinds kinds x last next → Absorbs rules r next
-  absorbs_next er = subst (λ (r : ℕ). Absorbs rules r next) (sym er) (go (same_type true (leaf_type last) (leaf_type next)) refl (is_bare x) refl)
+  absorbs_next er = subst (λ (r : ℕ). Absorbs rules r next) (sym er) (go (same_type true (type_of_plain last) (type_of_plain next)) refl (is_bare x) refl)
     where
-      go : (s : Bool) → same_type true (leaf_type last) (leaf_type next) ≡ s → (b : Bool) → is_bare x ≡ b → Absorbs rules (cond s (cond b (bit_or kinds (2 ^ x.kind)) kinds) 0) next
+      go : (s : Bool) → same_type true (type_of_plain last) (type_of_plain next) ≡ s → (b : Bool) → is_bare x ≡ b → Absorbs rules (cond s (cond b (bit_or kinds (2 ^ x.kind)) kinds) 0) next
       go true es true eb = one_absorbed (same_is last next es) eb
-      go true es false eb = subst (λ (c : Leaf). Absorbs rules kinds c) (same_is last next es) a
+      go true es false eb = subst (λ (c : PlainType). Absorbs rules kinds c) (same_is last next es) a
       go false es b eb = absorbs_none rules next

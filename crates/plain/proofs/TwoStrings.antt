@@ -6,8 +6,8 @@ use Prim.Native.Nat.{ℕ, max}
 use native.Mathlib.Omega.{arith}
 use lib.Dec.{eqb, leb}
 use borrow.Author.Tests.{eqb-true, le-leb}
-use Rattle.sheet.specs.Tests.{between}
-use Rattle.sheet.proofs.Tests.{never}
+use Rattle.sheet.specs.Booleans.{between}
+use Rattle.sheet.proofs.Booleans.{never}
 use Rattle.sheet.specs.Kind.{is_string}
 use Rattle.coercion.specs.Strings.{string_coercion}
 use Rattle.coercion.proofs.Ranked.{kind_from}

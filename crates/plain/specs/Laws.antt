@@ -1,7 +1,7 @@
 -- Laws of the rules for types without parts.
 use Rattle.std.specs.Prelude.{◌≡◌, ℕ, ◌<◌, Bool, true, cond, ◌&&◌, ◌||◌, get_or, eqb}
 use Rattle.std.specs.Prelude.{None, Some}
-use Rattle.sheet.specs.Tests.{between}
+use Rattle.sheet.specs.Booleans.{between}
 use Rattle.sheet.specs.declared.kind.TheConstants as Kind
 use Rattle.sheet.specs.Kind.{is_kind, is_numeric, is_string}
 use Rattle.coercion.specs.Data.{DataType, is_list_question}

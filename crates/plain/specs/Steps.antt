@@ -17,7 +17,7 @@ pub record Reads (h : Head) (t : DataType) : Type 0 where
   pub scale : t.shape.scale ≡ h.scale
   pub known : is_kind t.shape.kind ≡ true
   pub bare : eqb t.shape.kind Kind.TIMESTAMP ≡ false → t.shape.zone ≡ absent
-  pub size : t.shape.zone ≡ absent → t.shape.size ≡ h.quad
+  pub size : t.shape.zone ≡ absent → t.shape.size ≡ h.bytes_4_7
 
 -- what figures tell of their type
 pub record Figured (f : Figures) (t : DataType) : Type 0 where

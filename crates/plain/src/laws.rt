@@ -4,7 +4,7 @@ ghost use Rattle.plain.specs.Laws.{PickedRule, PlainAnswer};
 
 /// Of the rules for types without parts the one that two kinds pick has the answer of all of them,
 /// tried in turn.
-#[tactic(auto, using(crate::proofs::Turns::picked_answers))]
+#[tactic(auto, using(crate::proofs::Picking::picked_answers))]
 pub fn picked_rule()
     ensures { PickedRule }
 {}

@@ -5,11 +5,11 @@ ghost use Rattle.std.specs.Prelude.{◌≡◌, ◌<◌};
 ghost use Rattle.plain.specs.Taken.{is_bare, is_taken, taken_kinds};
 
 use crate::sides::may_become;
-use crate::value::Leaf;
+use crate::value::PlainType;
 use sheet::kind;
 
 // Whether a type is wholly its kind.
-fn is_bare(x: Leaf) -> bool
+fn is_bare(x: PlainType) -> bool
     ensures { result ≡ is_bare x }
 {
     x.figure == 0 && x.scale == 0 && x.size == 0
@@ -17,7 +17,7 @@ fn is_bare(x: Leaf) -> bool
 
 /// Whether a type is known to leave the candidate as it is: Null is skipped, and a type that is
 /// wholly its kind may be among `kinds`, bit k for kind k.
-pub fn is_taken(kinds: u64, x: Leaf) -> bool
+pub fn is_taken(kinds: u64, x: PlainType) -> bool
     requires { x.kind < 32 }
     ensures { result ≡ is_taken kinds x }
 {
@@ -26,7 +26,7 @@ pub fn is_taken(kinds: u64, x: Leaf) -> bool
 
 /// The kinds that are known to leave the next candidate as it is, after type `x` was joined with
 /// the candidate `last` to `next`.
-pub fn taken_kinds(kinds: u64, x: Leaf, last: Leaf, next: Leaf) -> u64
+pub fn taken_kinds(kinds: u64, x: PlainType, last: PlainType, next: PlainType) -> u64
     requires { x.kind < 32 }
     ensures { result ≡ taken_kinds kinds x last next }
 {

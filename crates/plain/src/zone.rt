@@ -4,7 +4,7 @@ ghost use Rattle.plain.specs.Zones.{side, choice};
 
 /// Where a zone stands in a slice. A present zone may be empty, and an absent one has an empty place.
 #[derive(Clone, Copy)]
-pub struct Place {
+pub struct ZonePlace {
     /// Whether the Timestamp has a zone; read of the left alone.
     pub present: bool,
     /// Where the zone begins.
@@ -19,8 +19,8 @@ pub fn zone_coercion<'a>(
     sheet: &'a [u8],
     candidate: &'a [u8],
     swap: bool,
-    l: Place,
-    r: Place,
+    l: ZonePlace,
+    r: ZonePlace,
 ) -> &'a [u8]
     requires left_in_bounds { (l.from ≤ l.upto) × (l.upto ≤ length (side swap sheet.now candidate.now)) }
     requires right_in_bounds { (r.from ≤ r.upto) × (r.upto ≤ length (side (not swap) sheet.now candidate.now)) }

@@ -83,7 +83,7 @@ impl Plain {
         let zone = if head.zoned() {
             number_of(label_at(sheet, 2, head.zone_at(), head.zone_len()))
         } else {
-            u8::try_from(head.quad).unwrap_or(255)
+            u8::try_from(head.bytes_4_7).unwrap_or(255)
         };
         Plain {
             kind: head.kind,

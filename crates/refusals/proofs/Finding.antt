@@ -11,7 +11,7 @@ use borrow.Author.Tests.{eq-eqb, ne_eqb}
 use Rattle.std.specs.Bool.{MatchBool}
 use Rattle.std.specs.List.{range_with_len, AllWithin, HoldsAt}
 use Rattle.std.proofs.lemmas.List.FromFn.{length-range_with_len, get_or-range_with_len}
-use Rattle.sheet.specs.Tests.{all_of}
+use Rattle.sheet.specs.Booleans.{all_of}
 use Rattle.sheet.specs.Types.{Shape, Fields, end, field, count}
 use Rattle.sheet.specs.Head.{head_at}
 use Rattle.sheet.specs.Names.{repeats, names_differ}
@@ -19,7 +19,7 @@ use Rattle.sheet.specs.Holds.{Holds, Leads}
 use Rattle.sheet.specs.declared.Head.{Head}
 use Rattle.refusals.specs.RepeatedNames.{StructRepeats}
 use Rattle.sheet.proofs.Heads.{head_inside}
-use Rattle.sheet.proofs.Tests.{all_not, all_cons, all_nil, not_of}
+use Rattle.sheet.proofs.Booleans.{all_not, all_cons, all_nil, not_of}
 use Rattle.sheet.proofs.Repeating.{kind_is, first_leads}
 
 module _ (s : List ℕ) (n : ℕ) where

@@ -7,12 +7,12 @@ use native.Mathlib.Omega.{arith}
 use lib.Dec.{eqb, ltb}
 use borrow.Author.Tests.{eq-eqb, ne_eqb, eqb-true, lt-ltb, ltb-true, le-leb}
 use Rattle.std.proofs.lemmas.Bool.Decides.{nat_tests}
-use Rattle.sheet.specs.Tests.{implies, between}
+use Rattle.sheet.specs.Booleans.{implies, between}
 use Rattle.sheet.specs.Kind.{is_decimal, cap, parts_right, names_parts}
 use Rattle.sheet.specs.Head.{by_quads, nullable_in, zoned_in, zone_len}
 use Rattle.sheet.specs.Refusals.{decimal_right, figure_right, figures_right, record_right, placed, label_right}
-use Rattle.refusals.specs.Packed.{light, usual_decimal, plain, Passes}
-use Rattle.sheet.proofs.Tests.{never, and_fst, and_snd, all_not, all_nil, all_cons}
+use Rattle.refusals.specs.Packed.{light, usual_decimal, plain, PassesBy}
+use Rattle.sheet.proofs.Booleans.{never, and_fst, and_snd, all_not, all_nil, all_cons}
 use Rattle.sheet.proofs.Figures.{figure_none, size_none, record_plain, labels_named, parts_none}
 
 and_last : (a b : Bool) {c : Bool} → c ≡ false → (a && (b && c)) ≡ false
@@ -70,7 +70,7 @@ module _ (a d up o : ℕ) (l : light (by_quads a 0 0 0) ≡ true) where
 
   -- a record of no more than a name
   pub light_right : d < 16777216 → placed o (d % 65536) (d / 65536 % 256) ≡ true → implies (not (eqb (d / 65536 % 256) 0)) (names_parts up) ≡ true
-      → implies (nullable_in (by_quads a 0 0 d)) (names_parts up) ≡ true → Passes (by_quads a 0 0 d) up o (d / 65536)
+      → implies (nullable_in (by_quads a 0 0 d)) (names_parts up) ≡ true → PassesBy (by_quads a 0 0 d) up o (d / 65536)
   light_right small p n u =
       let z : cond (zoned_in (by_quads a 0 0 d)) (zone_len (by_quads a 0 0 d)) 0 ≡ 0 = ap (λ (x : Bool). cond x (zone_len (by_quads a 0 0 d)) 0) no_zone in
       let e : d / 65536 ≡ d / 65536 % 256 = omega arith in
@@ -81,33 +81,33 @@ module _ (a d up o : ℕ) (l : light (by_quads a 0 0 0) ≡ true) where
         all = omega (arith, z, e);
       }
 
-  pub light_nameless : d ≡ 0 → implies (nullable_in (by_quads a 0 0 d)) (names_parts up) ≡ true → Passes (by_quads a 0 0 d) up o 0
+  pub light_nameless : d ≡ 0 → implies (nullable_in (by_quads a 0 0 d)) (names_parts up) ≡ true → PassesBy (by_quads a 0 0 d) up o 0
   light_nameless z u =
       let e : d / 65536 ≡ 0 = omega arith in
       let n : eqb (d / 65536 % 256) 0 ≡ true = eq-eqb (d / 65536 % 256) 0 (omega arith) in
-      subst (λ (r : ℕ). Passes (by_quads a 0 0 d) up o r) e
+      subst (λ (r : ℕ). PassesBy (by_quads a 0 0 d) up o r) e
       (light_right (omega arith)
       (ap (λ (x : Bool). eqb (d % 65536) (cond x 0 o)) n ∙ eq-eqb (d % 65536) 0 (omega arith))
       (ap (λ (x : Bool). implies (not x) (names_parts up)) n) u)
 
-  pub light_bare : d ≡ 0 → a / 256 % 256 ≡ 0 → Passes (by_quads a 0 0 d) up o 0
+  pub light_bare : d ≡ 0 → a / 256 % 256 ≡ 0 → PassesBy (by_quads a 0 0 d) up o 0
   light_bare z f =
       light_nameless z (ap (λ (x : Bool). implies x (names_parts up)) (ne_eqb (a / 256 % 256 % 2) 1 (omega arith)))
 
-  pub light_nullable : {b : Bool} → d ≡ 0 → b ≡ names_parts up → b ≡ true → Passes (by_quads a 0 0 d) up o 0
+  pub light_nullable : {b : Bool} → d ≡ 0 → b ≡ names_parts up → b ≡ true → PassesBy (by_quads a 0 0 d) up o 0
   light_nullable z e t = light_nameless z (implies_any (nullable_in (by_quads a 0 0 d)) (sym e ∙ t))
 
-  pub light_named : {b : Bool} → d < 16777216 → 65536 ≤ d → b ≡ names_parts up → b ≡ true → d % 65536 ≡ o → Passes (by_quads a 0 0 d) up o (d / 65536)
+  pub light_named : {b : Bool} → d < 16777216 → 65536 ≤ d → b ≡ names_parts up → b ≡ true → d % 65536 ≡ o → PassesBy (by_quads a 0 0 d) up o (d / 65536)
   light_named small some e t at =
       let n : eqb (d / 65536 % 256) 0 ≡ false = ne_eqb (d / 65536 % 256) 0 (omega arith) in
       light_right small (ap (λ (x : Bool). eqb (d % 65536) (cond x 0 o)) n ∙ eq-eqb (d % 65536) o at)
       (implies_any (not (eqb (d / 65536 % 256) 0)) (sym e ∙ t)) (implies_any (nullable_in (by_quads a 0 0 d)) (sym e ∙ t))
 
 -- links say nothing of what is right
-pub passes_linked : (a b c d up o r : ℕ) → b ≡ 0 → Passes (by_quads a 0 0 d) up o r → Passes (by_quads a b c d) up o r
+pub passes_linked : (a b c d up o r : ℕ) → b ≡ 0 → PassesBy (by_quads a 0 0 d) up o r → PassesBy (by_quads a b c d) up o r
 unfolding record_right label_right
 passes_linked a b c d up o r z p =
-    subst (λ (x : ℕ). Passes (by_quads a x c d) up o r) (sym z)
+    subst (λ (x : ℕ). PassesBy (by_quads a x c d) up o r) (sym z)
     (record { few = p.few; figures = p.figures; placed = p.placed; all = p.all })
 
 -- a usual decimal
@@ -181,7 +181,7 @@ module _ (a b c d : ℕ) (p : plain a b d ≡ true) where
       (kinded_usual a)
       (plain_cases (ltb a 32) (is_decimal a) (usual_decimal (a % 65536) (a / 65536 % 256) (a / 16777216)) (and_snd (eqb (b + d) 0) _ p))
 
-  pub plain_passes : (up o : ℕ) → Passes (by_quads a b c d) up o 0
+  pub plain_passes : (up o : ℕ) → PassesBy (by_quads a b c d) up o 0
   plain_passes up o =
       passes_linked a b c d up o 0 (omega (arith, rest_none)) (light_bare a d up o kinded.lit (omega (arith, rest_none)) kinded.flagless)
 

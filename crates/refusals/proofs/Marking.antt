@@ -11,7 +11,7 @@ use borrow.Author.Tests.{eqb-true, eqb-false}
 use borrow.Author.Count.{below_more}
 use Rattle.std.specs.Prelude.{Option, None, Some, Ok}
 use Rattle.std.proofs.lemmas.List.{get_or-take}
-use Rattle.sheet.proofs.Tests.{never}
+use Rattle.sheet.proofs.Booleans.{never}
 use Rattle.refusals.specs.RepeatedNames.{First, FindsEqual}
 
 -- an array that holds f below i, and one place more

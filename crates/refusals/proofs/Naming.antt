@@ -16,8 +16,8 @@ use Rattle.sheet.specs.Read.{label_at}
 use Rattle.sheet.specs.Holds.{Leads}
 use Rattle.sheet.specs.declared.Head.{Head}
 use Rattle.std.specs.Prelude.{None, Some, Ok, Err}
-use Rattle.refusals.specs.RepeatedNames.{Pair, name_of, name_at, placed, FindsEqual, HasEqual, Spells, Known, name_number, Numbered}
-use Rattle.sheet.proofs.Tests.{never}
+use Rattle.refusals.specs.RepeatedNames.{Pair, record_name, name_at, placed, FindsEqual, HasEqual, Spells, Known, name_number, Numbered}
+use Rattle.sheet.proofs.Booleans.{never}
 use Rattle.sheet.proofs.Bytewise.{same_self, same_equal}
 use Rattle.refusals.proofs.Marking.{filled_more}
 use Rattle.sheet.proofs.Repeating.{name_is, next_leads}
@@ -93,11 +93,11 @@ pub told_first : (s : List ℕ) (n : ℕ) (recs : List ℕ) (k : ℕ) (t : Field
 told_first s n recs k t b h w e =
     let long : length (take k recs) ≡ k = grind (arith, common_steps) in
     told_whether (name_at s n (take k recs)) k t b
-    (spells_as (name_at s n recs) k (name_at s n (take k recs)) (λ i l. ap (name_of s n) (grind (arith, common_steps))) 0 t w) (rw long at e)
+    (spells_as (name_at s n recs) k (name_at s n (take k recs)) (λ i l. ap (record_name s n) (grind (arith, common_steps))) 0 t w) (rw long at e)
 
 -- the names of a chain by place
 abbrev pub names : List ℕ → ℕ → ℕ → ℕ → List ℕ
-names s n link i = name_of s n (placed s link i)
+names s n link i = record_name s n (placed s link i)
 
 placed_next : (s : List ℕ) (link i : ℕ) → placed s link (i + 1) ≡ (head_at s (placed s link i)).next
 unfolding placed
@@ -105,8 +105,8 @@ placed_next s link i = ap (placed s link) (add-one i)
 
 -- the record at a place of a chain: its name, and the next
 module _ (s : List ℕ) (n link at k : ℕ) (e : at ≡ placed s link k) (h : Head) (q : h ≡ head_at s at) where
-  pub name_here : label_at s n h.name h.nlen ≡ names s n link k
-  name_here = ap (λ (g : Head). label_at s n g.name g.nlen) q ∙ ap (name_of s n) e
+  pub name_here : label_at s n h.name h.name_len ≡ names s n link k
+  name_here = ap (λ (g : Head). label_at s n g.name g.name_len) q ∙ ap (record_name s n) e
 
   pub next_here : h.next ≡ placed s link (k + 1)
   next_here = ap (λ (g : Head). g.next) q ∙ ap (λ (i : ℕ). (head_at s i).next) e ∙ sym (placed_next s link k)
@@ -195,10 +195,10 @@ pub record Kept (s : List ℕ) (n link k : ℕ) (w v recs numbers : List ℕ) : 
 module _ (s : List ℕ) (n floor link k : ℕ) (w v recs numbers : List ℕ) (x : Kept s n link k w v recs numbers) where
   pub listed : (r o : ℕ) (t : Fields) → Leads s n floor link r o t → arity t ≡ k → Spells (name_at s n recs) k 0 t
   listed r o t l e =
-      spells_as (names s n link) k (name_at s n recs) (λ i h. ap (name_of s n) (sym (x.record_at i h))) 0 t (spells s n floor link k r o t l e)
+      spells_as (names s n link) k (name_at s n recs) (λ i h. ap (record_name s n) (sym (x.record_at i h))) 0 t (spells s n floor link k r o t l e)
 
   pub numbered : Numbered s n recs k numbers
-  numbered = record { each = λ i h. x.number_at i h ∙ ap (λ (r : ℕ). name_number (name_of s n r)) (sym (x.record_at i h)) }
+  numbered = record { each = λ i h. x.number_at i h ∙ ap (λ (r : ℕ). name_number (record_name s n r)) (sym (x.record_at i h)) }
 
   pub kept_more : length w ≤ length v → (k ≡ length recs → ⊥) → (at q : ℕ) → at ≡ placed s link k → q ≡ name_number (names s n link k)
       → Kept s n link (k + 1) w v (set recs k at) (set numbers k q)
@@ -215,7 +215,7 @@ module _ (s : List ℕ) (n floor link k : ℕ) (w v recs numbers : List ℕ) (x 
 
 -- the names of a chain were compared: one is the name of a record before it; or it has k names, and all differ
 module _ (s : List ℕ) (n floor link low at k : ℕ) (p : Followed s n floor link low at k) where
-  pub known_at : low < at → (h : Head) → h ≡ head_at s at → (j : ℕ) → j < k → names s n link j ≡ label_at s n h.name h.nlen
+  pub known_at : low < at → (h : Head) → h ≡ head_at s at → (j : ℕ) → j < k → names s n link j ≡ label_at s n h.name h.name_len
       → (r o : ℕ) (t : Fields) → Leads s n floor link r o t → true ≡ repeats t
   known_at lo h e j i q r o t l =
       told (names s n link) (arity t) t (Ok (Some (j, k))) (spells s n floor link (arity t) r o t l refl)

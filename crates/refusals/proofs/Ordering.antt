@@ -19,22 +19,22 @@ use Rattle.std.proofs.lemmas.Map.Keys.{sorted_from_all_adjacent, IsDistinct-from
 use Rattle.std.proofs.lemmas.Map.Lookups.{exact_bytes}
 use Rattle.sheet.specs.Names.{same_bytes}
 use Rattle.sheet.proofs.Bytewise.{same_equal}
-use Rattle.sheet.proofs.Tests.{never}
-use Rattle.refusals.specs.RepeatedNames.{name_of, name_at, HasEqual}
+use Rattle.sheet.proofs.Booleans.{never}
+use Rattle.refusals.specs.RepeatedNames.{record_name, name_at, HasEqual}
 use Rattle.refusals.proofs.Naming.{not_same}
 
 module _ (s : List ℕ) (n : ℕ) where
   -- two records in the order of their names
   abbrev pub by_name : ℕ → ℕ → Ordering
-  by_name a b = slice_cmp nat_cmp (name_of s n a) (name_of s n b)
+  by_name a b = slice_cmp nat_cmp (record_name s n a) (record_name s n b)
 
   pub by_name_total : IsTotalOrder by_name
-  by_name_total = on_total (name_of s n) nat_list_cmp_total
+  by_name_total = on_total (record_name s n) nat_list_cmp_total
 
-  one_name : (a b : ℕ) → name_of s n a ≡ name_of s n b → eq_by_cmp by_name a b ≡ true
-  one_name a b e = ap is_eq (ap (slice_cmp nat_cmp (name_of s n a)) (sym e) ∙ tied_itself by_name_total a)
+  one_name : (a b : ℕ) → record_name s n a ≡ record_name s n b → eq_by_cmp by_name a b ≡ true
+  one_name a b e = ap is_eq (ap (slice_cmp nat_cmp (record_name s n a)) (sym e) ∙ tied_itself by_name_total a)
 
-  two_names : (a b : ℕ) → (name_of s n a ≡ name_of s n b → ⊥) → eq_by_cmp by_name a b ≡ false
+  two_names : (a b : ℕ) → (record_name s n a ≡ record_name s n b → ⊥) → eq_by_cmp by_name a b ≡ false
   two_names a b h = go (by_name a b) refl
     where
       go : (o : Ordering) → by_name a b ≡ o → is_eq o ≡ false
@@ -45,7 +45,7 @@ module _ (s : List ℕ) (n : ℕ) where
   flips : (a b : ℕ) → eq_by_cmp by_name a b ≡ eq_by_cmp by_name b a
   flips = (eq_by_cmp_equiv by_name_total).symm
 
-  less : (a b : ℕ) → is_lt (by_name b a) ≡ false → same_bytes (name_of s n a) (name_of s n b) ≡ false → by_name a b ≡ Less
+  less : (a b : ℕ) → is_lt (by_name b a) ≡ false → same_bytes (record_name s n a) (record_name s n b) ≡ false → by_name a b ≡ Less
   less a b h d = go (by_name a b) refl
     where
       go : (o : Ordering) → by_name a b ≡ o → o ≡ Less

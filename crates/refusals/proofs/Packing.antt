@@ -9,8 +9,8 @@ use Rattle.sheet.specs.Kind.{parts_right}
 use Rattle.sheet.specs.Head.{quad_at, head_from, by_quads, head_at}
 use Rattle.sheet.specs.Holds.{Plain}
 use Rattle.sheet.specs.declared.Head.{Head}
-use Rattle.refusals.specs.Walk.{pass_head, Ready, Walks}
-use Rattle.refusals.specs.Packed.{progress_of, walked_of, PlainAt, Passed, Row, Tells}
+use Rattle.refusals.specs.Walk.{pass_head, WalkReady, Walks}
+use Rattle.refusals.specs.Packed.{progress_of, walked_of, PlainAt, Passed, Row, WalkTells}
 use Rattle.std.specs.Prelude.{Option, Some, None}
 use Rattle.refusals.specs.declared.walk.Walked.{Walked}
 use Rattle.refusals.specs.declared.Progress.{Progress}
@@ -21,14 +21,14 @@ use Rattle.refusals.proofs.Walking.{walk_none, walk_bare, walk_bare_wrong, walk_
 
 -- what a walk tells
 module _ (s : List ℕ) (n up link : ℕ) (p : Progress) (k : ℕ) where
-  pub tells_lost : Walks s n up link p k None → Tells s n up link p k None
+  pub tells_lost : Walks s n up link p k None → WalkTells s n up link p k None
   tells_lost w = record { walks = w; small = tt }
 
-  pub tells_came : (w : Walked) → w.found < 17179869184 → Walks s n up link p k (Some (progress_of w.due w.found, w.count)) → Tells s n up link p k (Some w)
+  pub tells_came : (w : Walked) → w.found < 17179869184 → Walks s n up link p k (Some (progress_of w.due w.found, w.count)) → WalkTells s n up link p k (Some w)
   tells_came w small v = record { walks = v; small = small }
 
 -- farther along a row
-ready_on : (n r q found k : ℕ) → Ready n (progress_of r found) 0 → r ≤ q → q ≤ n → k ≤ q → Ready n (progress_of q found) k
+ready_on : (n r q found k : ℕ) → WalkReady n (progress_of r found) 0 → r ≤ q → q ≤ n → k ≤ q → WalkReady n (progress_of q found) k
 ready_on n r q found k a le in' c = record { few = a.few; some = omega (arith, a.some); inside = in'; short = omega (arith, a.short); counted = c }
 
 -- past a plain record
@@ -36,7 +36,7 @@ module _ (s : List ℕ) (n : ℕ) (bytes : Plain s) (long : 16 * n ≤ length s)
   head : Head
   head = by_quads (quad_at s (16 * q)) (quad_at s (16 * q + 4)) (quad_at s (16 * q + 8)) (quad_at s (16 * q + 12))
 
-  plain_walk : (up found k : ℕ) → Ready n (progress_of q found) k → (o : Option (Progress × ℕ))
+  plain_walk : (up found k : ℕ) → WalkReady n (progress_of q found) k → (o : Option (Progress × ℕ))
       → Walks s n up link (progress_of (q + 1) found) (k + 1) o → Walks s n up q (progress_of q found) k o
   unfolding head
   plain_walk up found k ready o v =
@@ -69,19 +69,19 @@ module _ (s : List ℕ) (n : ℕ) (bytes : Plain s) (long : 16 * n ≤ length s)
       }
 
 -- where a chain begins with a row
-module _ (s : List ℕ) (n due found : ℕ) (ready : Ready n (progress_of due found) 0) where
-  pub row_ready : (row link : ℕ) → Row s n due row link → Ready n (progress_of row found) (row - due)
+module _ (s : List ℕ) (n due found : ℕ) (ready : WalkReady n (progress_of due found) 0) where
+  pub row_ready : (row link : ℕ) → Row s n due row link → WalkReady n (progress_of row found) (row - due)
   row_ready row link g = ready_on n due row found (row - due) ready g.some g.inside (omega arith)
 
   module _ (link : ℕ) (e : link ≡ due) (up row : ℕ) where
-    pub row_tells : Row s n due row row → (o : Option Walked) → Tells s n up row (progress_of row found) (row - due) o → Tells s n up link (progress_of due found) 0 o
+    pub row_tells : Row s n due row row → (o : Option Walked) → WalkTells s n up row (progress_of row found) (row - due) o → WalkTells s n up link (progress_of due found) 0 o
     row_tells g o t =
         record {
           walks = subst (λ (j : ℕ). Walks s n up j (progress_of due found) 0 (walked_of o)) (sym e) (g.on (walked_of o) up found ready t.walks);
           small = t.small;
         }
 
-    pub row_ends : found < 17179869184 → Row s n due row 0 → Tells s n up link (progress_of due found) 0 (Some (record { due = row; count = row - due; found = found }))
+    pub row_ends : found < 17179869184 → Row s n due row 0 → WalkTells s n up link (progress_of due found) 0 (Some (record { due = row; count = row - due; found = found }))
     row_ends small g =
         let o = Some (progress_of row found, row - due) in
         record {
@@ -94,14 +94,14 @@ module _ (s : List ℕ) (n due found : ℕ) (ready : Ready n (progress_of due fo
 -- past a record
 module _ (s : List ℕ) (n up link due found k : ℕ) (long : 16 * n ≤ length s) (e : link ≡ due) (lt : due < n)
     (h : Head) (eh : h ≡ head_from s (16 * due)) (r : ℕ) (passed : Passed (head_from s (16 * due)) up found r)
-    (ready : Ready n (progress_of due found) k) where
+    (ready : WalkReady n (progress_of due found) k) where
   head_is : h ≡ head_at s due
   head_is = eh ∙ sym (head_inside s due (omega arith))
 
   past : progress_of (due + 1) r ≡ pass_head h up (progress_of due found)
   past = subst (λ (g : Head). progress_of (due + 1) r ≡ pass_head g up (progress_of due found)) (sym eh) (passed.past due)
 
-  pub past_ready : (j : ℕ) → j ≤ k + 1 → Ready n (progress_of (due + 1) r) j
+  pub past_ready : (j : ℕ) → j ≤ k + 1 → WalkReady n (progress_of (due + 1) r) j
   past_ready j c = ready_past s n up link (progress_of due found) k e lt h head_is (progress_of (due + 1) r) past j c ready passed.few
 
   pub leaf_on : h.first ≡ 0 → parts_right h.kind 0 ≡ true → (o : Option (Progress × ℕ))
@@ -111,11 +111,11 @@ module _ (s : List ℕ) (n up link due found k : ℕ) (long : 16 * n ≤ length 
   pub leaf_wrong : h.first ≡ 0 → parts_right h.kind 0 ≡ false → Walks s n up link (progress_of due found) k None
   leaf_wrong = walk_bare_wrong s n up link (progress_of due found) k e lt h head_is (progress_of (due + 1) r) past ready passed.few
 
-  pub parts_lost : Tells s n h.kind h.first (progress_of (due + 1) r) 0 None → Walks s n up link (progress_of due found) k None
+  pub parts_lost : WalkTells s n h.kind h.first (progress_of (due + 1) r) 0 None → Walks s n up link (progress_of due found) k None
   parts_lost t = walk_parts_lost s n up link (progress_of due found) k e lt h head_is (progress_of (due + 1) r) past t.walks
 
-  module _ (inner : Walked) (t : Tells s n h.kind h.first (progress_of (due + 1) r) 0 (Some inner)) where
-    pub parts_ready : Ready n (progress_of inner.due inner.found) (k + 1)
+  module _ (inner : Walked) (t : WalkTells s n h.kind h.first (progress_of (due + 1) r) 0 (Some inner)) where
+    pub parts_ready : WalkReady n (progress_of inner.due inner.found) (k + 1)
     parts_ready =
         let g = t.walks.grows in
         record {

@@ -6,7 +6,7 @@ use native.Mathlib.Omega.{arith}
 use lib.Dec.{eqb}
 use Rattle.sheet.specs.declared.Head.{Head}
 use Rattle.refusals.specs.Walk.{pass_head}
-use Rattle.refusals.specs.Packed.{progress_of, Passes, Passed}
+use Rattle.refusals.specs.Packed.{progress_of, PassesBy, Passed}
 
 or_not : (a : Bool) {b : Bool} → b ≡ true → a ≡ (a || not b)
 or_not true e = refl
@@ -16,7 +16,7 @@ bit : {x v : ℕ} → x ≡ v → eqb (x % 2) 1 ≡ eqb (v % 2) 1
 bit = ap (λ (x : ℕ). eqb (x % 2) 1)
 
 -- a record with which nothing is wrong
-module _ (h : Head) (up found labels : ℕ) (room : found % 4294967296 < 1000000) (p : Passes h up (found % 4294967296) labels) where
+module _ (h : Head) (up found labels : ℕ) (room : found % 4294967296 < 1000000) (p : PassesBy h up (found % 4294967296) labels) where
   pub right_past : (due : ℕ) → progress_of (due + 1) (found + labels) ≡ pass_head h up (progress_of due found)
   right_past due =
       let few = p.few in

@@ -10,7 +10,7 @@ use lib.Seq.{drop-cons}
 use lib.Dec.{ltb, eqb}
 use borrow.Author.Tests.{eq-eqb, ne_eqb, eqb-true, lt-ltb, le-ltb, ltb-false, not-false}
 use Rattle.std.proofs.lemmas.Bool.Decides.{nat_tests}
-use Rattle.sheet.specs.Tests.{one_of}
+use Rattle.sheet.specs.Booleans.{one_of}
 use Rattle.sheet.specs.Kind.{is_kind}
 use Rattle.sheet.specs.Head.{quad_at, head_at}
 use Rattle.sheet.specs.Read.{records_of, labels_of}
@@ -18,7 +18,7 @@ use Rattle.sheet.specs.Refusals.{all_zero, any_from, torn}
 use Rattle.refusals.specs.Framed.{FramedBy}
 use Rattle.sheet.specs.declared.Head.{Head}
 use Rattle.sheet.proofs.Heads.{head_inside}
-use Rattle.sheet.proofs.Tests.{one_at, one_is_lem, not_of}
+use Rattle.sheet.proofs.Booleans.{one_at, one_is_lem, not_of}
 
 -- the sum of k bytes from i on
 abbrev total : List ℕ → ℕ → ℕ → ℕ

@@ -16,13 +16,13 @@ use Rattle.sheet.specs.Read.{records_of, labels_of, start, read, walk_from}
 use Rattle.sheet.specs.Names.{has_name, repeats, names_differ}
 use Rattle.sheet.specs.Refusals.{Met, walk, torn, any_from, bad_kind, linked, bad_chain, record_right, any_wrong, bad_figure, label_right, misplaced, bad_label, refusal, Verdict, verdict, number_of, meaning}
 use Rattle.sheet.specs.Holds.{Plain, Holds}
-use Rattle.refusals.specs.Walk.{pass_head, pass_all, Says, Walks}
+use Rattle.refusals.specs.Walk.{pass_head, pass_all, WalkSays, Walks}
 use Rattle.refusals.specs.Framed.{FramedBy}
-use Rattle.refusals.specs.Found.{outset, Found}
+use Rattle.refusals.specs.Found.{outset, WalkFound}
 use Rattle.refusals.specs.declared.Progress.{Progress}
 use Rattle.sheet.specs.declared.Refusal.{Refusal}
 use Rattle.sheet.specs.declared.Sizes.{Sizes}
-use Rattle.sheet.proofs.Tests.{all_not, all_cons, all_nil, one_is_lem, one_cons, one_nil, not_of}
+use Rattle.sheet.proofs.Booleans.{all_not, all_cons, all_nil, one_is_lem, one_cons, one_nil, not_of}
 use Rattle.refusals.proofs.Walking.{pass_due, met_length}
 use Rattle.sheet.proofs.Accepted.{sound_holds}
 
@@ -102,10 +102,10 @@ few_differ (field name nullable shape parts rest) h =
 
 -- the walk over the whole sheet
 module _ (s : List ℕ) (n m : ℕ) (framed : FramedBy s n m) (kinds : bad_kind s ≡ false) (link : ℕ) (root : link ≡ start n) where
-  whole_walk : {o : Option (Progress × ℕ)} → Walks s n 0 link outset 0 o → Says s 0 link outset 0 (read s) o
+  whole_walk : {o : Option (Progress × ℕ)} → Walks s n 0 link outset 0 o → WalkSays s 0 link outset 0 (read s) o
   unfolding read
   whole_walk {o} w =
-      subst (λ (t : Fields). Says s 0 link outset 0 t o)
+      subst (λ (t : Fields). WalkSays s 0 link outset 0 t o)
       (ap₂ (λ (a b : ℕ). walk_from a s a b 1) framed.records (root ∙ ap start framed.records)) (w.says n (omega arith))
 
   pub chain_lost : Walks s n 0 link outset 0 None → 3 ≡ refusal s
@@ -114,10 +114,10 @@ module _ (s : List ℕ) (n m : ℕ) (framed : FramedBy s n m) (kinds : bad_kind 
       says_chain s framed.whole kinds
       (ap not (all_not _ 0 (ap (λ (l : ℕ). linked s l 1 (read s)) (sym (root ∙ ap start framed.records)) ∙ whole_walk w)))
 
-  pub chain_found : (p : Progress) (k : ℕ) → Walks s n 0 link outset 0 (Some (p, k)) → Found s n m link p
+  pub chain_found : (p : Progress) (k : ℕ) → Walks s n 0 link outset 0 (Some (p, k)) → WalkFound s n m link p
   chain_found p k w = let a = whole_walk w in record { framed = framed; kinds = kinds; root = root; chain = a.0; passed = a.1.0 }
 
-module _ (s : List ℕ) (n m link : ℕ) (p : Progress) (found : Found s n m link p) where
+module _ (s : List ℕ) (n m link : ℕ) (p : Progress) (found : WalkFound s n m link p) where
   due_is : p.due ≡ 1 + count (read s)
   due_is = ap (λ (x : Progress). x.due) found.passed ∙ omega (arith, pass_due s outset (walk s), met_length 0 1 (read s))
 

@@ -14,10 +14,10 @@ use Rattle.sheet.specs.Types.{Fields, end, field, arity, count}
 use Rattle.sheet.specs.Head.{head_at}
 use Rattle.sheet.specs.Read.{field_of, walk_from}
 use Rattle.sheet.specs.Refusals.{Met, met, linked}
-use Rattle.refusals.specs.Walk.{pass_head, pass_all, Ready, Says, Walks}
+use Rattle.refusals.specs.Walk.{pass_head, pass_all, WalkReady, WalkSays, Walks}
 use Rattle.sheet.specs.declared.Head.{Head}
 use Rattle.refusals.specs.declared.Progress.{Progress}
-use Rattle.sheet.proofs.Tests.{all_not, all_cons, all_nil}
+use Rattle.sheet.proofs.Booleans.{all_not, all_cons, all_nil}
 use Rattle.sheet.proofs.Reading.{walk_step, walk_end}
 
 -- past two runs of records
@@ -42,7 +42,7 @@ walk_nowhere zero s n link r h = refl
 walk_nowhere (suc f) s n link r h = rw h
 
 module _ (s : List ℕ) (n up link : ℕ) (p : Progress) (k : ℕ) where
-  pub walk_none : Ready n p k → link ≡ 0 → Walks s n up link p k (Some (p, k))
+  pub walk_none : WalkReady n p k → link ≡ 0 → Walks s n up link p k (Some (p, k))
   unfolding linked met arity
   walk_none ready e =
       record {
@@ -78,7 +78,7 @@ module _ (s : List ℕ) (n up link : ℕ) (p : Progress) (k : ℕ) where
     due_is = ap (λ (x : Progress). x.due) eq
 
     -- past the record no number outgrows its limit
-    pub ready_past : (j : ℕ) → j ≤ k + 1 → Ready n p k → q.at ≤ p.at + 510 → Ready n q j
+    pub ready_past : (j : ℕ) → j ≤ k + 1 → WalkReady n p k → q.at ≤ p.at + 510 → WalkReady n q j
     ready_past j c r a =
         record {
           few = r.few;
@@ -89,10 +89,10 @@ module _ (s : List ℕ) (n up link : ℕ) (p : Progress) (k : ℕ) where
         }
 
     -- what the walk of the parts says, at one step less
-    inside : {o : Option (Progress × ℕ)} → Walks s n h.kind h.first q 0 o → (f : ℕ) → n ≤ p.due + suc f → Says s h.kind h.first q 0 (parts_of_lem f) o
+    inside : {o : Option (Progress × ℕ)} → Walks s n h.kind h.first q 0 o → (f : ℕ) → n ≤ p.due + suc f → WalkSays s h.kind h.first q 0 (parts_of_lem f) o
     unfolding parts_of_lem
     inside {o} w f g =
-        subst (λ (j : ℕ). Says s h.kind h.first q 0 (walk_from f s n h.first j) o) due_is (w.says f (omega (arith, due_is)))
+        subst (λ (j : ℕ). WalkSays s h.kind h.first q 0 (walk_from f s n h.first j) o) due_is (w.says f (omega (arith, due_is)))
 
     steps : (Q : Fields → Type 0) → ((f : ℕ) → n ≤ p.due + suc f → Q (field_of s n h (parts_of_lem f) (rest_of f))) → (f : ℕ) → n ≤ p.due + f → Q (walk_from f s n link p.due)
     steps Q a zero g = absurd (omega arith)
@@ -132,10 +132,10 @@ module _ (s : List ℕ) (n up link : ℕ) (p : Progress) (k : ℕ) where
           }
 
       -- what the walk of the rest says
-      outside : {o : Option (Progress × ℕ)} → Walks s n up h.next inner (k + 1) o → (f : ℕ) → n ≤ p.due + suc f → Says s up h.next inner (k + 1) (rest_of f) o
+      outside : {o : Option (Progress × ℕ)} → Walks s n up h.next inner (k + 1) o → (f : ℕ) → n ≤ p.due + suc f → WalkSays s up h.next inner (k + 1) (rest_of f) o
       unfolding rest_of parts_of_lem
       outside {o} v f g =
-          subst (λ (j : ℕ). Says s up h.next inner (k + 1) (walk_from f s n h.next j) o) (inner_due f g) (v.says f (omega (arith, inner_due f g)))
+          subst (λ (j : ℕ). WalkSays s up h.next inner (k + 1) (walk_from f s n h.next j) o) (inner_due f g) (v.says f (omega (arith, inner_due f g)))
 
       pub walk_rest_lost : Walks s n up h.next inner (k + 1) None → Walks s n up link p k None
       unfolding linked
@@ -177,7 +177,7 @@ module _ (s : List ℕ) (n up link : ℕ) (p : Progress) (k : ℕ) where
 
 -- a record without parts
 module _ (s : List ℕ) (n up link : ℕ) (p : Progress) (k : ℕ) (e : link ≡ p.due) (lt : p.due < n) (h : Head) (eh : h ≡ head_at s p.due)
-    (q : Progress) (eq : q ≡ pass_head h up p) (ready : Ready n p k) (few : q.at ≤ p.at + 510) (z : h.first ≡ 0) where
+    (q : Progress) (eq : q ≡ pass_head h up p) (ready : WalkReady n p k) (few : q.at ≤ p.at + 510) (z : h.first ≡ 0) where
   none : Walks s n h.kind h.first q 0 (Some (q, 0))
   none = walk_none s n h.kind h.first q 0 (ready_past s n up link p k e lt h eh q eq 0 (omega arith) ready few) z
 

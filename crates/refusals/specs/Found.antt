@@ -11,7 +11,7 @@ use Rattle.refusals.specs.declared.Progress.{Progress}
 abbrev pub outset : Progress
 outset = record { due = 1; at = 0; figure = false; label = false }
 
-pub record Found (s : List ℕ) (n m link : ℕ) (p : Progress) : Type 0 where
+pub record WalkFound (s : List ℕ) (n m link : ℕ) (p : Progress) : Type 0 where
   pub framed : FramedBy s n m
   pub kinds : bad_kind s ≡ false
   pub root : link ≡ start n

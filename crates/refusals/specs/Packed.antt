@@ -5,7 +5,7 @@ use Rattle.sheet.specs.Head.{labelled, quad_at}
 use Rattle.sheet.specs.Refusals.{figure_right, record_right, label_right}
 use Rattle.sheet.specs.declared.Head.{Head}
 use Rattle.sheet.specs.declared.kind.TheConstants as Kind
-use Rattle.refusals.specs.Walk.{pass_head, Ready, Walks}
+use Rattle.refusals.specs.Walk.{pass_head, WalkReady, Walks}
 use Rattle.refusals.specs.declared.Progress.{Progress}
 use Rattle.refusals.specs.declared.walk.Walked.{Walked}
 
@@ -21,7 +21,7 @@ walked_of (Some w) = Some (progress_of w.due w.found, w.count)
 
 -- no flag but the first, no size, and the figures are right
 unfoldable pub light : Head → Bool
-light h = eqb h.quad 0 && (ltb h.flags 2 && figure_right h.kind h.figure h.scale)
+light h = eqb h.bytes_4_7 0 && (ltb h.flags 2 && figure_right h.kind h.figure h.scale)
 
 -- a Timestamp with a zone, without a name and not nullable, of a right unit and with no other figure
 pub record Stamped (h : Head) : Type 0 where
@@ -30,12 +30,12 @@ pub record Stamped (h : Head) : Type 0 where
   pub unit : h.figure ≤ 3
   pub scale : h.scale ≡ 0
   pub nameless : h.name ≡ 0
-  pub short : h.nlen ≡ 0
-  pub last : h.last ≡ 0
-  pub zone : h.quad < 16777216
+  pub short : h.name_len ≡ 0
+  pub last : h.byte_15 ≡ 0
+  pub zone : h.bytes_4_7 < 16777216
 
 -- nothing is wrong with a record, which has r label bytes
-pub record Passes (h : Head) (up o r : ℕ) : Type 0 where
+pub record PassesBy (h : Head) (up o r : ℕ) : Type 0 where
   pub few : r ≤ 510
   pub figures : record_right h up ≡ true
   pub placed : label_right h up o ≡ true
@@ -68,10 +68,10 @@ pub record Passed (h : Head) (up found r : ℕ) : Type 0 where
 pub record Row (s : List ℕ) (n r e link : ℕ) : Type 0 where
   pub some : r ≤ e
   pub inside : e ≤ n
-  pub on : (o : Option (Progress × ℕ)) (up found : ℕ) → Ready n (progress_of r found) 0
+  pub on : (o : Option (Progress × ℕ)) (up found : ℕ) → WalkReady n (progress_of r found) 0
       → Walks s n up link (progress_of e found) (e - r) o → Walks s n up r (progress_of r found) 0 o
 
 -- what a walk tells
-pub record Tells (s : List ℕ) (n up link : ℕ) (p : Progress) (k : ℕ) (o : Option Walked) : Type 0 where
+pub record WalkTells (s : List ℕ) (n up link : ℕ) (p : Progress) (k : ℕ) (o : Option Walked) : Type 0 where
   pub walks : Walks s n up link p k (walked_of o)
   pub small : IfSome o (λ w. w.found < 17179869184)

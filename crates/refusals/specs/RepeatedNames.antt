@@ -13,12 +13,12 @@ abbrev pub Pair : Type 0
 Pair = Result (Option (ℕ × ℕ)) Unsure
 
 -- the name of record r
-abbrev pub name_of : List ℕ → ℕ → ℕ → List ℕ
-name_of s n r = label_at s n (head_at s r).name (head_at s r).nlen
+abbrev pub record_name : List ℕ → ℕ → ℕ → List ℕ
+record_name s n r = label_at s n (head_at s r).name (head_at s r).name_len
 
 -- the name of the record at place i of several
 abbrev pub name_at : List ℕ → ℕ → List ℕ → ℕ → List ℕ
-name_at s n recs i = name_of s n (get_or recs i 0)
+name_at s n recs i = record_name s n (get_or recs i 0)
 
 -- the record at place i of the chain that a link leads to
 unfoldable pub placed : List ℕ → ℕ → ℕ → ℕ
@@ -46,7 +46,7 @@ Spells f k i end = i ≡ k
 Spells f k i (field name nullable shape parts rest) = (name ≡ f i) × Spells f k (i + 1) rest
 
 -- recs begins with the k records of the chain that a link leads to, where it has room for more
-pub record Listed (s : List ℕ) (n floor link : ℕ) (recs : List ℕ) (k : ℕ) : Type 0 where
+pub record ListedRecords (s : List ℕ) (n floor link : ℕ) (recs : List ℕ) (k : ℕ) : Type 0 where
   pub room : k ≤ length recs
   pub whole : k < length recs → (r o : ℕ) (t : Fields) → Leads s n floor link r o t → Spells (name_at s n recs) k 0 t
 

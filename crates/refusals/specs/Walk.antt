@@ -24,7 +24,7 @@ pass_all s p [] = p
 pass_all s p (r ∷ rs) = pass_all s (pass_head (head_at s r.number) r.up p) rs
 
 -- what holds on the way: no number outgrows its limit
-pub record Ready (n : ℕ) (p : Progress) (k : ℕ) : Type 0 where
+pub record WalkReady (n : ℕ) (p : Progress) (k : ℕ) : Type 0 where
   pub few : n ≤ MOST_RECORDS
   pub some : 0 < p.due
   pub inside : p.due ≤ n
@@ -32,17 +32,17 @@ pub record Ready (n : ℕ) (p : Progress) (k : ℕ) : Type 0 where
   pub counted : k ≤ p.due
 
 -- how far a walk came
-abbrev pub Grows : ℕ → Progress → Option (Progress × ℕ) → Type 0
-Grows n p (Some (q, k)) = Ready n q k × (p.due ≤ q.due)
-Grows n p None = Unit
+abbrev pub WalkGrows : ℕ → Progress → Option (Progress × ℕ) → Type 0
+WalkGrows n p (Some (q, k)) = WalkReady n q k × (p.due ≤ q.due)
+WalkGrows n p None = Unit
 
 -- what a walk along t says
-abbrev pub Says : List ℕ → ℕ → ℕ → Progress → ℕ → Fields → Option (Progress × ℕ) → Type 0
-Says s up link p k t (Some (q, j)) = (linked s link p.due t ≡ true) × ((q ≡ pass_all s p (met up p.due t)) × (j ≡ k + arity t))
-Says s up link p k t None = linked s link p.due t ≡ false
+abbrev pub WalkSays : List ℕ → ℕ → ℕ → Progress → ℕ → Fields → Option (Progress × ℕ) → Type 0
+WalkSays s up link p k t (Some (q, j)) = (linked s link p.due t ≡ true) × ((q ≡ pass_all s p (met up p.due t)) × (j ≡ k + arity t))
+WalkSays s up link p k t None = linked s link p.due t ≡ false
 
 -- what a walk along the chain that a link leads to comes to: what it found and how many records the chain has; or None
 -- where a link leads elsewhere or a number of parts is wrong
 pub record Walks (s : List ℕ) (n up link : ℕ) (p : Progress) (k : ℕ) (o : Option (Progress × ℕ)) : Type 0 where
-  pub grows : Grows n p o
-  pub says : (f : ℕ) → n ≤ p.due + f → Says s up link p k (walk_from f s n link p.due) o
+  pub grows : WalkGrows n p o
+  pub says : (f : ℕ) → n ≤ p.due + f → WalkSays s up link p k (walk_from f s n link p.due) o

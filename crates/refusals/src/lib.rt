@@ -15,7 +15,7 @@ mod walk;
 
 ghost use Rattle.std.specs.Prelude.{◌≡◌};
 ghost use Rattle.sheet.specs.Refusals.{refusal, meaning, verdict};
-ghost use Rattle.refusals.specs.Found.{Found, number_met};
+ghost use Rattle.refusals.specs.Found.{WalkFound, number_met};
 
 use header::Framed;
 use records::Records;
@@ -63,7 +63,7 @@ pub fn check_framed(framed: Framed<'_>) -> Result<(), Refusal>
 
 // The answer once the walk over a whole sheet came to its end.
 fn check_found(framed: Framed<'_>, link: usize, p: Progress) -> Result<(), Refusal>
-    requires { Found framed.sheet.now framed.n framed.m link p }
+    requires { WalkFound framed.sheet.now framed.n framed.m link p }
     ensures { number_met result ≡ refusal framed.entry.sheet.now }
 {
     let Framed { sheet, n, m } = framed;

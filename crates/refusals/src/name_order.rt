@@ -18,7 +18,7 @@ impl Records<'_> {
     pub(crate) fn by_order(self, recs: &mut [u16]) -> bool
         ensures { HasEqual (name_at self.entry.sheet.now self.entry.n recs.old) (length recs.old) result }
     {
-        recs.sort_unstable_by(|a, b| self.name_of(*a).cmp(self.name_of(*b)));
+        recs.sort_unstable_by(|a, b| self.record_name(*a).cmp(self.record_name(*b)));
         self.neighbours_agree(recs)
     }
 }

@@ -4,7 +4,7 @@ ghost use Rattle.std.specs.Prelude.{◌≡◌, true, ℕ, ◌+◌, ◌%◌, ◌<
 ghost use Rattle.sheet.specs.Head.{head_from, by_quads};
 ghost use Rattle.sheet.specs.Bounds.{Bounded};
 ghost use Rattle.sheet.specs.declared.Head as Declared;
-ghost use Rattle.refusals.specs.Packed.{light, Stamped, Passes, Passed};
+ghost use Rattle.refusals.specs.Packed.{light, Stamped, PassesBy, Passed};
 
 use sheet::Head;
 use sheet::figure::{figure_right, label_bytes, label_right, names_parts, record_right};
@@ -32,7 +32,7 @@ fn is_light(a: usize, b: usize) -> bool
 // first and its last number of 32 bits. None leaves open whether it is right.
 fn light_labels(a: usize, d: usize, up: u8, at: usize) -> Option<usize>
     requires { light (by_quads a 0 0 0) ≡ true }
-    ensures { IfSome result (Passes (by_quads a 0 0 d) up at) }
+    ensures { IfSome result (PassesBy (by_quads a 0 0 d) up at) }
 {
     if d == 0 {
         if a / 256 % 256 == 0 || names_parts(up) {
@@ -56,17 +56,17 @@ fn is_stamped(h: Head) -> bool
         && h.figure <= 3
         && h.scale == 0
         && h.name == 0
-        && h.nlen == 0
-        && h.last == 0
-        && h.quad < 16777216
+        && h.name_len == 0
+        && h.byte_15 == 0
+        && h.bytes_4_7 < 16777216
 }
 
 // How many label bytes such a record has, by its bytes 4 to 7.
-fn zone_labels(quad: usize, next: usize) -> Option<usize>
-    ensures { (h : Declared.Head) (up : ℕ) → Stamped h → h.quad ≡ quad → IfSome result (Passes h up next) }
+fn zone_labels(bytes_4_7: usize, next: usize) -> Option<usize>
+    ensures { (h : Declared.Head) (up : ℕ) → Stamped h → h.bytes_4_7 ≡ bytes_4_7 → IfSome result (PassesBy h up next) }
 {
-    let at = quad % 65536;
-    let len = quad / 65536;
+    let at = bytes_4_7 % 65536;
+    let len = bytes_4_7 / 65536;
     if len == 0 {
         if at == 0 {
             return Some(0);
@@ -107,7 +107,7 @@ pub(crate) fn pass_record(s: &[u8], i: usize, up: u8, found: usize) -> usize
     }
     let h = head_from(s, i);
     if is_stamped(h) {
-        if let Some(labels) = zone_labels(h.quad, at) {
+        if let Some(labels) = zone_labels(h.bytes_4_7, at) {
             return found + labels;
         }
     }

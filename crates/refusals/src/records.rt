@@ -3,7 +3,7 @@ ghost use Rattle.std.specs.Prelude.{◌≡◌, ◌*◌, ◌<◌, ◌≤◌, leng
 ghost use Rattle.sheet.specs.Holds.{Plain};
 ghost use Rattle.sheet.specs.Names.{same_bytes};
 ghost use Rattle.sheet.specs.declared.limits.TheConstants.{RECORD_BYTES};
-ghost use Rattle.refusals.specs.RepeatedNames.{name_of};
+ghost use Rattle.refusals.specs.RepeatedNames.{record_name};
 
 use sheet::label::{label_at, same_name};
 use sheet::limits::RECORD_BYTES;
@@ -21,16 +21,16 @@ pub(crate) struct Records<'a> {
 
 impl<'a> Records<'a> {
     // The name of record r, as a part of the sheet.
-    pub(crate) fn name_of(self, r: u16) -> &'a [u8]
-        ensures { result.now ≡ name_of self.entry.sheet.now self.entry.n r }
+    pub(crate) fn record_name(self, r: u16) -> &'a [u8]
+        ensures { result.now ≡ record_name self.entry.sheet.now self.entry.n r }
     {
         let h = head_at(self.sheet, usize::from(r));
-        label_at(self.sheet, self.n, h.name, h.nlen)
+        label_at(self.sheet, self.n, h.name, h.name_len)
     }
 
     // Whether two records have one name.
     pub(crate) fn have_one_name(self, a: u16, b: u16) -> bool
-        ensures { result ≡ same_bytes (name_of self.entry.sheet.now self.entry.n a) (name_of self.entry.sheet.now self.entry.n b) }
+        ensures { result ≡ same_bytes (record_name self.entry.sheet.now self.entry.n a) (record_name self.entry.sheet.now self.entry.n b) }
     {
         let g = head_at(self.sheet, usize::from(a));
         let h = head_at(self.sheet, usize::from(b));

@@ -6,7 +6,7 @@ ghost use Rattle.sheet.specs.Read.{label_at};
 ghost use Rattle.sheet.specs.Names.{names_differ};
 ghost use Rattle.sheet.specs.Holds.{Holds};
 ghost use Rattle.sheet.specs.Bounds.{Bounded};
-ghost use Rattle.refusals.specs.RepeatedNames.{name_of, name_at, placed, First, HasEqual, Repeats, Compared, Listed, Numbered, StructRepeats};
+ghost use Rattle.refusals.specs.RepeatedNames.{record_name, name_at, placed, First, HasEqual, Repeats, Compared, ListedRecords, Numbered, StructRepeats};
 
 use crate::name_numbers::name_number;
 use crate::records::Records;
@@ -34,7 +34,7 @@ impl Chain<'_> {
     // The first of the first k records that has the name of h, by its place.
     fn named(self, h: Head, k: usize) -> Option<usize>
         requires { Bounded h }
-        ensures { First (λ (i : ℕ). name_of self.entry.records.sheet.now self.entry.records.n (placed self.entry.records.sheet.now self.entry.link i)) (label_at self.entry.records.sheet.now self.entry.records.n h.name h.nlen) k result }
+        ensures { First (λ (i : ℕ). record_name self.entry.records.sheet.now self.entry.records.n (placed self.entry.records.sheet.now self.entry.link i)) (label_at self.entry.records.sheet.now self.entry.records.n h.name h.name_len) k result }
     {
         let Records { sheet, n } = self.records;
         let mut at = self.link;
@@ -76,7 +76,7 @@ impl Chain<'_> {
     // Lists the records and the numbers of their names, as many as there is room for, and says how many they are.
     fn list(self, recs: &mut [u16], numbers: &mut [u32]) -> usize
         requires { length recs.old ≤ length numbers.old }
-        ensures { Listed self.entry.records.sheet.now self.entry.records.n self.entry.floor self.entry.link recs.new result × Numbered self.entry.records.sheet.now self.entry.records.n recs.new result numbers.new }
+        ensures { ListedRecords self.entry.records.sheet.now self.entry.records.n self.entry.floor self.entry.link recs.new result × Numbered self.entry.records.sheet.now self.entry.records.n recs.new result numbers.new }
     {
         let Records { sheet, n } = self.records;
         let mut low = self.floor;
@@ -85,7 +85,7 @@ impl Chain<'_> {
         while low < at && at < n && k < recs.len() {
             let h = head_at(sheet, at);
             recs[k] = at as u16;
-            numbers[k] = name_number(label_at(sheet, n, h.name, h.nlen));
+            numbers[k] = name_number(label_at(sheet, n, h.name, h.name_len));
             low = at;
             at = h.next;
             k += 1;

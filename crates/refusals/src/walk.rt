@@ -1,9 +1,9 @@
 //! The walk over the records of a sheet, which finds what refusals 3, 4 and 5 are about. What it has found so far is
 //! one number, made by `pass`, which stays in a register.
 ghost use Rattle.std.specs.Prelude.{◌≡◌, ◌+◌, ◌*◌, ◌-◌, ◌<◌, ◌≤◌, true};
-ghost use Rattle.refusals.specs.Walk.{Ready, Walks};
+ghost use Rattle.refusals.specs.Walk.{WalkReady, Walks};
 ghost use Rattle.refusals.specs.Found.{outset};
-ghost use Rattle.refusals.specs.Packed.{progress_of, usual_decimal, plain, PlainAt, Row, Tells};
+ghost use Rattle.refusals.specs.Packed.{progress_of, usual_decimal, plain, PlainAt, Row, WalkTells};
 
 use crate::Progress;
 use crate::pass::pass_record;
@@ -31,7 +31,7 @@ fn is_usual_decimal(k: usize, p: usize, s: usize) -> bool
 
 // Whether a record says nothing but a kind that has no parts, at most a usual decimal's figures, and its links, by its
 // numbers of 32 bits.
-fn is_plain(a: usize, b: usize, d: usize) -> bool
+fn is_plain_record(a: usize, b: usize, d: usize) -> bool
     requires { (b < 4294967296) × (d < 4294967296) }
     ensures { result ≡ plain a b d }
 {
@@ -52,7 +52,7 @@ impl Records<'_> {
     {
         let i = RECORD_BYTES * r;
         quad_at(self.sheet, i + 8) == links
-            && is_plain(
+            && is_plain_record(
                 quad_at(self.sheet, i),
                 quad_at(self.sheet, i + 4),
                 quad_at(self.sheet, i + 12),
@@ -78,8 +78,8 @@ impl Records<'_> {
     #[cycle(walk_chain_walk_records)]
     #[inline(always)]
     fn walk_chain(&self, up: u8, link: usize, due: usize, found: usize) -> Option<Walked>
-        requires { Ready self.now.n (progress_of due found) 0 × ((found < 17179869184) × (0 < link)) }
-        ensures { Tells self.now.sheet.now self.now.n up link (progress_of due found) 0 result }
+        requires { WalkReady self.now.n (progress_of due found) 0 × ((found < 17179869184) × (0 < link)) }
+        ensures { WalkTells self.now.sheet.now self.now.n up link (progress_of due found) 0 result }
     {
         if link != due {
             return None;
@@ -99,8 +99,8 @@ impl Records<'_> {
     // chain by the loop.
     #[cycle(walk_chain_walk_records)]
     fn walk_records(&self, up: u8, due: usize, found: usize, k: usize) -> Option<Walked>
-        requires { Ready self.now.n (progress_of due found) k × (found < 17179869184) }
-        ensures { Tells self.now.sheet.now self.now.n up due (progress_of due found) k result }
+        requires { WalkReady self.now.n (progress_of due found) k × (found < 17179869184) }
+        ensures { WalkTells self.now.sheet.now self.now.n up due (progress_of due found) k result }
     {
         // Read once: the loop runs for each record.
         let Records { sheet, n } = *self;
@@ -140,8 +140,8 @@ impl Records<'_> {
 
     // Walks the chain of the listed types.
     fn walk_types(&self, link: usize) -> Option<Walked>
-        requires { Ready self.now.n outset 0 }
-        ensures { Tells self.now.sheet.now self.now.n 0 link outset 0 result }
+        requires { WalkReady self.now.n outset 0 }
+        ensures { WalkTells self.now.sheet.now self.now.n 0 link outset 0 result }
     {
         if link == 0 {
             return Some(Walked {
@@ -155,7 +155,7 @@ impl Records<'_> {
 
     // Walks all records of a sheet.
     pub(crate) fn walk_all(&self, link: usize) -> Option<(Progress, usize)>
-        requires { Ready self.now.n outset 0 }
+        requires { WalkReady self.now.n outset 0 }
         ensures { Walks self.now.sheet.now self.now.n 0 link outset 0 result }
     {
         let w = self.walk_types(link)?;

@@ -5,7 +5,7 @@ use mathlib.Core.List.{List}
 use Prim.Native.Nat.{ℕ, ◌<◌, ◌≤◌}
 use native.Mathlib.Omega.{arith}
 use lib.Dec.{eqb}
-use Rattle.sheet.specs.Tests.{between}
+use Rattle.sheet.specs.Booleans.{between}
 use Rattle.sheet.specs.Types.{Shape, Fields, end, field, count}
 use Rattle.sheet.specs.Head.{head_at}
 use Rattle.sheet.specs.Holds.{Leads}
@@ -13,7 +13,7 @@ use Rattle.sheet.specs.declared.Head.{Head}
 use Rattle.sheet.proofs.Repeating.{kind_is, first_leads, next_leads}
 use Rattle.coercion.specs.Answers.{notSupported, own_category, category_of}
 use Rattle.coercion.specs.Meaning.{value_category}
-pub use Rattle.resolution.specs.Wrapped.{Found}
+pub use Rattle.resolution.specs.Wrapped.{CoreFound}
 
 -- a wrapper has its value's category, another type its own
 wrapper : (shape : Shape) (parts : Fields) → (eqb shape.kind 37 || eqb shape.kind 38) ≡ true → category_of shape parts ≡ value_category parts
@@ -33,12 +33,12 @@ unfolding between
 nothing_own = refl
 
 module _ (s : List ℕ) (n link : ℕ) (h : Head) (e : h ≡ head_at s link) {w : Bool} (ew : w ≡ (eqb h.kind 37 || eqb h.kind 38)) where
-  pub core_own : w ≡ false → Found s n link h.kind
+  pub core_own : w ≡ false → CoreFound s n link h.kind
   core_own z floor i o name nullable shape parts rest l =
       let k = kind_is s n floor link i o name nullable shape parts rest l h e in
       ap own_category k ∙ sym (own shape parts (ap (λ (x : ℕ). eqb x 37 || eqb x 38) (sym k) ∙ sym ew ∙ z))
 
-  pub core_value : (k : ℕ) → w ≡ true → ((i o : ℕ) (parts : Fields) → Leads s n link h.first i o parts → own_category k ≡ value_category parts) → Found s n link k
+  pub core_value : (k : ℕ) → w ≡ true → ((i o : ℕ) (parts : Fields) → Leads s n link h.first i o parts → own_category k ≡ value_category parts) → CoreFound s n link k
   core_value k₀ z f floor i o name nullable shape parts rest l =
       let k = kind_is s n floor link i o name nullable shape parts rest l h e in
       f _ _ parts (first_leads s n floor link i o name nullable shape parts rest l h e)
@@ -66,7 +66,7 @@ module _ (s : List ℕ) (n floor link : ℕ) where
         let m = next_leads s n floor link i o name nullable shape parts (field name' nullable' shape' parts' rest') l g e in
         absurd (omega (arith, m.is, m.inside))
 
-    pub value_found : (k : ℕ) → floor < link → link < g.next → Found s n g.next k → (i o : ℕ) (parts : Fields) → Leads s n floor link i o parts
+    pub value_found : (k : ℕ) → floor < link → link < g.next → CoreFound s n g.next k → (i o : ℕ) (parts : Fields) → Leads s n floor link i o parts
         → own_category k ≡ value_category parts
     value_found k lo hi f i o end l = absurd (omega (arith, l.is))
     value_found k lo hi f i o (field name nullable shape parts end) l =

@@ -16,12 +16,12 @@ use Rattle.coercion.specs.Data.{DataType, size, single, and_then}
 use Rattle.coercion.specs.Answers.{coercion}
 use Rattle.coercion.specs.declared.Rules.{Rules}
 use Rattle.buffers.specs.Region.{Room, region, Kept, Inside, Named}
-use Rattle.buffers.specs.Goal.{letters, Means}
+use Rattle.buffers.specs.Target.{letters, Means}
 use Rattle.buffers.specs.Typed.{Typed, Merges}
 use Rattle.buffers.specs.declared.Space.{Space}
-use Rattle.buffers.specs.declared.Spot.{Spot}
-use Rattle.buffers.specs.declared.Goal.{Goal}
-use Rattle.buffers.specs.Out.{Out}
+use Rattle.buffers.specs.declared.Place.{Place}
+use Rattle.buffers.specs.declared.Target.{Target}
+use Rattle.buffers.specs.Written.{Written}
 use Rattle.std.specs.Prelude.{Ok, Err}
 use Rattle.buffers.specs.declared.Failure.TheVariants.{NoType, Full}
 use Rattle.buffers.proofs.Sources.{link_is, read_nullable}
@@ -39,7 +39,7 @@ use Rattle.resolution.proofs.Shifting.{candidate_held, held_shifted}
 use Rattle.resolution.proofs.Folding.{enclosed, within_self, shifted_within}
 
 -- the core of a candidate, which has no parts
-module _ (space : Space) (w : List ℕ) (d : Spot) (c : DataType) (room : Room w space) (inside : Inside space d) (k : Candidate space w d c)
+module _ (space : Space) (w : List ℕ) (d : Place) (c : DataType) (room : Room w space) (inside : Inside space d) (k : Candidate space w d c)
     (low : (core_of c.shape c.parts).shape.kind < 32) where
   abbrev core : DataType
   core = core_of c.shape c.parts
@@ -66,18 +66,18 @@ module _ (space : Space) (w : List ℕ) (d : Spot) (c : DataType) (room : Room w
     last_labelled : labelled h ≡ length (own_labels last.name core.shape)
     last_labelled = own_labelled space (region space w) h last_head last.held
 
-    goal : Goal
-    goal = record { at = last.at; label = last.label; nlen = length last.name; nullable = last.nullable }
+    goal : Target
+    goal = record { at = last.at; label = last.label; name_len = length last.name; nullable = last.nullable }
 
     goal_is : {at label : ℕ} {nullable : Bool} → at ≡ d.at - 1 → label ≡ d.label - labelled h → nullable ≡ nullable_in h
-        → record { at = at; label = label; nlen = h.nlen; nullable = nullable } ≡ goal
+        → record { at = at; label = label; name_len = h.name_len; nullable = nullable } ≡ goal
     unfolding goal
     goal_is {at} {label} p q z =
         λ i.
         record {
           at = at_is i;
           label = label_is i;
-          nlen = sym (name_length_lem (record { floor = last.floor; at = last.at; label = last.label; up = last.up; held = last.held }) h last_head) i;
+          name_len = sym (name_length_lem (record { floor = last.floor; at = last.at; label = last.label; up = last.up; held = last.held }) h last_head) i;
           nullable = (z ∙ read_nullable last.held.source h last_head) i;
         }
       where
@@ -119,7 +119,7 @@ module _ (space : Space) (w : List ℕ) (d : Spot) (c : DataType) (room : Room w
     -- the core was written anew
     module _ (h : Head) (e : h ≡ head_at (region space w) (d.at - 1)) (x : DataType) {u : List ℕ} (kept : Kept space v u last.at (last.label + length last.name))
         (few : size x + size c < space.n) (short : letters x + letters c ≤ space.m) where
-      core_answered : (o : Out) (m : Option DataType) → Means space v u (goal h e) (size core + size x) (letters core + letters x) o m
+      core_answered : (o : Written) (m : Option DataType) → Means space v u (goal h e) (size core + size x) (letters core + letters x) o m
           → AnswerIs space u o (and_then m (λ t. Some (with_core c.shape c.parts t)))
       unfolding goal count labels
       core_answered (Ok f) None b = b
@@ -145,7 +145,7 @@ module _ (space : Space) (w : List ℕ) (d : Spot) (c : DataType) (room : Room w
           b
 
 -- a type of the sheet that changes the core alone
-module _ (rules : Rules) (space : Space) {s w : List ℕ} {link : ℕ} {d : Spot} (room : Room w space) (inside : Inside space d) (cored : Cored rules space s w link d) where
+module _ (rules : Rules) (space : Space) {s w : List ℕ} {link : ℕ} {d : Place} (room : Room w space) (inside : Inside space d) (cored : Cored rules space s w link d) where
   -- a candidate has a record
   pub core_lost : d.at < 2 → Steps (coercion rules) space (Candidate space w d) s w w link (Err NoType)
   unfolding count
@@ -164,14 +164,14 @@ module _ (rules : Rules) (space : Space) {s w : List ℕ} {link : ℕ} {d : Spot
               absurd (omega (arith, last_labelled space w d c room inside k low h e, last_label space w d c room inside k low));
         }
 
-    pub core_stepped : {v u : List ℕ} {at label : ℕ} {nullable : Bool} (o : Out) → at ≡ d.at - 1 → label ≡ d.label - labelled h → nullable ≡ nullable_in h → Shifted space w v d
-        → Merges (coercion rules) space (2 * space.n) true s v u at link (record { at = at; label = label; nlen = h.nlen; nullable = nullable }) o
+    pub core_stepped : {v u : List ℕ} {at label : ℕ} {nullable : Bool} (o : Written) → at ≡ d.at - 1 → label ≡ d.label - labelled h → nullable ≡ nullable_in h → Shifted space w v d
+        → Merges (coercion rules) space (2 * space.n) true s v u at link (record { at = at; label = label; name_len = h.name_len; nullable = nullable }) o
         → Steps (coercion rules) space (Candidate space w d) s w u link o
     unfolding count goal
     core_stepped {v} {u} {at} {label} {nullable} o p q z a m =
         record {
           within = shifted_within room a m.writes.kept;
-          inside = enclosed space (record { at = at; label = label; nlen = h.nlen; nullable = nullable }) o m.writes.passes;
+          inside = enclosed space (record { at = at; label = label; name_len = h.name_len; nullable = nullable }) o m.writes.passes;
           means = means;
         }
       where
@@ -180,7 +180,7 @@ module _ (rules : Rules) (space : Space) {s w : List ℕ} {link : ℕ} {d : Spot
             let f = cored.is x c t k in
             let low = f.low in
             let l = last space w d c room inside k low in
-            let n = subst (λ (g : Goal). Merges (coercion rules) space (2 * space.n) true s v u at link g o) (goal_is space w d c room inside k low h e p q z) m in
+            let n = subst (λ (g : Target). Merges (coercion rules) space (2 * space.n) true s v u at link g o) (goal_is space w d c room inside k low h e p q z) m in
             let core = core_of c.shape c.parts in
             let i : l.link ≡ at = omega (arith, p, last_at space w d c room inside k low, link_is l.held.source) in
             let typed = subst (λ (i : ℕ). Typed space v i core) i (core_typed space w d c room inside k low v a) in

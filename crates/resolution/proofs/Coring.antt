@@ -10,7 +10,7 @@ use Rattle.sheet.specs.Types.{Shape, Fields, end, field, arity, count, own_label
 use Rattle.sheet.specs.Head.{head_at}
 use Rattle.sheet.specs.Holds.{Holds}
 use Rattle.coercion.specs.Data.{DataType}
-use Rattle.buffers.specs.Goal.{type_of}
+use Rattle.buffers.specs.Target.{type_of}
 use Rattle.buffers.specs.Region.{Held}
 use Rattle.buffers.specs.declared.Space.{Space}
 use Rattle.buffers.proofs.Frames.{Agree, span_frame, head_frame, holds_frame}

@@ -12,14 +12,14 @@ use borrow.Author.Tests.{not-true, eq-eqb, ne_eqb, eqb-true}
 use lib.Dec.{eqb}
 use Rattle.std.proofs.lemmas.Bool.Decides.{nat_tests}
 use Rattle.sheet.specs.Kind.{is_kind, is_decimal, sized, last_unit, names_parts, is_wrapper}
-use Rattle.sheet.specs.Tests.{between}
+use Rattle.sheet.specs.Booleans.{between}
 use Rattle.sheet.specs.Types.{Zone, present, Shape, Fields, end, field, arity}
 use Rattle.sheet.specs.Refusals.{figure_right, size_right, figures_right}
 use Rattle.sheet.specs.Carried.{is_zoned, FieldRight, FieldsRight}
 use Rattle.sheet.specs.Read.{label_at, zone_of}
 use Rattle.sheet.specs.Head.{head_at, zoned_in, zone_at, zone_len}
 use Rattle.sheet.specs.declared.Head.{Head}
-use Rattle.sheet.proofs.Tests.{never, and_fst, and_snd, all_at}
+use Rattle.sheet.proofs.Booleans.{never, and_fst, and_snd, all_at}
 use Rattle.coercion.specs.Data.{DataType, and_then, figures_of, of_unit, zoned, for_list}
 use Rattle.coercion.specs.Same.{equal}
 use Rattle.coercion.specs.Times.{timeunit_coercion, zone_coercion, temporal_coercion_nonstrict_timezone}
@@ -29,7 +29,7 @@ use Rattle.coercion.proofs.Fuel.{coercion_asks}
 use Rattle.coercion.proofs.Sameness.{equal_same}
 use Rattle.coercion.specs.declared.Question.{Question}
 use Rattle.coercion.specs.declared.Rules.{Rules}
-use Rattle.buffers.specs.Goal.{type_of}
+use Rattle.buffers.specs.Target.{type_of}
 use Rattle.buffers.specs.Region.{Held}
 use Rattle.plain.specs.Plain.{plain_rules}
 use Rattle.plain.specs.Steps.{Figured, Reads, step_of}
@@ -40,15 +40,15 @@ use Rattle.buffers.proofs.Sources.{link_inside, read_shape}
 use Rattle.buffers.proofs.Chained.{held_first, held_next}
 use Rattle.buffers.proofs.Fielding.{typed_reads}
 use Rattle.plain.specs.Laws.{picked}
-use Rattle.plain.proofs.Turns.{spoken}
+use Rattle.plain.proofs.Picking.{spoken}
 use Rattle.wrappers.specs.Ways.{wrappers_of}
 use Rattle.wrappers.proofs.Cores.{missing, wrapper_is, two_parts, bare_wrappers, wrap_wrappers}
 use Rattle.wrappers.proofs.Values.{Two, typed_two, value_of}
 use Rattle.resolution.specs.declared.keep.Bottom.{Bottom}
-use Rattle.plain.specs.declared.value.Leaf.{Leaf}
-use Rattle.plain.specs.Value.{is_plain, leaf_of, Valued}
+use Rattle.plain.specs.declared.value.PlainType.{PlainType}
+use Rattle.plain.specs.Value.{is_plain, plain_type_of, Valued}
 use Rattle.resolution.specs.Keeps.{core_of, with_core, CoreAlone, lays_view, CoreAt, BottomAt, inner_kind, gives_way, stays_zoned}
-use Rattle.plain.proofs.Valuing.{no_parts, leaf_low}
+use Rattle.plain.proofs.Valuing.{no_parts, plain_type_low}
 use Rattle.plain.proofs.Plain.{plain_answer}
 use Rattle.resolution.proofs.Valued.{typed_right, plain_valued}
 
@@ -129,15 +129,15 @@ unfolding is_kind between
 a_wrapper k h e = grind (arith, nat_tests)
 
 -- where the walk down the wrappers, past a last one, ends for the type at the record where it is
-pub record Found (space : Space) (s : List ℕ) (at : ℕ) (last : Option ℕ) (bottom : Bottom) : Type 0 where
+pub record CoreFound (space : Space) (s : List ℕ) (at : ℕ) (last : Option ℕ) (bottom : Bottom) : Type 0 where
   pub is : (t : DataType) → Typed space s at t → Typed space s bottom.core (core_of t.shape t.parts) × (last_or last (wrappers_of t.shape t.parts) ≡ bottom.wrapper)
 
 module _ {space : Space} {s : List ℕ} {at : ℕ} where
-  pub found_past : {last : Option ℕ} → space.n ≤ at → Found space s at last (record { core = at; wrapper = last })
+  pub found_past : {last : Option ℕ} → space.n ≤ at → CoreFound space s at last (record { core = at; wrapper = last })
   found_past h = record { is = λ t a. absurd (omega (arith, link_inside a.chain.held.source)) }
 
   module _ (h : Head) (e : h ≡ head_at s at) where
-    pub found_here : {last : Option ℕ} → h.kind < 37 → Found space s at last (record { core = at; wrapper = last })
+    pub found_here : {last : Option ℕ} → h.kind < 37 → CoreFound space s at last (record { core = at; wrapper = last })
     found_here {last} z =
         record {
           is =
@@ -154,10 +154,10 @@ module _ {space : Space} {s : List ℕ} {at : ℕ} where
       value_above : {t : DataType} → Typed space s at t → at < g.next
       value_above a = second_above (typed_two (wraps a) refl a) (held_first a.chain.held h e) g eg
 
-      pub found_lost : {last : Option ℕ} → g.next ≤ at → Found space s at last (record { core = at; wrapper = last })
+      pub found_lost : {last : Option ℕ} → g.next ≤ at → CoreFound space s at last (record { core = at; wrapper = last })
       found_lost h = record { is = λ t a. absurd (omega (arith, value_above a)) }
 
-      pub found_down : {last : Option ℕ} {bottom : Bottom} → Found space s g.next (Some h.kind) bottom → Found space s at last bottom
+      pub found_down : {last : Option ℕ} {bottom : Bottom} → CoreFound space s g.next (Some h.kind) bottom → CoreFound space s at last bottom
       found_down {last} {bottom} f =
           record {
             is =
@@ -172,7 +172,7 @@ module _ {space : Space} {s : List ℕ} {at : ℕ} where
           }
 
 -- where it ends for the type at the record where it begins
-pub found_from : {space : Space} {s : List ℕ} {r : ℕ} {bottom : Bottom} → Found space s r None bottom → BottomAt space s r bottom
+pub found_from : {space : Space} {s : List ℕ} {r : ℕ} {bottom : Bottom} → CoreFound space s r None bottom → BottomAt space s r bottom
 found_from f = record { core = record { is = λ t a. (f.is t a).0 }; inner = λ t a. (f.is t a).1 }
 
 -- a Timestamp is its unit and its zone
@@ -371,7 +371,7 @@ module _ (given : Rules) where
         keeps_core high (omega (arith, kx)) (omega (arith, kv)) (λ k q. omega (arith, kv, q))
         (stamp_stays inner t _ (typed_right inner core_typed).0.0 (typed_right t a).0.0 (rv.kind ∙ kv) (rx.kind ∙ kx) zone unit)
 
-    module _ (px : is_plain x ≡ true) (pv : is_plain v ≡ true) {new old : Leaf} (en : new ≡ leaf_of x) (eo : old ≡ leaf_of v) where
+    module _ (px : is_plain x ≡ true) (pv : is_plain v ≡ true) {new old : PlainType} (en : new ≡ plain_type_of x) (eo : old ≡ plain_type_of v) where
       new_valued : Valued new t
       new_valued = plain_valued x px en ex a
 
@@ -388,4 +388,4 @@ module _ (given : Rules) where
       -- one that is
       pub keeps_under : 32 ≤ h.kind → gives_way v.kind (inner_kind c) ≡ false → ((l r u : DataType) → Valued old l → Valued new r → Valued old u → coercion rules l r ≡ Some u) → coercion rules t c ≡ Some c
       keeps_under high n f =
-          keeps_core high (leaf_low x px refl) (leaf_low v pv refl) (λ k q. never (sym (rw (k, eq-eqb v.kind 27 q) at n))) (f inner t inner core_valued new_valued core_valued)
+          keeps_core high (plain_type_low x px refl) (plain_type_low v pv refl) (λ k q. never (sym (rw (k, eq-eqb v.kind 27 q) at n))) (f inner t inner core_valued new_valued core_valued)

@@ -2,7 +2,7 @@ pub mod Shifting
 pub mod Folding
 pub mod Cores
 pub mod Listing
-pub mod Leaves
+pub mod PlainTypes
 pub mod Valued
 pub mod Keeping
 pub mod Coring

@@ -8,17 +8,17 @@ use lib.Bits.{bit_or}
 use lib.Count.{ones, ones_in}
 use lib.Dec.{ltb, eqb, leb-zero}
 use borrow.Author.Tests.{eqb-true, lt-ltb, lt-leb}
-use Rattle.sheet.specs.Tests.{between}
+use Rattle.sheet.specs.Booleans.{between}
 use Rattle.sheet.specs.Types.{Shape, Fields, end, field}
 use Rattle.sheet.specs.Head.{head_at}
 use Rattle.sheet.specs.declared.Head.{Head}
-use Rattle.sheet.proofs.Tests.{and_fst, and_snd}
+use Rattle.sheet.proofs.Booleans.{and_fst, and_snd}
 use Rattle.coercion.specs.Data.{DataType, types_of}
 use Rattle.coercion.specs.Rules.{is_null}
 use Rattle.coercion.specs.Same.{equal}
 use Rattle.coercion.specs.Answers.{Category, array, boolean, numeric, dateTime, composite, unknown, notSupported, own_category, category_of, is_category, has_category, as_number, categories_in, categories_fit, all_equal}
 use Rattle.coercion.specs.Meaning.{category_bit, is_supported}
-use Rattle.resolution.proofs.CoreKinds.{Found}
+use Rattle.resolution.proofs.CoreKinds.{CoreFound}
 use Rattle.buffers.specs.Differ.{DifferTypes}
 use Rattle.buffers.specs.Typed.{Typed}
 use Rattle.buffers.specs.declared.Space.{Space}
@@ -26,11 +26,11 @@ use Rattle.buffers.proofs.Differing.{type_same}
 use Rattle.buffers.proofs.Sources.{link_inside}
 use Rattle.buffers.proofs.Chained.{held_next}
 use Rattle.merge.proofs.Merging.{typed_differs, chain_some}
-use Rattle.resolution.specs.Reached.{Listed, category_bits, seen_bits}
+use Rattle.resolution.specs.Reached.{ListedTypes, category_bits, seen_bits}
 
 -- the answer to a question on whatever types stand at a link past floor
 abbrev pub Tells : {A : Type 0} → (List DataType → A) → Space → List ℕ → ℕ → ℕ → A → Type 0
-Tells F space s floor link a = (ts : Fields) → Listed space s floor link ts → a ≡ F (types_of ts)
+Tells F space s floor link a = (ts : Fields) → ListedTypes space s floor link ts → a ≡ F (types_of ts)
 
 -- what the types that are left tell of G is what all of them tell of F
 abbrev pub Onward : {A : Type 0} → (List DataType → A) → (List DataType → A) → Space → List ℕ → ℕ → ℕ → ℕ → ℕ → Type 0
@@ -38,13 +38,13 @@ Onward {A} F G space s floor link last at = (a : A) → Tells G space s last at 
 
 -- the first of the listed types
 pub listed_typed : {space : Space} {s : List ℕ} {floor link : ℕ} {name : List ℕ} {nullable : Bool} {shape : Shape} {parts rest : Fields}
-    → Listed space s floor link (field name nullable shape parts rest) → Typed space s link (record { shape = shape; parts = parts })
+    → ListedTypes space s floor link (field name nullable shape parts rest) → Typed space s link (record { shape = shape; parts = parts })
 listed_typed l =
     record { name = _; nullable = _; rest = _; chain = record { floor = _; at = l.at; label = l.label; up = 0; held = l.held } }
 
 -- those behind it
 pub listed_next : {space : Space} {s : List ℕ} {floor link : ℕ} {name : List ℕ} {nullable : Bool} {shape : Shape} {parts rest : Fields}
-    → Listed space s floor link (field name nullable shape parts rest) → (h : Head) → h ≡ head_at s link → Listed space s link h.next rest
+    → ListedTypes space s floor link (field name nullable shape parts rest) → (h : Head) → h ≡ head_at s link → ListedTypes space s link h.next rest
 listed_next l h e = record { at = _; label = _; held = held_next l.held h e }
 
 module _ {A : Type 0} (F : List DataType → A) (space : Space) (s : List ℕ) (floor link : ℕ) (a : A) where
@@ -91,7 +91,7 @@ module _ (space : Space) (s : List ℕ) (first floor link : ℕ) (past : floor <
 abbrev category : DataType → Category
 category t = category_of t.shape t.parts
 
-found_category : {space : Space} {s : List ℕ} {link : ℕ} {t : DataType} (k : ℕ) → Found s space.n link k → Typed space s link t → own_category k ≡ category t
+found_category : {space : Space} {s : List ℕ} {link : ℕ} {t : DataType} (k : ℕ) → CoreFound s space.n link k → Typed space s link t → own_category k ≡ category t
 found_category k f x = f _ _ _ _ _ _ _ _ x.chain.held.source.leads
 
 -- Null is of the category Unknown, so that to leave it out changes nothing
@@ -123,7 +123,7 @@ none_supported unknown = refl
 none_supported notSupported = refl
 
 -- whether a type has no category
-module _ (space : Space) (s : List ℕ) (floor link : ℕ) (past : floor < link) (k : ℕ) (f : Found s space.n link k) {e : Bool} (es : e ≡ is_supported (own_category k)) where
+module _ (space : Space) (s : List ℕ) (floor link : ℕ) (past : floor < link) (k : ℕ) (f : CoreFound s space.n link k) {e : Bool} (es : e ≡ is_supported (own_category k)) where
   first_is : {b : Bool} (t : DataType) (ts : List DataType) → e ≡ b → Typed space s link t → has_category notSupported (t ∷ ts) ≡ (not b || has_category notSupported ts)
   first_is t ts z x =
       has_next notSupported t ts refl

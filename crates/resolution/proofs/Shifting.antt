@@ -16,7 +16,7 @@ use Rattle.coercion.specs.Data.{DataType, single}
 use Rattle.buffers.specs.Region.{Room, region, Held, Inside}
 use Rattle.buffers.specs.Typed.{Typed}
 use Rattle.buffers.specs.declared.Space.{Space}
-use Rattle.buffers.specs.declared.Spot.{Spot}
+use Rattle.buffers.specs.declared.Place.{Place}
 use Rattle.buffers.proofs.Frames.{head_bytes, record_inside}
 use Rattle.buffers.proofs.Chained.{labels_sum}
 use Rattle.buffers.proofs.Rows.{chain_typed}
@@ -50,7 +50,7 @@ holds_moved w v n r o up (field name nullable shape parts rest) q l f g k a =
     )
 
 -- a candidate stands at the front of the second half
-module _ (space : Space) (w : List ℕ) (d : Spot) (c : DataType) (room : Room w space) (inside : Inside space d) (k : Candidate space w d c) where
+module _ (space : Space) (w : List ℕ) (d : Place) (c : DataType) (room : Room w space) (inside : Inside space d) (k : Candidate space w d c) where
   pub candidate_held : Held space (region space w) 0 1 1 0 0 (single c)
   candidate_held =
       record {
@@ -68,7 +68,7 @@ module _ (space : Space) (w : List ℕ) (d : Spot) (c : DataType) (room : Room w
   candidate_stands = chain_typed (record { floor = 0; at = 1; label = 0; up = 0; held = candidate_held })
 
 -- what stands in the bytes of a candidate that was moved stands in the first half
-pub held_shifted : (space : Space) (w v : List ℕ) (d : Spot) {floor link r o up : ℕ} (t : Fields) → Room w space → Inside space d → Shifted space w v d → r + count t ≤ d.at
+pub held_shifted : (space : Space) (w v : List ℕ) (d : Place) {floor link r o up : ℕ} (t : Fields) → Room w space → Inside space d → Shifted space w v d → r + count t ≤ d.at
     → o + length (labels t) ≤ d.label → Held space (region space w) floor link r o up t → Held space v floor link r o up t
 held_shifted space w v d {r = r} {o} {up} t room inside a few short h =
     let l = h.source.leads in
@@ -98,7 +98,7 @@ held_shifted space w v d {r = r} {o} {up} t room inside a few short h =
         ∙ at_eq w {i = space.half + (16 * space.n + (j - 16 * space.n))} {j = space.half + j} (omega arith) ∙ sym (get_or-drop space.half w j 0)
 
 -- a candidate that was moved is a type in the first half
-pub candidate_typed : (space : Space) (w v : List ℕ) (d : Spot) (c : DataType) → Room w space → Inside space d → Shifted space w v d → Candidate space w d c → Typed space v 1 c
+pub candidate_typed : (space : Space) (w v : List ℕ) (d : Place) (c : DataType) → Room w space → Inside space d → Shifted space w v d → Candidate space w d c → Typed space v 1 c
 candidate_typed space w v d c room inside a k =
     chain_typed
     (record {
@@ -163,6 +163,6 @@ module _ (space : Space) (w : List ℕ) where
   pub to_second : (P : List ℕ → Type 0) → P (region space w) → P second
   to_second P = subst P (sym second_half)
 
-  pub on_candidate : {P : DataType → DataType → Type 0} {s : List ℕ} {link : ℕ} {d : Spot} → Room w space → Inside space d
+  pub on_candidate : {P : DataType → DataType → Type 0} {s : List ℕ} {link : ℕ} {d : Place} → Room w space → Inside space d
       → ((x c : DataType) → Typed space s link x → Typed space second 1 c → P x c) → (x c : DataType) → Typed space s link x → Candidate space w d c → P x c
   on_candidate {d = d} room inside f x c a b = f x c a (to_second (λ u. Typed space u 1 c) (candidate_stands space w d c room inside b))

@@ -10,8 +10,8 @@ use Rattle.sheet.specs.declared.Head.{Head}
 use Rattle.coercion.specs.Data.{DataType}
 use Rattle.coercion.proofs.AnswersRight.{TypeRight, sound_right}
 use Rattle.coercion.proofs.PlainRight.{own_right}
-use Rattle.plain.specs.declared.value.Leaf.{Leaf}
-use Rattle.plain.specs.Value.{is_plain, leaf_of, leaf_type, Valued}
+use Rattle.plain.specs.declared.value.PlainType.{PlainType}
+use Rattle.plain.specs.Value.{is_plain, plain_type_of, type_of_plain, Valued}
 use Rattle.plain.proofs.Valuing.{no_parts, plain_kind, plain_shape}
 use Rattle.buffers.specs.Typed.{Typed}
 use Rattle.buffers.specs.declared.Space.{Space}
@@ -27,9 +27,9 @@ partless {t = t} h p e a = no_parts t.shape.kind t.parts (omega (arith, p, typed
 
 -- the type of a plain head
 module _ (h : Head) (p : is_plain h ≡ true) where
-  pub plain_valued : {space : Space} {s : List ℕ} {link : ℕ} {x : Leaf} {t : DataType} → x ≡ leaf_of h → h ≡ head_at s link → Typed space s link t → Valued x t
+  pub plain_valued : {space : Space} {s : List ℕ} {link : ℕ} {x : PlainType} {t : DataType} → x ≡ plain_type_of h → h ≡ head_at s link → Typed space s link t → Valued x t
   plain_valued {space} {s} {t = t} ex e a =
       let right = (typed_right t a).0 in
-      let es : t.shape ≡ (leaf_type (leaf_of h)).shape = sym (read_shape a.chain.held.source h e) ∙ plain_shape h p s space.n in
+      let es : t.shape ≡ (type_of_plain (plain_type_of h)).shape = sym (read_shape a.chain.held.source h e) ∙ plain_shape h p s space.n in
       let ep : t.parts ≡ end = partless h (plain_kind h p) e a in
-      subst (λ (k : Leaf). Valued k t) (sym ex) (record { is = λ i. record { shape = es i; parts = ep i }; low = plain_kind h p; right = right })
+      subst (λ (k : PlainType). Valued k t) (sym ex) (record { is = λ i. record { shape = es i; parts = ep i }; low = plain_kind h p; right = right })

@@ -10,7 +10,7 @@ use Rattle.coercion.specs.Data.{DataType, and_then}
 use Rattle.coercion.specs.Answers.{coercion}
 use Rattle.coercion.specs.Times.{timeunit_coercion}
 use Rattle.coercion.specs.declared.Rules.{Rules}
-use Rattle.buffers.specs.Goal.{type_of}
+use Rattle.buffers.specs.Target.{type_of}
 use Rattle.buffers.specs.Typed.{Typed}
 use Rattle.buffers.specs.declared.Space.{Space}
 use Rattle.plain.specs.declared.step.Step.{Step}

@@ -11,23 +11,23 @@ use Rattle.coercion.specs.Meaning.{category_bit}
 use Rattle.coercion.specs.declared.Rules.{Rules}
 use Rattle.buffers.specs.Region.{Held, Inside, Wrote}
 use Rattle.buffers.specs.Typed.{Typed}
-use Rattle.buffers.specs.Goal.{letters}
+use Rattle.buffers.specs.Target.{letters}
 use Rattle.buffers.specs.declared.Space.{Space}
-use Rattle.buffers.specs.declared.Spot.{Spot}
-use Rattle.buffers.specs.Out.{Out}
+use Rattle.buffers.specs.declared.Place.{Place}
+use Rattle.buffers.specs.Written.{Written}
 use Rattle.std.specs.Prelude.{Ok, Err}
 use Rattle.buffers.specs.declared.Failure.TheVariants.{NoType, Full}
 use Rattle.merge.specs.Known.{Differs}
-use Rattle.plain.specs.declared.value.Leaf.{Leaf}
+use Rattle.plain.specs.declared.value.PlainType.{PlainType}
 use Rattle.plain.specs.Value.{Valued, JointIs}
 use Rattle.resolution.specs.Keeps.{CoreAlone}
 
 -- where an answer is written: record 1, and the first label
-abbrev pub front : Spot
+abbrev pub front : Place
 front = record { at = 1; label = 0 }
 
 -- listed types that a link of the sheet leads to: they have neither a name nor a nullability
-pub record Listed (space : Space) (s : List ℕ) (floor link : ℕ) (types : Fields) : Type 0 where
+pub record ListedTypes (space : Space) (s : List ℕ) (floor link : ℕ) (types : Fields) : Type 0 where
   pub at : ℕ
   pub label : ℕ
   pub held : Held space s floor link at label 0 types
@@ -38,7 +38,7 @@ pub record Fits (space : Space) (records bytes : ℕ) (types : Fields) : Type 0 
   pub short : bytes + length (labels types) ≤ space.m
 
 -- what an answer in work space says
-abbrev pub AnswerIs : Space → List ℕ → Out → Option DataType → Type 0
+abbrev pub AnswerIs : Space → List ℕ → Written → Option DataType → Type 0
 AnswerIs space v (Ok d) None = ⊥
 AnswerIs space v (Ok d) (Some t) = Wrote space v front d (single t)
 AnswerIs space v (Err NoType) None = Unit
@@ -46,7 +46,7 @@ AnswerIs space v (Err NoType) (Some t) = ⊥
 AnswerIs space v (Err Full) m = ⊥
 
 -- what was written ends within the room
-abbrev pub Enclosed : Space → Out → Type 0
+abbrev pub Enclosed : Space → Written → Type 0
 Enclosed space (Ok d) = Inside space d
 Enclosed space (Err NoType) = Unit
 Enclosed space (Err Full) = Unit
@@ -57,22 +57,22 @@ pub record Within (space : Space) (w v : List ℕ) : Type 0 where
   pub above : (j : ℕ) → 2 * space.half ≤ j → get_or v j 0 ≡ get_or w j 0
 
 -- the answer for the types at a link past floor
-pub record Reached (answer : List DataType → Option DataType) (space : Space) (s w v : List ℕ) (floor link : ℕ) (o : Out) : Type 0 where
+pub record Reached (answer : List DataType → Option DataType) (space : Space) (s w v : List ℕ) (floor link : ℕ) (o : Written) : Type 0 where
   pub within : Within space w v
-  pub means : (types : Fields) → Listed space s floor link types → Fits space 0 0 types → AnswerIs space v o (answer (types_of types))
+  pub means : (types : Fields) → ListedTypes space s floor link types → Fits space 0 0 types → AnswerIs space v o (answer (types_of types))
 
 -- a candidate that stands at the front of the second half, up to d, and may stand in a sheet
-pub record Candidate (space : Space) (w : List ℕ) (d : Spot) (c : DataType) : Type 0 where
+pub record Candidate (space : Space) (w : List ℕ) (d : Place) (c : DataType) : Type 0 where
   pub wrote : Wrote space w front d (single c)
   pub right : FieldsRight 0 (single c)
   pub differ : names_differ (single c) ≡ true
 
 -- a type of the sheet changes only the core of the candidate
-pub record Cored (rules : Rules) (space : Space) (s w : List ℕ) (link : ℕ) (d : Spot) : Type 0 where
+pub record Cored (rules : Rules) (space : Space) (s w : List ℕ) (link : ℕ) (d : Place) : Type 0 where
   pub is : (x c : DataType) → Typed space s link x → Candidate space w d c → CoreAlone rules x c
 
 -- the candidate's bytes were moved to the first half, and nothing else has changed
-pub record Shifted (space : Space) (w v : List ℕ) (d : Spot) : Type 0 where
+pub record Shifted (space : Space) (w v : List ℕ) (d : Place) : Type 0 where
   pub long : length v ≡ length w
   pub records : (j : ℕ) → j < 16 * d.at → get_or v j 0 ≡ get_or w (space.half + j) 0
   pub letters : (j : ℕ) → j < d.label → get_or v (16 * space.n + j) 0 ≡ get_or w (space.half + (16 * space.n + j)) 0
@@ -99,35 +99,35 @@ pub record Entry (space : Space) (s : List ℕ) (first : ℕ) (c : DataType) : T
   pub name : List ℕ
   pub nullable : Bool
   pub rest : Fields
-  pub listed : Listed space s floor first (field name nullable c.shape c.parts rest)
+  pub listed : ListedTypes space s floor first (field name nullable c.shape c.parts rest)
 
 -- what is known of where a type of the sheet differs from a candidate, which stands as `Is` says
 pub record Compared (known : Option ℕ) (named : Bool) (space : Space) (Is : DataType → Type 0) (s : List ℕ) (link : ℕ) : Type 0 where
   pub is : (x c : DataType) → Typed space s link x → Is c → Differs known named link x c
 
 -- a type of the sheet was merged with a candidate, which stands as `Is` says
-pub record Steps (coerce : DataType → DataType → Option DataType) (space : Space) (Is : DataType → Type 0) (s w v : List ℕ) (link : ℕ) (o : Out) : Type 0 where
+pub record Steps (coerce : DataType → DataType → Option DataType) (space : Space) (Is : DataType → Type 0) (s w v : List ℕ) (link : ℕ) (o : Written) : Type 0 where
   pub within : Within space w v
   pub inside : Enclosed space o
   pub means : (x c : DataType) → Typed space s link x → Is c → size x + size c < space.n → letters x + letters c ≤ space.m → AnswerIs space v o (coerce x c)
 
 -- such a candidate was folded with the types at a link past floor
-pub record Folds (fold : DataType → List DataType → Option DataType) (space : Space) (Is : DataType → Type 0) (s w v : List ℕ) (floor link : ℕ) (o : Out) : Type 0 where
+pub record Folds (fold : DataType → List DataType → Option DataType) (space : Space) (Is : DataType → Type 0) (s w v : List ℕ) (floor link : ℕ) (o : Written) : Type 0 where
   pub within : Within space w v
-  pub means : (c : DataType) (types : Fields) → Is c → Listed space s floor link types → Fits space (size c) (letters c) types → AnswerIs space v o (fold c (types_of types))
+  pub means : (c : DataType) (types : Fields) → Is c → ListedTypes space s floor link types → Fits space (size c) (letters c) types → AnswerIs space v o (fold c (types_of types))
 
 -- a type and those behind it, folded
 unfoldable pub fold_behind : Rules → DataType → List DataType → Option DataType
 fold_behind rules t ts = fold_types rules (t ∷ ts)
 
 -- a value was written as a candidate, whatever type it is
-pub record Fronted (space : Space) (w v : List ℕ) (x : Leaf) (d : Spot) : Type 0 where
+pub record Fronted (space : Space) (w v : List ℕ) (x : PlainType) (d : Place) : Type 0 where
   pub within : Within space w v
   pub inside : Inside space d
   pub candidate : (t : DataType) → Valued x t → Candidate space v d t
 
 -- an answer was written, whatever type it is
-pub record JointLaid (space : Space) (w v : List ℕ) (joint : Option Leaf) (o : Out) : Type 0 where
+pub record JointLaid (space : Space) (w v : List ℕ) (joint : Option PlainType) (o : Written) : Type 0 where
   pub within : Within space w v
   pub inside : Enclosed space o
   pub means : (answer : Option DataType) → JointIs Valued joint answer → AnswerIs space v o answer

@@ -4,7 +4,7 @@ use Rattle.sheet.specs.Types.{Shape, Fields, field}
 use Rattle.sheet.specs.Holds.{Leads}
 use Rattle.coercion.specs.Answers.{own_category, category_of}
 
-abbrev pub Found : List ℕ → ℕ → ℕ → ℕ → Type 0
-Found s n link k =
+abbrev pub CoreFound : List ℕ → ℕ → ℕ → ℕ → Type 0
+CoreFound s n link k =
     (floor i o : ℕ) (name : List ℕ) (nullable : Bool) (shape : Shape) (parts rest : Fields) → Leads s n floor link i o (field name nullable shape parts rest)
     → own_category k ≡ category_of shape parts

@@ -14,12 +14,12 @@ use crate::keep::{bottom_of, is_core_alone, keeps};
 use crate::resolver::Resolver;
 use buffers::alike::{differ_heads, differ_type};
 use buffers::sides::Sides;
-use buffers::{Failure, Out, Spot};
+use buffers::{Failure, Place, Written};
 use coercion::Rules;
 use merge::Merger;
 use merge::known::Known;
 use plain::taken::{is_taken, taken_kinds};
-use plain::value::{Leaf, common_type, is_plain, leaf_of};
+use plain::value::{PlainType, common_type, is_plain, plain_type_of};
 use sheet::kind;
 use sheet::record::head_at;
 
@@ -42,7 +42,7 @@ impl<'a> Resolver<'a> {
     // Copies the type at a link of the sheet to the front, with its name and nullability. Inlined,
     // so that the loop before it keeps the sheet in registers.
     #[inline(always)]
-    fn copy_listed(&self, work: &mut [u8], link: usize) -> Out
+    fn copy_listed(&self, work: &mut [u8], link: usize) -> Written
         requires { Room work.old self.now.space }
         ensures { CopiedField self.now.space self.now.sheet.now work.old work.new link (record { at = 1; label = 0 }) result }
     {
@@ -56,12 +56,12 @@ impl<'a> Resolver<'a> {
 
     // The common type, in a list, of the type at a link and the candidate that ends at d, of which
     // it is known where they differ; it takes the candidate's place.
-    fn step(&self, work: &mut [u8], known: usize, at: usize, d: Spot) -> Out
+    fn step(&self, work: &mut [u8], known: usize, at: usize, d: Place) -> Written
         requires room { Room work.old self.now.space × Inside self.now.space d }
         requires compared { Compared (Some known) true self.now.space (Candidate self.now.space work.old d) self.now.sheet.now at }
         ensures { Steps (coercion (for_list self.now.rules)) self.now.space (Candidate self.now.space work.old d) self.now.sheet.now work.old work.new at result }
     {
-        self.shift(work, d);
+        self.move_candidate_down(work, d);
         let merger = self.merger(self.rules.for_list(), false);
         let left = 2 * self.space.n;
         let known = Known {
@@ -74,7 +74,7 @@ impl<'a> Resolver<'a> {
 
     // The same of a candidate whose core is at a record. Where the core alone changes, only that is
     // written.
-    fn step_list(&self, work: &mut [u8], core: usize, link: usize, d: Spot) -> Out
+    fn step_list(&self, work: &mut [u8], core: usize, link: usize, d: Place) -> Written
         requires room { Room work.old self.now.space × Inside self.now.space d }
         requires core_at { CoreAt self.now.space (region self.now.space work.old) 1 core }
         ensures { Steps (coercion (for_list self.now.rules)) self.now.space (Candidate self.now.space work.old d) self.now.sheet.now work.old work.new link result }
@@ -87,7 +87,7 @@ impl<'a> Resolver<'a> {
     }
 
     // The same, whatever the candidate's core is. A type that is the candidate itself leaves it.
-    fn step_whole(&self, work: &mut [u8], link: usize, d: Spot) -> Out
+    fn step_whole(&self, work: &mut [u8], link: usize, d: Place) -> Written
         requires room { Room work.old self.now.space × Inside self.now.space d }
         ensures { Steps (coercion (for_list self.now.rules)) self.now.space (Candidate self.now.space work.old d) self.now.sheet.now work.old work.new link result }
     {
@@ -102,19 +102,19 @@ impl<'a> Resolver<'a> {
 
     // The common type of the types at two links of the sheet, of which something may be known. The
     // second is read from a copy of the sheet's bytes.
-    fn meet(
+    fn merge_pair(
         &self,
         work: &mut [u8],
         rules: Rules,
         known: Option<usize>,
         link: usize,
         other: usize,
-    ) -> Out
+    ) -> Written
         requires room { Room work.old self.now.space }
         requires compared { Compared known (is_list_question rules.question) self.now.space (Typed self.now.space self.now.sheet.now other) self.now.sheet.now link }
         ensures { Steps (coercion rules) self.now.space (Typed self.now.space self.now.sheet.now other) self.now.sheet.now work.old work.new link result }
     {
-        self.mirror(work);
+        self.copy_sheet_down(work);
         let merger = self.merger(rules, false);
         let known = Known {
             left: 2 * self.space.n,
@@ -126,7 +126,7 @@ impl<'a> Resolver<'a> {
 
     // The candidate that ends at d, folded with the types at a link past floor. Nulls are skipped.
     // For a type with parts the candidate's core is not looked for.
-    fn fold_from(&self, work: &mut [u8], floor: usize, link: usize, d: Spot) -> Out
+    fn fold_from(&self, work: &mut [u8], floor: usize, link: usize, d: Place) -> Written
         requires { Room work.old self.now.space × Inside self.now.space d }
         ensures { Folds (fold_from (for_list self.now.rules)) self.now.space (Candidate self.now.space work.old d) self.now.sheet.now work.old work.new floor link result }
     {
@@ -167,7 +167,7 @@ impl<'a> Resolver<'a> {
         first: usize,
         floor: usize,
         link: usize,
-    ) -> Out
+    ) -> Written
         requires room { Room work.old self.now.space }
         requires compared { Compared known true self.now.space (Typed self.now.space self.now.sheet.now first) self.now.sheet.now link }
         ensures { Folds (fold_from (for_list self.now.rules)) self.now.space (Entry self.now.space self.now.sheet.now first) self.now.sheet.now work.old work.new floor link result }
@@ -180,7 +180,7 @@ impl<'a> Resolver<'a> {
             }
             let h = head_at(self.sheet, at);
             if h.kind != kind::NULL {
-                let d = self.meet(work, self.rules.for_list(), known, at, first)?;
+                let d = self.merge_pair(work, self.rules.for_list(), known, at, first)?;
                 return self.fold_from(work, at, h.next, d);
             }
             known = None;
@@ -191,7 +191,7 @@ impl<'a> Resolver<'a> {
     }
 
     // A type without parts, written as a candidate and folded with the types at a link past floor.
-    fn fold_written(&self, work: &mut [u8], x: Leaf, floor: usize, link: usize) -> Out
+    fn fold_written(&self, work: &mut [u8], x: PlainType, floor: usize, link: usize) -> Written
         requires { Room work.old self.now.space × (x.size < 4294967296) }
         ensures { Folds (fold_from (for_list self.now.rules)) self.now.space (Valued x) self.now.sheet.now work.old work.new floor link result }
     {
@@ -201,7 +201,7 @@ impl<'a> Resolver<'a> {
 
     // A type without parts, folded with the types at a link past floor. The candidate is a value up
     // to the first type with parts, a zone or an order. Nulls are skipped.
-    fn fold_plain(&self, work: &mut [u8], first: Leaf, floor: usize, link: usize) -> Out
+    fn fold_plain(&self, work: &mut [u8], first: PlainType, floor: usize, link: usize) -> Written
         requires { Room work.old self.now.space × (first.size < 4294967296) }
         ensures { Folds (fold_from (for_list self.now.rules)) self.now.space (Valued first) self.now.sheet.now work.old work.new floor link result }
     {
@@ -217,7 +217,7 @@ impl<'a> Resolver<'a> {
             if !is_plain(h) {
                 return self.fold_written(work, candidate, last, at);
             }
-            let x = leaf_of(h);
+            let x = plain_type_of(h);
             if !is_taken(kinds, x) {
                 let Some(next) = common_type(self.rules.for_list(), x, candidate) else {
                     return Err(Failure::NoType);
@@ -240,20 +240,20 @@ impl<'a> Resolver<'a> {
         first: usize,
         floor: usize,
         link: usize,
-    ) -> Out
+    ) -> Written
         requires room { Room work.old self.now.space }
         requires compared { Compared known true self.now.space (Typed self.now.space self.now.sheet.now first) self.now.sheet.now link }
         ensures { Folds (fold_from (for_list self.now.rules)) self.now.space (Entry self.now.space self.now.sheet.now first) self.now.sheet.now work.old work.new floor link result }
     {
         let h = head_at(self.sheet, first);
         if is_plain(h) {
-            return self.fold_plain(work, leaf_of(h), floor, link);
+            return self.fold_plain(work, plain_type_of(h), floor, link);
         }
         self.fold_first(work, known, first, floor, link)
     }
 
     // The first type at a link past floor that is not Null, folded with those behind it.
-    fn fold_types(&self, work: &mut [u8], floor: usize, link: usize) -> Out
+    fn fold_types(&self, work: &mut [u8], floor: usize, link: usize) -> Written
         requires { Room work.old self.now.space }
         ensures { Reached (fold_types (for_list self.now.rules)) self.now.space self.now.sheet.now work.old work.new floor link result }
     {
@@ -282,7 +282,7 @@ impl<'a> Resolver<'a> {
         first: usize,
         floor: usize,
         link: usize,
-    ) -> Out
+    ) -> Written
         requires room { Room work.old self.now.space }
         requires compared { Compared known true self.now.space (Typed self.now.space self.now.sheet.now first) self.now.sheet.now link }
         ensures { Folds (fold_behind (for_list self.now.rules)) self.now.space (Entry self.now.space self.now.sheet.now first) self.now.sheet.now work.old work.new floor link result }
@@ -295,7 +295,7 @@ impl<'a> Resolver<'a> {
 
     /// `type_union_resolution`, of the types at a link. Types that are the same as the first leave
     /// it as it is: the fold begins at the first that is another.
-    pub(crate) fn type_union_resolution(&self, work: &mut [u8], link: usize) -> Out
+    pub(crate) fn type_union_resolution(&self, work: &mut [u8], link: usize) -> Written
         requires { Room work.old self.now.space × (0 < link) }
         ensures { Reached (type_union_resolution (for_list self.now.rules)) self.now.space self.now.sheet.now work.old work.new 0 link result }
     {
@@ -322,7 +322,7 @@ impl<'a> Resolver<'a> {
     }
 
     /// The common type of the two types at a link, where there are two.
-    pub(crate) fn pair(&self, work: &mut [u8], link: usize) -> Out
+    pub(crate) fn pair(&self, work: &mut [u8], link: usize) -> Written
         requires { Room work.old self.now.space × (0 < link) }
         ensures { Reached (pair_answer self.now.rules) self.now.space self.now.sheet.now work.old work.new 0 link result }
     {
@@ -336,9 +336,9 @@ impl<'a> Resolver<'a> {
             return Err(Failure::NoType);
         }
         if is_plain(x) && is_plain(y) {
-            let joint = common_type(self.rules, leaf_of(x), leaf_of(y));
+            let joint = common_type(self.rules, plain_type_of(x), plain_type_of(y));
             return self.lay_joint(work, joint);
         }
-        self.meet(work, self.rules, None, link, next)
+        self.merge_pair(work, self.rules, None, link, next)
     }
 }

@@ -12,7 +12,7 @@ use buffers::Space;
 use coercion::Rules;
 use plain::step::{Step, plain_heads};
 use plain::times::timeunit_coercion;
-use plain::value::{Leaf, common_type, is_plain, leaf_of};
+use plain::value::{PlainType, common_type, is_plain, plain_type_of};
 use sheet::record::head_at;
 use sheet::{Head, kind};
 
@@ -61,7 +61,7 @@ fn gives_way(v: Head, bottom: Bottom) -> bool
 }
 
 // Whether the common type of two types without parts, in a list, is a third.
-fn is_common(rules: Rules, x: Leaf, y: Leaf, z: Leaf) -> bool
+fn is_common(rules: Rules, x: PlainType, y: PlainType, z: PlainType) -> bool
     requires { (x.size < 4294967296) × (y.size < 4294967296) }
     ensures { result ≡ true → (l r t : DataType) → Valued x l → Valued y r → Valued z t → coercion (for_list rules) l r ≡ Some t }
 {
@@ -97,8 +97,8 @@ pub(crate) fn keeps(
     let v = head_at(second, bottom.core);
     let wrapped = kind::LIST <= head_at(second, 1).kind;
     if is_plain(x) && is_plain(v) {
-        let new = leaf_of(x);
-        let old = leaf_of(v);
+        let new = plain_type_of(x);
+        let old = plain_type_of(v);
         if wrapped {
             !gives_way(v, bottom) && is_common(rules, old, new, old)
         } else {

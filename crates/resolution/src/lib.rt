@@ -4,12 +4,12 @@
 #![tactic(auto)]
 
 mod category;
+mod down;
 mod fold;
 mod front;
 mod keep;
 mod list;
 mod resolver;
-mod shift;
 mod wrapped;
 
 ghost use Rattle.sheet.specs.Read.{start};
@@ -17,7 +17,7 @@ ghost use Rattle.coercion.specs.Answers.{answer_of};
 ghost use Rattle.buffers.specs.Region.{Room};
 ghost use Rattle.resolution.specs.Reached.{Reached};
 
-use buffers::{Failure, Out, Space};
+use buffers::{Failure, Space, Written};
 use coercion::Rules;
 use resolver::Resolver;
 
@@ -25,7 +25,7 @@ use resolver::Resolver;
 /// the common type of the two types. It is written at the front of the second half of the work
 /// space, its first record at number 1; `NoType` where there is none. What else stands in the two
 /// halves afterwards is left free.
-pub fn answer(sheet: &[u8], work: &mut [u8], space: Space, rules: Rules) -> Out
+pub fn answer(sheet: &[u8], work: &mut [u8], space: Space, rules: Rules) -> Written
     requires { Room work.old space }
     ensures { Reached (answer_of rules.question rules) space sheet.now work.old work.new 0 (start space.n) result }
 {

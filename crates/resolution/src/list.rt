@@ -4,9 +4,9 @@ ghost use Rattle.std.specs.Prelude.{◌≡◌};
 ghost use Rattle.sheet.specs.Types.{Fields};
 ghost use Rattle.coercion.specs.Data.{types_of};
 ghost use Rattle.coercion.specs.Answers.{categories_fit};
-ghost use Rattle.resolution.specs.Reached.{Listed, seen_bits};
+ghost use Rattle.resolution.specs.Reached.{ListedTypes, seen_bits};
 
-use crate::category::core_kind;
+use crate::category::category_kind;
 use crate::resolver::Resolver;
 use plain::category::{is_mixed, is_supported, with_category};
 use sheet::record::head_at;
@@ -17,7 +17,7 @@ impl Resolver<'_> {
     // its own.
     #[inline(never)]
     fn categories(&self, link: usize) -> u8
-        ensures { (ts : Fields) → Listed self.now.space self.now.sheet.now 0 link ts → result ≡ seen_bits 0 (types_of ts) }
+        ensures { (ts : Fields) → ListedTypes self.now.space self.now.sheet.now 0 link ts → result ≡ seen_bits 0 (types_of ts) }
     {
         let mut bits = 0;
         let mut last = 0;
@@ -26,7 +26,7 @@ impl Resolver<'_> {
             if self.space.n <= at {
                 return bits;
             }
-            let kind = core_kind(self.sheet, self.space.n, at);
+            let kind = category_kind(self.sheet, self.space.n, at);
             if !is_supported(kind) {
                 return 255;
             }
@@ -39,7 +39,7 @@ impl Resolver<'_> {
 
     /// Whether the categories of the types at a link allow an answer.
     pub(crate) fn is_fitting(&self, link: usize) -> bool
-        ensures { (ts : Fields) → Listed self.now.space self.now.sheet.now 0 link ts → result ≡ categories_fit (types_of ts) }
+        ensures { (ts : Fields) → ListedTypes self.now.space self.now.sheet.now 0 link ts → result ≡ categories_fit (types_of ts) }
     {
         !is_mixed(self.categories(link))
     }

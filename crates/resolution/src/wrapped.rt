@@ -6,7 +6,7 @@ ghost use Rattle.buffers.specs.Region.{Room, Inside};
 ghost use Rattle.resolution.specs.Reached.{Candidate, Cored, Steps};
 
 use crate::resolver::Resolver;
-use buffers::{Failure, Goal, Out, Spot};
+use buffers::{Failure, Place, Target, Written};
 use merge::known::Known;
 use sheet::figure::label_bytes;
 use sheet::record::head_at;
@@ -15,7 +15,7 @@ impl Resolver<'_> {
     /// The common type of the type at a link and such a candidate that ends at `d`, where only the
     /// core changes. The core's record is the last, and so are its labels: it is written anew, and
     /// the wrappers stay.
-    pub(crate) fn step_core(&self, work: &mut [u8], link: usize, d: Spot) -> Out
+    pub(crate) fn step_core(&self, work: &mut [u8], link: usize, d: Place) -> Written
         requires room { Room work.old self.now.space × Inside self.now.space d }
         requires cored { Cored (for_list self.now.rules) self.now.space self.now.sheet.now work.old link d }
         ensures { Steps (coercion (for_list self.now.rules)) self.now.space (Candidate self.now.space work.old d) self.now.sheet.now work.old work.new link result }
@@ -29,13 +29,13 @@ impl Resolver<'_> {
         if d.label < own {
             return Err(Failure::NoType);
         }
-        let g = Goal {
+        let g = Target {
             at,
             label: d.label - own,
-            nlen: h.nlen,
+            name_len: h.name_len,
             nullable: h.nullable(),
         };
-        self.shift(work, d);
+        self.move_candidate_down(work, d);
         let merger = self.merger(self.rules.for_list(), true);
         let known = Known {
             left: 2 * self.space.n,

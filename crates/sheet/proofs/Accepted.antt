@@ -18,17 +18,17 @@ use Rattle.sheet.specs.Refusals.{all_zero, torn, any_from, bad_kind, linked, bad
 use Rattle.sheet.specs.Laws.{AcceptedEncode, AcceptedCarried, AcceptedSame}
 use Rattle.sheet.specs.Carried.{FieldsRight, Carried}
 use Rattle.sheet.specs.Holds.{Plain, Span, Holds}
-use Rattle.sheet.proofs.Tests.{all_at, one_at, or_fst, or_snd, and_fst, and_snd}
+use Rattle.sheet.proofs.Booleans.{all_at, one_at, or_fst, or_snd, and_fst, and_snd}
 use Rattle.sheet.proofs.Spans.{at_eq, at_span}
 use Rattle.sheet.proofs.Chains.{holds_encode}
 use Rattle.sheet.proofs.Accepting as Accepting
 
 -- a head is made of bytes
-head_bytes : (s : List ℕ) (r : ℕ) → Plain s → ((head_at s r).scale < 256) × ((head_at s r).nlen < 256)
+head_bytes : (s : List ℕ) (r : ℕ) → Plain s → ((head_at s r).scale < 256) × ((head_at s r).name_len < 256)
 unfolding head_at
 head_bytes s r plain = go (ltb r (length s / 16))
   where
-    go : (b : Bool) → ((cond b (head_from s (16 * r)) blank).scale < 256) × ((cond b (head_from s (16 * r)) blank).nlen < 256)
+    go : (b : Bool) → ((cond b (head_from s (16 * r)) blank).scale < 256) × ((cond b (head_from s (16 * r)) blank).name_len < 256)
     go true = (plain (16 * r + 3), plain (16 * r + 14))
     go false = (omega arith, omega arith)
 
@@ -81,7 +81,7 @@ module _ (s : List ℕ) (n : ℕ) (plain : Plain s) (long : length s ≡ 16 * n 
       let w' : any_wrong s (ps ++ (qs ++ ms)) ≡ false = rw (append_assoc ps qs ms) at (or_snd (not (record_right h up)) _ w) in
       let m' : misplaced s (o + labelled h) (ps ++ (qs ++ ms)) ≡ false = rw (append_assoc ps qs ms) at (or_snd (not (label_right h up o)) _ m) in
       let in' : o + labelled h ≤ labels_of s = misplaced_le s (o + labelled h) (ps ++ (qs ++ ms)) m' in
-      let name = label_at s n h.name h.nlen in
+      let name = label_at s n h.name h.name_len in
       let i = o + length (own_labels name (shape_of s n h)) in
       let e : labelled h ≡ length (own_labels name (shape_of s n h)) = sym (Accepting.own_labelled s n plain long h up o right placed in') in
       let a = inner i (qs ++ ms) (all_at _ 2 l) w' (rw e at m') in

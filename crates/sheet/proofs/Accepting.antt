@@ -9,7 +9,7 @@ use lib.ListN.{length, get_or, take, drop, length-append, length-take, get_or-eq
 use lib.Seq.{get_or-take, get_or-drop}
 use lib.Dec.{eqb, ltb}
 use borrow.Author.Tests.{eq-eqb, ne_eqb, ltb-true, eqb-true}
-use Rattle.sheet.specs.Tests.{implies}
+use Rattle.sheet.specs.Booleans.{implies}
 use Rattle.sheet.specs.Kind.{is_kind, parts_right}
 use Rattle.sheet.specs.Types.{absent, present, Fields, arity, zone_bytes, own_labels}
 use Rattle.sheet.specs.Head.{nullable_in, zoned_in, size_in, zone_at, zone_len, labelled}
@@ -19,7 +19,7 @@ use Rattle.sheet.specs.Refusals.{record_right, placed, label_right}
 use Rattle.sheet.specs.Carried.{Label, is_named, is_zoned, FieldRight}
 use Rattle.sheet.specs.Holds.{Plain, Span}
 use Rattle.sheet.specs.declared.Head.{Head}
-use Rattle.sheet.proofs.Tests.{all_at}
+use Rattle.sheet.proofs.Booleans.{all_at}
 use Rattle.sheet.proofs.Spans.{part_length, span_join, span_nil, span_move}
 
 -- byte 1 is what it says
@@ -75,17 +75,17 @@ module _ (s : List ℕ) (n : ℕ) (plain : Plain s) (long : length s ≡ 16 * n 
   -- a record that has nothing of 4 and 5, h its head and o the place of its labels
   module _ (h : Head) (up o : ℕ) (right : record_right h up ≡ true) (placed' : label_right h up o ≡ true) (in' : o + labelled h ≤ labels_of s) where
     abbrev name : List ℕ
-    name = label_at s n h.name h.nlen
+    name = label_at s n h.name h.name_len
 
-    name_placed : placed o h.name h.nlen ≡ true
+    name_placed : placed o h.name h.name_len ≡ true
     unfolding label_right
     name_placed = all_at _ 0 placed'
 
-    name_inside : o + h.nlen ≤ labels_of s
+    name_inside : o + h.name_len ≤ labels_of s
     name_inside = omega (arith, in')
 
-    name_length_lem : length name ≡ h.nlen
-    name_length_lem = label_length o h.name h.nlen name_inside name_placed
+    name_length_lem : length name ≡ h.name_len
+    name_length_lem = label_length o h.name h.name_len name_inside name_placed
 
     flags_right : h.flags < 8
     unfolding record_right
@@ -93,37 +93,37 @@ module _ (s : List ℕ) (n : ℕ) (plain : Plain s) (long : length s ≡ 16 * n 
 
     -- the zone, where there is one
     module _ (z : zoned_in h ≡ true) where
-      zone_placed : placed (o + h.nlen) (zone_at h) (zone_len h) ≡ true
+      zone_placed : placed (o + h.name_len) (zone_at h) (zone_len h) ≡ true
       unfolding label_right
       zone_placed =
-          let g : implies (zoned_in h) (placed (o + h.nlen) (zone_at h) (zone_len h)) ≡ true = all_at _ 2 placed' in
+          let g : implies (zoned_in h) (placed (o + h.name_len) (zone_at h) (zone_len h)) ≡ true = all_at _ 2 placed' in
           rw z at g
 
-      zone_inside : o + h.nlen + zone_len h ≤ labels_of s
+      zone_inside : o + h.name_len + zone_len h ≤ labels_of s
       zone_inside =
-          let g : o + (h.nlen + cond (zoned_in h) (zone_len h) 0) ≤ labels_of s = in' in
-          let g' : o + (h.nlen + zone_len h) ≤ labels_of s = rw z at g in
+          let g : o + (h.name_len + cond (zoned_in h) (zone_len h) 0) ≤ labels_of s = in' in
+          let g' : o + (h.name_len + zone_len h) ≤ labels_of s = rw z at g in
           omega arith
 
       zone_length_lem : length (label_at s n (zone_at h) (zone_len h)) ≡ zone_len h
-      zone_length_lem = label_length (o + h.nlen) (zone_at h) (zone_len h) zone_inside zone_placed
+      zone_length_lem = label_length (o + h.name_len) (zone_at h) (zone_len h) zone_inside zone_placed
 
-      quad_low : h.quad < 16777216
+      quad_low : h.bytes_4_7 < 16777216
       unfolding record_right
       quad_low =
-          let g : implies (zoned_in h) (ltb h.quad 16777216) ≡ true = all_at _ 3 right in
-          ltb-true h.quad 16777216 (rw z at g)
+          let g : implies (zoned_in h) (ltb h.bytes_4_7 16777216) ≡ true = all_at _ 3 right in
+          ltb-true h.bytes_4_7 16777216 (rw z at g)
 
-      quad_zone : offset (o + length name) (label_at s n (zone_at h) (zone_len h)) + 65536 * length (label_at s n (zone_at h) (zone_len h)) ≡ h.quad
+      quad_zone : offset (o + length name) (label_at s n (zone_at h) (zone_len h)) + 65536 * length (label_at s n (zone_at h) (zone_len h)) ≡ h.bytes_4_7
       quad_zone =
-          let e : offset (o + h.nlen) (label_at s n (zone_at h) (zone_len h)) ≡ zone_at h =
-          offset_made (o + h.nlen) (label_at s n (zone_at h) (zone_len h)) (zone_at h) (zone_len h) zone_length_lem zone_placed in
+          let e : offset (o + h.name_len) (label_at s n (zone_at h) (zone_len h)) ≡ zone_at h =
+          offset_made (o + h.name_len) (label_at s n (zone_at h) (zone_len h)) (zone_at h) (zone_len h) zone_length_lem zone_placed in
           rw name_length_lem (omega (arith, e, zone_length_lem, quad_low))
 
-    quad_made : quad_of (o + length name) (size_in h) (zone_of s n h) ≡ h.quad
+    quad_made : quad_of (o + length name) (size_in h) (zone_of s n h) ≡ h.bytes_4_7
     quad_made = go (zoned_in h) refl
       where
-        go : (b : Bool) → zoned_in h ≡ b → quad_of (o + length name) (cond b 0 h.quad) (cond b (present (label_at s n (zone_at h) (zone_len h))) absent) ≡ h.quad
+        go : (b : Bool) → zoned_in h ≡ b → quad_of (o + length name) (cond b 0 h.bytes_4_7) (cond b (present (label_at s n (zone_at h) (zone_len h))) absent) ≡ h.bytes_4_7
         go true z = quad_zone z
         go false z = refl
 
@@ -132,27 +132,27 @@ module _ (s : List ℕ) (n : ℕ) (plain : Plain s) (long : length s ≡ 16 * n 
     head_made =
         let e = sym (flags_made h.flags (label_at s n (zone_at h) (zone_len h)) flags_right) in
         let q = sym quad_made in
-        let a = sym (offset_made o name h.name h.nlen name_length_lem name_placed) in
+        let a = sym (offset_made o name h.name h.name_len name_length_lem name_placed) in
         let l = sym name_length_lem in
-        let z = eqb-true h.last 0 (all_at _ 4 right) in
-        λ i. record { kind = h.kind; flags = e i; figure = h.figure; scale = h.scale; quad = q i; first = h.first; next = h.next; name = a i; nlen = l i; last = z i }
+        let z = eqb-true h.byte_15 0 (all_at _ 4 right) in
+        λ i. record { kind = h.kind; flags = e i; figure = h.figure; scale = h.scale; bytes_4_7 = q i; first = h.first; next = h.next; name = a i; name_len = l i; byte_15 = z i }
 
     zone_span : Span s (16 * n + o + length name) (zone_bytes (zone_of s n h))
     zone_span = go (zoned_in h) refl
       where
         go : (b : Bool) → zoned_in h ≡ b → Span s (16 * n + o + length name) (zone_bytes (cond b (present (label_at s n (zone_at h) (zone_len h))) absent))
         go true z =
-            span_move (omega (arith, name_length_lem)) (label_span (o + h.nlen) (zone_at h) (zone_len h) (zone_inside z) (zone_placed z))
+            span_move (omega (arith, name_length_lem)) (label_span (o + h.name_len) (zone_at h) (zone_len h) (zone_inside z) (zone_placed z))
         go false z = span_nil
 
     pub own_span : Span s (16 * n + o) (own_labels name (shape_of s n h))
-    own_span = span_join name (zone_bytes (zone_of s n h)) (label_span o h.name h.nlen name_inside name_placed) zone_span
+    own_span = span_join name (zone_bytes (zone_of s n h)) (label_span o h.name h.name_len name_inside name_placed) zone_span
 
     zone_label : Label (zone_bytes (zone_of s n h))
     zone_label = go (zoned_in h) refl
       where
         go : (b : Bool) → zoned_in h ≡ b → Label (zone_bytes (cond b (present (label_at s n (zone_at h) (zone_len h))) absent))
-        go true z = label_label (o + h.nlen) (zone_at h) (zone_len h) (omega arith) (zone_inside z) (zone_placed z)
+        go true z = label_label (o + h.name_len) (zone_at h) (zone_len h) (omega arith) (zone_inside z) (zone_placed z)
         go false z = record { short = omega arith; plain = λ i. omega arith }
 
     pub own_labelled : length (own_labels name (shape_of s n h)) ≡ labelled h
@@ -169,14 +169,14 @@ module _ (s : List ℕ) (n : ℕ) (plain : Plain s) (long : length s ≡ 16 * n 
         go true = refl
         go false = refl
 
-    named_is : is_named name ≡ not (eqb h.nlen 0)
-    named_is = go name h.nlen name_length_lem
+    named_is : is_named name ≡ not (eqb h.name_len 0)
+    named_is = go name h.name_len name_length_lem
       where
         go : (l : List ℕ) (k : ℕ) → length l ≡ k → is_named l ≡ not (eqb k 0)
         go [] k e = rw (eq-eqb k 0 (sym e))
         go (b ∷ bs) k e = rw (ne_eqb k 0 (omega arith))
 
-    pub field_made : (parts : Fields) → is_kind h.kind ≡ true → parts_right h.kind (arity parts) ≡ true → h.scale < 256 → h.nlen < 256
+    pub field_made : (parts : Fields) → is_kind h.kind ≡ true → parts_right h.kind (arity parts) ≡ true → h.scale < 256 → h.name_len < 256
         → FieldRight up name (nullable_in h) (shape_of s n h) parts
     unfolding record_right label_right
     field_made parts k f c l =
@@ -187,6 +187,6 @@ module _ (s : List ℕ) (n : ℕ) (plain : Plain s) (long : length s ≡ 16 * n 
           byte = c;
           may_be_null = all_at _ 1 right;
           may_be_named = rw named_is (all_at _ 1 placed');
-          own_name = label_label o h.name h.nlen l name_inside name_placed;
+          own_name = label_label o h.name h.name_len l name_inside name_placed;
           own_zone = zone_label;
         }

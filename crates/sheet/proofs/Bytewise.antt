@@ -7,7 +7,7 @@ use lib.Dec.{eqb}
 use lib.ListN.{length, drop, drop_of_length-le}
 use borrow.Author.Tests.{eq-eqb, eqb-true}
 use Rattle.sheet.specs.Names.{same_bytes}
-use Rattle.sheet.proofs.Tests.{and_fst, and_snd, never}
+use Rattle.sheet.proofs.Booleans.{and_fst, and_snd, never}
 
 and_false : (b : Bool) → b && false ≡ false
 and_false true = refl

@@ -8,7 +8,7 @@ use native.Mathlib.Decide.{dec_lt, ℕ_discrete}
 use lib.ListN.{length, get_or, take, drop, length-append, replicate}
 use lib.Dec.{eqb, ltb}
 use borrow.Author.Tests.{eq-eqb, ne_eqb, lt-ltb, le-ltb}
-use Rattle.sheet.specs.Tests.{implies}
+use Rattle.sheet.specs.Booleans.{implies}
 use Rattle.sheet.specs.Kind.{is_kind, names_parts}
 use Rattle.sheet.specs.Types.{Zone, absent, present, Shape, Fields, end, field, count, zone_bytes, own_labels, labels}
 use Rattle.sheet.specs.Head.{head_at, labelled}
@@ -17,7 +17,7 @@ use Rattle.sheet.specs.Read.{records_of, labels_of, start, read}
 use Rattle.sheet.specs.Refusals.{all_zero, torn, any_from, bad_kind, linked, bad_chain, Met, met, record_right, any_wrong, bad_figure, placed, label_right, misplaced, bad_label, refusal}
 use Rattle.sheet.specs.Carried.{Label, is_named, is_zoned, FieldRight, FieldsRight, Carried}
 use Rattle.sheet.specs.Holds.{Span, Holds}
-use Rattle.sheet.proofs.Tests.{all_nil, all_cons, one_nil, one_cons, not_of}
+use Rattle.sheet.proofs.Booleans.{all_nil, all_cons, one_nil, one_cons, not_of}
 use Rattle.sheet.proofs.Spans.{at_eq, span_left, span_right, span_whole, span_at}
 use Rattle.sheet.proofs.Chains.{encode_holds, encode_length}
 use Rattle.sheet.proofs.Reading.{flag_nullable, flag_sorted, flag_zone, quad_place, quad_length, size_back, holds_walk}

@@ -53,12 +53,12 @@ module _ (s : List ℕ) (i : ℕ) (plain : Plain s) where
         flags = (ap (λ (x : ℕ). x / 256 % 256) ea ∙ quad1 i) t;
         figure = (ap (λ (x : ℕ). x / 65536 % 256) ea ∙ quad2 i) t;
         scale = (ap (λ (x : ℕ). x / 16777216) ea ∙ quad3 i ∙ at_eq s e3) t;
-        quad = eb t;
+        bytes_4_7 = eb t;
         first = (ap (λ (x : ℕ). x % 65536) ec ∙ low16 (i + 8)) t;
         next = (ap (λ (x : ℕ). x / 65536) ec ∙ high16 (i + 8) ∙ ap (word s) e10) t;
         name = (ap (λ (x : ℕ). x % 65536) ed ∙ low16 (i + 12)) t;
-        nlen = (ap (λ (x : ℕ). x / 65536 % 256) ed ∙ quad2 (i + 12) ∙ at_eq s e14) t;
-        last = (ap (λ (x : ℕ). x / 16777216) ed ∙ quad3 (i + 12) ∙ at_eq s e15) t;
+        name_len = (ap (λ (x : ℕ). x / 65536 % 256) ed ∙ quad2 (i + 12) ∙ at_eq s e14) t;
+        byte_15 = (ap (λ (x : ℕ). x / 16777216) ed ∙ quad3 (i + 12) ∙ at_eq s e15) t;
       }
 
   byte : (j : ℕ) → j < 16 → get_or s (i + j) 0 ≡ get_or (bytes_of (head_from s i)) j 0
@@ -89,10 +89,10 @@ pub head_span : (s : List ℕ) (r : ℕ) → Plain s → 16 * r + 16 ≤ length 
 head_span s r plain h =
     rw (head_inside s r h) (at_span s (16 * r) (bytes_of (head_from s (16 * r))) (omega arith) (byte s (16 * r) plain))
 
-head_path : {h g : Head} → h.kind ≡ g.kind → h.flags ≡ g.flags → h.figure ≡ g.figure → h.scale ≡ g.scale → h.quad ≡ g.quad
-    → h.first ≡ g.first → h.next ≡ g.next → h.name ≡ g.name → h.nlen ≡ g.nlen → h.last ≡ g.last → h ≡ g
+head_path : {h g : Head} → h.kind ≡ g.kind → h.flags ≡ g.flags → h.figure ≡ g.figure → h.scale ≡ g.scale → h.bytes_4_7 ≡ g.bytes_4_7
+    → h.first ≡ g.first → h.next ≡ g.next → h.name ≡ g.name → h.name_len ≡ g.name_len → h.byte_15 ≡ g.byte_15 → h ≡ g
 head_path a b c d e f g h j k =
-    λ i. record { kind = a i; flags = b i; figure = c i; scale = d i; quad = e i; first = f i; next = g i; name = h i; nlen = j i; last = k i }
+    λ i. record { kind = a i; flags = b i; figure = c i; scale = d i; bytes_4_7 = e i; first = f i; next = g i; name = h i; name_len = j i; byte_15 = k i }
 
 -- bytes that are those of a head hold it
 pub span_head : (s : List ℕ) (r : ℕ) (h : Head) → Span s (16 * r) (bytes_of h) → head_at s r ≡ h

@@ -1,6 +1,6 @@
 pub mod Spans
 pub mod Heads
-pub mod Tests
+pub mod Booleans
 pub mod Chains
 pub mod Reading
 pub mod Carrying

@@ -16,7 +16,7 @@ use Rattle.sheet.specs.Refusals.{figures_right, size_right}
 use Rattle.sheet.specs.Carried.{Label, FieldRight, FieldsRight, is_zoned}
 use Rattle.sheet.specs.Holds.{Span, Stands, Holds}
 use Rattle.sheet.specs.declared.Head.{Head}
-use Rattle.sheet.proofs.Tests.{all_at}
+use Rattle.sheet.proofs.Booleans.{all_at}
 use Rattle.sheet.proofs.Spans.{span_left, span_right, span_move}
 
 -- the link to the listed types

@@ -20,9 +20,9 @@ module _ (s : List ℕ) (n floor link r o : ℕ) (name : List ℕ) (nullable : B
   pub head_is : h ≡ head_of o name nullable shape (link_to (r + 1) parts) (link_to (r + 1 + count parts) rest)
   head_is = e ∙ ap (head_at s) l.is ∙ l.holds.0.head
 
-  pub name_is : label_at s n h.name h.nlen ≡ name
+  pub name_is : label_at s n h.name h.name_len ≡ name
   name_is =
-      ap (λ (x : Head). label_at s n x.name x.nlen) head_is ∙ label_back s n o name (span_left name (zone_bytes shape.zone) l.holds.0.label)
+      ap (λ (x : Head). label_at s n x.name x.name_len) head_is ∙ label_back s n o name (span_left name (zone_bytes shape.zone) l.holds.0.label)
 
   pub kind_is : h.kind ≡ shape.kind
   kind_is = ap (λ (x : Head). x.kind) head_is

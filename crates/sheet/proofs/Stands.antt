@@ -47,7 +47,7 @@ module _ {s : List ℕ} {at : ℕ} {name : List ℕ} {nullable : Bool} {shape : 
 
   pub stands_name : name_at s at ≡ name
   stands_name =
-      ap (λ (h : Head). label_at s (records_of s) h.name h.nlen) stands_head
+      ap (λ (h : Head). label_at s (records_of s) h.name h.name_len) stands_head
       ∙ label_back s (records_of s) a.o name (span_left name (zone_bytes shape.zone) a.leads.holds.0.label)
 
   pub stands_first : StandsAt s (first_at s at) parts

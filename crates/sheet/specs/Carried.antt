@@ -3,7 +3,7 @@ use Rattle.std.specs.Prelude.{◌≡◌, ℕ, ◌+◌, ◌<◌, ◌≤◌, Bool,
 use Rattle.sheet.specs.Kind.{is_kind, parts_right, names_parts}
 use Rattle.sheet.specs.Types.{Zone, absent, present, Shape, Fields, end, field, arity, count, zone_bytes, labels}
 use Rattle.sheet.specs.Names.{names_differ}
-use Rattle.sheet.specs.Tests.{implies}
+use Rattle.sheet.specs.Booleans.{implies}
 use Rattle.sheet.specs.Refusals.{figures_right}
 use Rattle.sheet.specs.declared.limits.TheConstants.{MOST_RECORDS, MOST_LABEL_BYTES, LONGEST_LABEL}
 

@@ -39,12 +39,12 @@ head_of o name nullable shape first next =
       flags = flags_of nullable shape.sorted shape.zone;
       figure = shape.figure;
       scale = shape.scale;
-      quad = quad_of (o + length name) shape.size shape.zone;
+      bytes_4_7 = quad_of (o + length name) shape.size shape.zone;
       first = first;
       next = next;
       name = offset o name;
-      nlen = length name;
-      last = 0;
+      name_len = length name;
+      byte_15 = 0;
     }
 
 -- the records of a chain from number r on, whose labels begin at o: a record, then its parts, then its next

@@ -1,7 +1,7 @@
 -- The kinds of a record, and what belongs to each. "Byte 0 is the kind, a number from 1 to 38." The numbers stand in
 -- src/kind.rt.
 use Rattle.std.specs.Prelude.{ℕ, Bool, cond, ◌||◌, ◌&&◌, eqb}
-use Rattle.sheet.specs.Tests.{between}
+use Rattle.sheet.specs.Booleans.{between}
 use Rattle.sheet.specs.declared.kind.TheConstants as Kind
 
 -- a kind is one of 1 to 38

@@ -1,4 +1,4 @@
-pub mod Tests
+pub mod Booleans
 pub mod Kind
 pub mod Types
 pub mod Head

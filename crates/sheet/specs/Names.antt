@@ -1,6 +1,6 @@
 -- Names: byte strings that are equal or not. "The fields of one Struct have names that differ."
 use Rattle.std.specs.Prelude.{ℕ, ◌+◌, ◌*◌, ◌/◌, ◌%◌, Bool, true, false, not, ◌&&◌, ◌||◌, List, [], ◌∷◌, eqb}
-use Rattle.sheet.specs.Tests.{all_of}
+use Rattle.sheet.specs.Booleans.{all_of}
 use Rattle.sheet.specs.declared.kind.TheConstants as Kind
 use Rattle.sheet.specs.Types.{Fields, end, field}
 

@@ -23,7 +23,7 @@ shape_of s n h =
     record { kind = h.kind; figure = h.figure; scale = h.scale; size = size_in h; sorted = sorted_in h; zone = zone_of s n h }
 
 abbrev pub field_of : List ℕ → ℕ → Head → Fields → Fields → Fields
-field_of s n h parts rest = field (label_at s n h.name h.nlen) (nullable_in h) (shape_of s n h) parts rest
+field_of s n h parts rest = field (label_at s n h.name h.name_len) (nullable_in h) (shape_of s n h) parts rest
 
 -- "The walk takes a record, next its parts, and then the record that follows it in its chain."
 -- "It has to meet the records 1, 2, and so on up to n − 1 in exactly this order."

@@ -26,7 +26,7 @@ next_at s r = (type_at s r).next
 
 -- "Bytes 12 and 13 are the offset of the name, and byte 14 is its length."
 abbrev pub name_at : List ℕ → ℕ → List ℕ
-name_at s r = label_at s (records_of s) (type_at s r).name (type_at s r).nlen
+name_at s r = label_at s (records_of s) (type_at s r).name (type_at s r).name_len
 
 abbrev pub entry_at : List ℕ → ℕ → Entry
 entry_at s r = record { kind = kind_at s r; first = first_at s r; next = next_at s r }

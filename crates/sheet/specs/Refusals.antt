@@ -1,6 +1,6 @@
 -- The refusals 1 to 5. "Each condition is stated over any bytes, and by itself."
 use Rattle.std.specs.Prelude.{ℕ, zero, suc, ◌+◌, ◌*◌, ◌-◌, ◌%◌, Bool, true, false, cond, not, ◌&&◌, ◌||◌, List, [], ◌∷◌, ◌++◌, length, take, drop, leb, ltb, eqb, Result, Ok, Err}
-use Rattle.sheet.specs.Tests.{all_of, one_of, implies}
+use Rattle.sheet.specs.Booleans.{all_of, one_of, implies}
 use Rattle.sheet.specs.declared.kind.TheConstants as Kind
 use Rattle.sheet.specs.Kind.{is_kind, is_decimal, cap, sized, last_unit, parts_right, names_parts}
 use Rattle.sheet.specs.Types.{Fields, end, field, arity, count}
@@ -99,8 +99,8 @@ record_right h up =
     (figures_right h.kind h.figure h.scale (size_in h) (sorted_in h) (zoned_in h)
     ∷ implies (nullable_in h) (names_parts up)
     ∷ ltb h.flags 8
-    ∷ implies (zoned_in h) (ltb h.quad 16777216)
-    ∷ eqb h.last 0
+    ∷ implies (zoned_in h) (ltb h.bytes_4_7 16777216)
+    ∷ eqb h.byte_15 0
     ∷ [])
 
 unfoldable pub any_wrong : List ℕ → List Met → Bool
@@ -120,9 +120,9 @@ placed o at len = eqb at (cond (eqb len 0) 0 o)
 unfoldable pub label_right : Head → ℕ → ℕ → Bool
 label_right h up o =
     all_of
-    (placed o h.name h.nlen
-    ∷ implies (not (eqb h.nlen 0)) (names_parts up)
-    ∷ implies (zoned_in h) (placed (o + h.nlen) (zone_at h) (zone_len h))
+    (placed o h.name h.name_len
+    ∷ implies (not (eqb h.name_len 0)) (names_parts up)
+    ∷ implies (zoned_in h) (placed (o + h.name_len) (zone_at h) (zone_len h))
     ∷ [])
 
 -- "The labels stand in the order of the records, a record's name before its zone, without gaps, from 0 up to m.":

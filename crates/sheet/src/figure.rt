@@ -1,5 +1,5 @@
 //! The tests of one record: its figures, its number of parts and the places of its labels.
-#![tactic(auto, using(std::proofs::lemmas::Bool::Decides::nat_tests), unfolding(crate::specs::Tests::between, crate::specs::Tests::all_of, crate::specs::Kind::is_decimal, crate::specs::Kind::names_parts, crate::specs::Kind::parts_right, crate::specs::Kind::last_unit, crate::specs::Kind::sized, crate::specs::Refusals::decimal_right, crate::specs::Refusals::figure_right, crate::specs::Refusals::size_right, crate::specs::Refusals::figures_right, crate::specs::Refusals::record_right, crate::specs::Refusals::label_right))]
+#![tactic(auto, using(std::proofs::lemmas::Bool::Decides::nat_tests), unfolding(crate::specs::Booleans::between, crate::specs::Booleans::all_of, crate::specs::Kind::is_decimal, crate::specs::Kind::names_parts, crate::specs::Kind::parts_right, crate::specs::Kind::last_unit, crate::specs::Kind::sized, crate::specs::Refusals::decimal_right, crate::specs::Refusals::figure_right, crate::specs::Refusals::size_right, crate::specs::Refusals::figures_right, crate::specs::Refusals::record_right, crate::specs::Refusals::label_right))]
 
 ghost use Rattle.std.specs.Prelude.{◌≡◌, ◌<◌, ◌≤◌, cond};
 ghost use Rattle.sheet.specs.Kind.{last_unit, parts_right, names_parts};
@@ -89,10 +89,10 @@ fn figures_right(k: u8, figure: u8, scale: u8, size: usize, sorted: bool, zoned:
 }
 
 /// The size that bytes 4 to 7 hold; 0 where they hold the place of a zone, as a Timestamp has no size.
-pub fn size_in(zoned: bool, quad: usize) -> usize
-    ensures { result ≡ cond zoned 0 quad }
+pub fn size_in(zoned: bool, bytes_4_7: usize) -> usize
+    ensures { result ≡ cond zoned 0 bytes_4_7 }
 {
-    if zoned { 0 } else { quad }
+    if zoned { 0 } else { bytes_4_7 }
 }
 
 /// Whether a record has nothing of refusal 4, as a part of one of kind up, or as a listed type where up is 0.
@@ -101,12 +101,12 @@ pub fn record_right(h: Head, up: u8) -> bool
     ensures { result ≡ record_right h up }
 {
     let zoned = h.zoned();
-    let size = size_in(zoned, h.quad);
+    let size = size_in(zoned, h.bytes_4_7);
     figures_right(h.kind, h.figure, h.scale, size, h.sorted(), zoned)
         & (!h.nullable() | names_parts(up))
         & (h.flags < 8)
-        & (!zoned | (h.quad < 16777216))
-        & (h.last == 0)
+        & (!zoned | (h.bytes_4_7 < 16777216))
+        & (h.byte_15 == 0)
 }
 
 // Whether a label of len bytes is where it belongs, at o.
@@ -121,9 +121,9 @@ pub fn label_right(h: Head, up: u8, o: usize) -> bool
     requires { (o < 1000000) × Bounded h }
     ensures { result ≡ label_right h up o }
 {
-    is_placed(o, h.name, h.nlen)
-        && (h.nlen == 0 || names_parts(up))
-        && (!h.zoned() || is_placed(o + h.nlen, h.zone_at(), h.zone_len()))
+    is_placed(o, h.name, h.name_len)
+        && (h.name_len == 0 || names_parts(up))
+        && (!h.zoned() || is_placed(o + h.name_len, h.zone_at(), h.zone_len()))
 }
 
 /// How many label bytes a record has: those of its name, and of its zone where one is present.
@@ -131,5 +131,5 @@ pub fn label_bytes(h: Head) -> usize
     requires { Bounded h }
     ensures { (result ≡ labelled h) × (result ≤ 510) }
 {
-    h.nlen + if h.zoned() { h.zone_len() } else { 0 }
+    h.name_len + if h.zoned() { h.zone_len() } else { 0 }
 }

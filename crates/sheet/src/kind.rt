@@ -1,9 +1,9 @@
 //! The kinds of a record, and what belongs together among them. A kind is byte 0 of a record, and every function here
 //! takes any byte.
-#![tactic(auto, using(std::proofs::lemmas::Bool::Decides::nat_tests), unfolding(crate::specs::Tests::between, crate::specs::Kind::is_kind, crate::specs::Kind::is_decimal))]
+#![tactic(auto, using(std::proofs::lemmas::Bool::Decides::nat_tests), unfolding(crate::specs::Booleans::between, crate::specs::Kind::is_kind, crate::specs::Kind::is_decimal))]
 
 ghost use Rattle.std.specs.Prelude.{◌≡◌};
-ghost use Rattle.sheet.specs.Tests.{between};
+ghost use Rattle.sheet.specs.Booleans.{between};
 ghost use Rattle.sheet.specs.Kind.{is_kind, is_decimal, is_numeric, is_integer, is_string, is_date, is_time, is_list, is_wrapper, one_is};
 
 pub const NULL: u8 = 1;

@@ -160,9 +160,9 @@ pub fn mix(name: &[u8]) -> usize
 /// Whether two records have one name: head h of the sheet s of n records, and head g of the sheet t of m records.
 pub fn same_name(s: &[u8], n: usize, h: Head, t: &[u8], m: usize, g: Head) -> bool
     requires { ((n < 65536) × (m < 65536)) × (Bounded h × Bounded g) }
-    ensures { result ≡ same_bytes (label_at s.now n h.name h.nlen) (label_at t.now m g.name g.nlen) }
+    ensures { result ≡ same_bytes (label_at s.now n h.name h.name_len) (label_at t.now m g.name g.name_len) }
 {
     let i = RECORD_BYTES * n + h.name;
     let j = RECORD_BYTES * m + g.name;
-    same_label(s, i, h.nlen, t, j, g.nlen)
+    same_label(s, i, h.name_len, t, j, g.name_len)
 }

@@ -38,7 +38,7 @@ pub struct Head {
     /// Byte 3: a decimal's scale, as the byte that is stored.
     pub scale: u8,
     /// Bytes 4 to 7 as one number: the size, or for a zone its offset + 65,536 · its length.
-    pub quad: usize,
+    pub bytes_4_7: usize,
     /// Bytes 8 and 9: the record of the first part, 0 for none.
     pub first: usize,
     /// Bytes 10 and 11: the next record of the chain, 0 at its end.
@@ -46,9 +46,9 @@ pub struct Head {
     /// Bytes 12 and 13: the offset of the name among the labels.
     pub name: usize,
     /// Byte 14: the length of the name.
-    pub nlen: usize,
+    pub name_len: usize,
     /// Byte 15, which is zero in an accepted sheet.
-    pub last: u8,
+    pub byte_15: u8,
 }
 
 impl Head {
@@ -77,14 +77,14 @@ impl Head {
     pub fn zone_at(&self) -> usize
         ensures { (result ≡ zone_at self.now) × (result < 65536) }
     {
-        self.quad % 65536
+        self.bytes_4_7 % 65536
     }
 
     /// Byte 6: the length of a zone.
     pub fn zone_len(&self) -> usize
         ensures { (result ≡ zone_len self.now) × (result < 256) }
     {
-        self.quad / 65536 % 256
+        self.bytes_4_7 / 65536 % 256
     }
 }
 

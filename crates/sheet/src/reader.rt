@@ -164,5 +164,5 @@ pub fn name_at(s: &[u8], at: usize) -> &[u8]
     ensures { result.now ≡ name_at s.now at }
 {
     let h = type_at(s, at);
-    label_at(s, records_of(s), h.name, h.nlen)
+    label_at(s, records_of(s), h.name, h.name_len)
 }

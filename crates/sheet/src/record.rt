@@ -49,12 +49,12 @@ pub fn head_from(s: &[u8], i: usize) -> Head
         flags: s[i + 1],
         figure: s[i + 2],
         scale: s[i + 3],
-        quad: quad_at(s, i + 4),
+        bytes_4_7: quad_at(s, i + 4),
         first: word_at(s, i + 8),
         next: word_at(s, i + 10),
         name: word_at(s, i + 12),
-        nlen: usize::from(s[i + 14]),
-        last: s[i + 15],
+        name_len: usize::from(s[i + 14]),
+        byte_15: s[i + 15],
     }
 }
 

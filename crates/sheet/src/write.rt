@@ -21,7 +21,7 @@ pub fn put_head(buffer: &mut [u8], at: usize, h: Head)
     requires { (at + RECORD_BYTES ≤ length buffer.old) × Bounded h }
     ensures { Put buffer.old buffer.new at (bytes_of h) }
 {
-    let quad = (h.quad as u32).to_le_bytes();
+    let quad = (h.bytes_4_7 as u32).to_le_bytes();
     let first = (h.first as u16).to_le_bytes();
     let next = (h.next as u16).to_le_bytes();
     let name = (h.name as u16).to_le_bytes();
@@ -40,8 +40,8 @@ pub fn put_head(buffer: &mut [u8], at: usize, h: Head)
         next[1],
         name[0],
         name[1],
-        h.nlen as u8,
-        h.last,
+        h.name_len as u8,
+        h.byte_15,
     ];
     put(buffer, at, &bytes)
 }

@@ -7,7 +7,7 @@ use Rattle.std.specs.Prelude.{Option, None}
 use Prim.Native.Nat.{ℕ}
 use native.Mathlib.Omega.{arith}
 use borrow.Author.Tests.{eqb-true}
-use Rattle.sheet.proofs.Tests.{or_fst, or_snd}
+use Rattle.sheet.proofs.Booleans.{or_fst, or_snd}
 use Rattle.coercion.specs.Data.{DataType, or_else, is_list_question}
 use Rattle.coercion.specs.Same.{alike}
 use Rattle.coercion.specs.Wrappers.{is_of, wrapper_coercion}

@@ -11,15 +11,15 @@ use lib.Dec.{eqb, leb}
 use borrow.Author.Tests.{eqb-true, leb-true}
 use Rattle.sheet.specs.declared.kind.TheConstants as Kind
 use Rattle.sheet.specs.Kind.{parts_right, is_decimal, last_unit, sized, is_wrapper}
-use Rattle.sheet.specs.Tests.{between, all_of, implies}
+use Rattle.sheet.specs.Booleans.{between, all_of, implies}
 use Rattle.sheet.specs.Types.{Zone, absent, present, Shape, Fields, end, field, arity}
 use Rattle.sheet.specs.Refusals.{figure_right, size_right, figures_right}
 use Rattle.sheet.specs.Carried.{is_zoned, FieldRight, FieldsRight}
-use Rattle.sheet.proofs.Tests.{never, and_snd, all_at}
+use Rattle.sheet.proofs.Booleans.{never, and_snd, all_at}
 use Rattle.coercion.specs.Data.{DataType, of_kind, plain}
 use Rattle.coercion.specs.Same.{same_shape, same_fields, same_type, alike}
 use Rattle.coercion.specs.Wrappers.{value_in}
-use Rattle.buffers.specs.Goal.{type_of}
+use Rattle.buffers.specs.Target.{type_of}
 use Rattle.wrappers.specs.Ways.{wrappers_of, core_kind}
 
 pub missing : {A : Type 0} {t : DataType} → None ≡ Some t → A

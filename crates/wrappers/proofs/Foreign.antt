@@ -7,9 +7,9 @@ use Rattle.std.specs.Prelude.{Option, None, Some}
 use Prim.Native.Nat.{ℕ}
 use lib.Dec.{eqb}
 use Rattle.sheet.specs.declared.kind.TheConstants as Kind
-use Rattle.sheet.specs.Tests.{between}
+use Rattle.sheet.specs.Booleans.{between}
 use Rattle.sheet.specs.Types.{arity}
-use Rattle.sheet.proofs.Tests.{never, or_fst, or_snd}
+use Rattle.sheet.proofs.Booleans.{never, or_fst, or_snd}
 use Rattle.coercion.specs.Data.{DataType, or_else, first_of, figures_of, as_type, is_list_question}
 use Rattle.sheet.specs.Kind.{is_numeric, is_integer, is_string, is_date, is_time, is_span, is_list, with_kind}
 use Rattle.coercion.specs.Same.{alike}

@@ -7,7 +7,7 @@ use Prim.Native.Nat.{ℕ}
 use lib.Dec.{eqb}
 use borrow.Author.Tests.{eq-eqb, ne_eqb, eqb-false}
 use Rattle.sheet.specs.declared.kind.TheConstants as Kind
-use Rattle.sheet.proofs.Tests.{never}
+use Rattle.sheet.proofs.Booleans.{never}
 use Rattle.coercion.specs.Data.{may_become}
 use Rattle.coercion.proofs.Maybe.{cond_when}
 use Rattle.wrappers.specs.Ways.{allows, meets}

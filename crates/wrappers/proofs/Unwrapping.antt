@@ -8,7 +8,7 @@ use Prim.Native.Nat.{ℕ}
 use lib.Dec.{eqb}
 use borrow.Author.Tests.{eqb-true, eqb-false, eq-eqb}
 use Rattle.sheet.specs.declared.kind.TheConstants as Kind
-use Rattle.sheet.proofs.Tests.{never, or_fst, or_snd}
+use Rattle.sheet.proofs.Booleans.{never, or_fst, or_snd}
 use Rattle.coercion.specs.Data.{DataType, may_become, or_else, is_list_question}
 use Rattle.coercion.specs.Same.{equal, alike}
 use Rattle.coercion.specs.Rules.{is_null, null_coercion}

@@ -14,7 +14,7 @@ use Rattle.sheet.specs.declared.Head.{Head}
 use Rattle.coercion.specs.Data.{DataType, size}
 use Rattle.coercion.specs.Wrappers.{value_in, is_of}
 use Rattle.buffers.specs.Writes.{side}
-use Rattle.buffers.specs.Goal.{letters, type_of}
+use Rattle.buffers.specs.Target.{letters, type_of}
 use Rattle.buffers.specs.Typed.{Chain, Typed}
 use Rattle.buffers.specs.declared.Space.{Space}
 use Rattle.buffers.proofs.Chained.{held_first, labels_sum}

@@ -8,7 +8,7 @@ use native.Mathlib.Omega.{arith}
 use lib.Dec.{eqb}
 use borrow.Author.Tests.{eq-eqb, ne_eqb, eqb-true}
 use Rattle.sheet.specs.Head.{head_at}
-use Rattle.sheet.proofs.Tests.{and_fst, and_snd}
+use Rattle.sheet.proofs.Booleans.{and_fst, and_snd}
 use Rattle.coercion.specs.Data.{DataType, size, may_become}
 use Rattle.buffers.specs.Writes.{side}
 use Rattle.buffers.specs.Typed.{Typed}
@@ -20,7 +20,7 @@ use Rattle.wrappers.specs.Ways.{wrappers_of, core_kind, allows, meets, may_merge
 use Rattle.std.specs.Prelude.{Option, None, IfSome, unwrap_or}
 use Rattle.std.specs.Bool.{then_some}
 use Rattle.wrappers.specs.Walks.{Core, Tells, TellsBoth, Learns, way_of, kind_in, hint_in, Way}
-use Rattle.wrappers.specs.declared.walk.Turn.{Turn}
+use Rattle.wrappers.specs.declared.walk.Choice.{Choice}
 use Rattle.wrappers.proofs.Cores.{wrapper_is, one_of_two, bare_wrappers, bare_core, wrap_wrappers, wrap_core}
 use Rattle.wrappers.proofs.Values.{side_twice, kind_of_lem, kind_is, Value, value_of}
 use Rattle.wrappers.proofs.Hints.{met, may_hint, Crossing, cross_is, cross_on, left_crossing, right_crossing, same_on}
@@ -187,7 +187,7 @@ module _ (hint mask left : ℕ) (swap : Bool) (s w : List ℕ) (l r : ℕ) {k j 
 
 -- the wrapper whose rule is asked
 module _ (hint mask left : ℕ) (swap : Bool) (s w : List ℕ) (l r : ℕ) {k j : ℕ} (ek : k ≡ (head_at (side swap s w) l).kind) (ej : j ≡ (head_at (side (not swap) s w) r).kind)
-    (b : Bool) {t : Option Turn} where
+    (b : Bool) {t : Option Choice} where
   -- a Dictionary and run ends
   module _ {h : ℕ} (g : (kind_in t ≡ cond (eqb h 0) 0 (cond b 37 38)) × (hint_in t ≡ h)) (wraps : IfSome t (λ u. is_wrapper u.kind ≡ true)) (c : Learns hint mask (left + 1) swap s w l r h) where
     crossed : ((space : Space) (x y : DataType) → Typed space (side swap s w) l x → Typed space (side (not swap) s w) r y → size x + size y ≤ left + 1
@@ -241,15 +241,15 @@ module _ (hint mask left : ℕ) (swap : Bool) (s w : List ℕ) (l r : ℕ) {k j 
 
 -- a Dictionary and run ends that can have no common type
 module _ (hint mask left : ℕ) (swap : Bool) (s w : List ℕ) (l r : ℕ) {k j : ℕ} (ek : k ≡ (head_at (side swap s w) l).kind) (ej : j ≡ (head_at (side (not swap) s w) r).kind)
-    {t : Option Turn} (e : t ≡ None) (c : Learns hint mask (left + 1) swap s w l r 0) where
+    {t : Option Choice} (e : t ≡ None) (c : Learns hint mask (left + 1) swap s w l r 0) where
   pub none_left : (eqb k 37 && eqb j 38) ≡ true → Way hint mask (left + 1) swap s w l r t
   none_left z =
-      subst (λ (o : Option Turn). Way hint mask (left + 1) swap s w l r o) (sym e)
+      subst (λ (o : Option Choice). Way hint mask (left + 1) swap s w l r o) (sym e)
       (way_left hint mask left swap s w l r ek ej true {t = None} (refl, refl) tt c z refl (meets_spared mask left swap s w _ r refl))
 
   pub none_right : (eqb k 38 && eqb j 37) ≡ true → Way hint mask (left + 1) swap s w l r t
   none_right z =
-      subst (λ (o : Option Turn). Way hint mask (left + 1) swap s w l r o) (sym e)
+      subst (λ (o : Option Choice). Way hint mask (left + 1) swap s w l r o) (sym e)
       (way_right hint mask left swap s w l r ek ej true {t = None} (refl, refl) tt c z refl (meets_spared mask left (not swap) s w _ l refl))
 
 -- the wrapper that is asked

@@ -10,14 +10,14 @@ use lib.Dec.{eqb}
 use borrow.Author.Tests.{eqb-true, eqb-false}
 use Rattle.sheet.specs.declared.kind.TheConstants as Kind
 use Rattle.sheet.specs.Types.{Shape, Fields}
-use Rattle.sheet.proofs.Tests.{and_fst, and_snd, or_fst, or_snd}
+use Rattle.sheet.proofs.Booleans.{and_fst, and_snd, or_fst, or_snd}
 use Rattle.coercion.specs.Data.{DataType, may_become, or_else, of_kind, plain, is_list_question}
 use Rattle.coercion.specs.Wrappers.{value_in, is_of, wrapper_coercion}
 use Rattle.coercion.specs.Answers.{coercion}
 use Rattle.coercion.proofs.Sameness.{equal_self}
 use Rattle.coercion.proofs.Words.{equal_left, or_none}
 use Rattle.coercion.specs.declared.Rules.{Rules}
-use Rattle.buffers.specs.Goal.{type_of}
+use Rattle.buffers.specs.Target.{type_of}
 use Rattle.sheet.specs.Kind.{is_wrapper}
 use Rattle.wrappers.specs.Ways.{wrappers_of, core_kind, meets, may_merge, dictionary_may}
 use Rattle.wrappers.proofs.Meeting.{judged, judged_same, judged_cross, judged_bare, judged_core, judged_refused, judged_spent}

@@ -10,7 +10,7 @@ use Rattle.buffers.specs.Typed.{Typed}
 use Rattle.buffers.specs.declared.Space.{Space}
 use Rattle.sheet.specs.Kind.{is_wrapper}
 use Rattle.wrappers.specs.Ways.{core_kind, may_merge, dictionary_may, hint_of, Hint, without}
-use Rattle.wrappers.specs.declared.walk.Turn.{Turn}
+use Rattle.wrappers.specs.declared.walk.Choice.{Choice}
 
 -- the kind of the core of a type
 pub record Core (left : ℕ) (s : List ℕ) (l k : ℕ) : Type 0 where
@@ -43,16 +43,16 @@ way_of mask l r =
     (cond (is_of Kind.DICTIONARY l || is_of Kind.DICTIONARY r) Kind.DICTIONARY Kind.RUN_END_ENCODED)
 
 -- the kind of a wrapper whose rule is asked, 0 for none, and what is known of the types that the rule goes on with
-abbrev pub kind_in : Option Turn → ℕ
+abbrev pub kind_in : Option Choice → ℕ
 kind_in None = 0
 kind_in (Some t) = t.kind
 
-abbrev pub hint_in : Option Turn → ℕ
+abbrev pub hint_in : Option Choice → ℕ
 hint_in None = 0
 hint_in (Some t) = t.hint
 
 -- that wrapper, and what is known of the types that its rule goes on with
-pub record Way (hint mask left : ℕ) (swap : Bool) (s w : List ℕ) (l r : ℕ) (t : Option Turn) : Type 0 where
+pub record Way (hint mask left : ℕ) (swap : Bool) (s w : List ℕ) (l r : ℕ) (t : Option Choice) : Type 0 where
   pub is : (space : Space) (x y : DataType) → Typed space (side swap s w) l x → Typed space (side (not swap) s w) r y → size x + size y ≤ left → Hint hint mask x y
       → kind_in t ≡ way_of mask x y
   pub on : (space : Space) (x y : DataType) → Typed space (side swap s w) l x → Typed space (side (not swap) s w) r y → size x + size y ≤ left → Hint hint mask x y

@@ -19,7 +19,7 @@ struct Walk<'a> {
 
 /// The wrapper whose rule is asked of two types, and what is known of the types that the rule goes on with.
 #[derive(Clone, Copy)]
-pub struct Turn {
+pub struct Choice {
     /// 37 for the rule for Dictionaries, 38 for that for run ends.
     pub kind: u8,
     /// 0 for nothing, and else 1 to 3 by `hint_of` of specs/Ways.antt.
@@ -166,9 +166,9 @@ impl<'a> Walk<'a> {
 /// The rule for wrappers that is asked of two types, and none where the types can have no common type.
 ///
 /// The left type is at record l and the right at record r. At most left + 1 records are left in both. The hint is
-/// what is known of the two (`Turn::hint`), 0 for nothing. Where neither type is a wrapper the rule for run ends is
+/// what is known of the two (`Choice::hint`), 0 for nothing. Where neither type is a wrapper the rule for run ends is
 /// named, which has no answer then.
-pub fn way(
+pub fn chosen_wrapper(
     sides: &Sides,
     work: &[u8],
     mask: u64,
@@ -176,7 +176,7 @@ pub fn way(
     hint: u8,
     l: usize,
     r: usize,
-) -> Option<Turn>
+) -> Option<Choice>
     ensures { Way hint mask (left + 1) sides.now.swap sides.now.sheet.now work.now l r result }
 {
     let walk = Walk {
@@ -190,15 +190,15 @@ pub fn way(
             let h = walk.learn(left, hint, l, r)?;
             let a = sides.value(work, l);
             let kind = kind_for(walk.meets_if(left, h == 2, a, r));
-            Some(Turn { kind, hint: h })
+            Some(Choice { kind, hint: h })
         }
         (kind::RUN_END_ENCODED, kind::DICTIONARY) => {
             let h = walk.learn(left, hint, l, r)?;
             let b = sides.right_value(work, r);
             let kind = kind_for(walk.swapped().meets_if(left, h == 3, b, l));
-            Some(Turn { kind, hint: h })
+            Some(Choice { kind, hint: h })
         }
-        _ => Some(Turn {
+        _ => Some(Choice {
             kind: kind_for(one_is(kind::DICTIONARY, k, j)),
             hint: hint_if(k == j, hint),
         }),

@@ -34,11 +34,11 @@ both_parts-returns-clause-merges_known t c =
 
 pub coerce_field-returns-in_err-g-clause-stays_tabled : goal.coerce_field-returns-in_err-g-clause-stays_tabled
 coerce_field-returns-in_err-g-clause-stays_tabled t c =
-    tabled_over c.requires.room.0 c.name_goal.ensures.named.kept c.requires.tabled
+    tabled_over c.requires.room.0 c.name_target.ensures.named.kept c.requires.tabled
 
 pub coerce_field-coerce_value-requires : goal.coerce_field-coerce_value-requires
 coerce_field-coerce_value-requires t c =
-    (omega (arith, c.decreases), ((room_kept c.name_goal.ensures.named.kept c.requires.room.0, goal_ready c.requires.room.1 c.head-x.ensures.1 c.in_ok-g.ensures), (c.requires.of_list, tabled_over c.requires.room.0 c.name_goal.ensures.named.kept c.requires.tabled)))
+    (omega (arith, c.decreases), ((room_kept c.name_target.ensures.named.kept c.requires.room.0, goal_ready c.requires.room.1 c.head-x.ensures.1 c.in_ok-g.ensures), (c.requires.of_list, tabled_over c.requires.room.0 c.name_target.ensures.named.kept c.requires.tabled)))
 
 pub coerce_field-returns-clause-merges_field : goal.coerce_field-returns-clause-merges_field
 coerce_field-returns-clause-merges_field t c =
@@ -90,11 +90,11 @@ common-returns-clause-merges_hinted t c =
 
 pub entry-returns-in_err-g-clause-stays_tabled : goal.entry-returns-in_err-g-clause-stays_tabled
 entry-returns-in_err-g-clause-stays_tabled t c =
-    tabled_over c.requires.room.0 c.name_goal.ensures.named.kept c.requires.tabled
+    tabled_over c.requires.room.0 c.name_target.ensures.named.kept c.requires.tabled
 
 pub entry-struct_coercion-requires : goal.entry-struct_coercion-requires
 entry-struct_coercion-requires t c =
-    (omega (arith, c.decreases), ((room_kept c.name_goal.ensures.named.kept c.requires.room.0, goal_ready c.requires.room.1 c.head-x.ensures.1 c.in_ok-g.ensures), tabled_over c.requires.room.0 c.name_goal.ensures.named.kept c.requires.tabled))
+    (omega (arith, c.decreases), ((room_kept c.name_target.ensures.named.kept c.requires.room.0, goal_ready c.requires.room.1 c.head-x.ensures.1 c.in_ok-g.ensures), tabled_over c.requires.room.0 c.name_target.ensures.named.kept c.requires.tabled))
 
 pub entry-returns-clause-merges_field : goal.entry-returns-clause-merges_field
 entry-returns-clause-merges_field t c =
@@ -206,11 +206,11 @@ rewrapped-returns-in_err-e-clause-merges t c =
 
 pub rewrapped-returns-clause-merges : goal.rewrapped-returns-clause-merges
 rewrapped-returns-clause-merges t c =
-    settled_on _ c.requires.of_list _ _ _ _ _ _ _ _ _ c.requires.room.0 c.requires.wrapper.0 _ c.head-x.ensures.0 c.requires.wrapper.1 _ c.descend-descent.ensures.descended _ _ c.in_ok-a.ensures _ _ c.in_ok-b.ensures _ _ c.in_ok-e.ensures.merges_field _ _ c.settle.ensures
+    settled_on _ c.requires.of_list _ _ _ _ _ _ _ _ _ c.requires.room.0 c.requires.wrapper.0 _ c.head-x.ensures.0 c.requires.wrapper.1 _ c.descend-descent.ensures.descended _ _ c.in_ok-a.ensures _ _ c.in_ok-b.ensures _ _ c.in_ok-e.ensures.merges_field _ _ c.drop_redundant_dictionaries.ensures
 
 pub rewrapped-returns-clause-stays_tabled : goal.rewrapped-returns-clause-stays_tabled
 rewrapped-returns-clause-stays_tabled t c =
-    settled_tabled _ c.requires.of_list _ _ _ _ _ _ _ _ _ c.requires.room.0 c.requires.wrapper.0 _ c.head-x.ensures.0 c.requires.wrapper.1 _ c.descend-descent.ensures.descended _ _ c.in_ok-a.ensures _ _ c.in_ok-b.ensures _ _ c.in_ok-e.ensures.merges_field _ _ c.settle.ensures c.coerce_field.ensures.stays_tabled
+    settled_tabled _ c.requires.of_list _ _ _ _ _ _ _ _ _ c.requires.room.0 c.requires.wrapper.0 _ c.head-x.ensures.0 c.requires.wrapper.1 _ c.descend-descent.ensures.descended _ _ c.in_ok-a.ensures _ _ c.in_ok-b.ensures _ _ c.in_ok-e.ensures.merges_field _ _ c.drop_redundant_dictionaries.ensures c.coerce_field.ensures.stays_tabled
 
 pub rows-returns-then-l-eq0-clause-rowed : goal.rows-returns-then-l-eq0-clause-rowed
 rows-returns-then-l-eq0-clause-rowed t c =
@@ -230,11 +230,11 @@ rows-returns-in_err-g-clause-rowed t c =
 
 pub rows-returns-in_err-g-clause-stays_tabled : goal.rows-returns-in_err-g-clause-stays_tabled
 rows-returns-in_err-g-clause-stays_tabled t c =
-    tabled_over c.requires.room.0 c.name_goal.ensures.named.kept c.requires.tabled
+    tabled_over c.requires.room.0 c.name_target.ensures.named.kept c.requires.tabled
 
 pub rows-common-requires : goal.rows-common-requires
 rows-common-requires t c =
-    (omega (arith, c.decreases), ((room_kept c.name_goal.ensures.named.kept c.requires.room.0, goal_ready c.requires.room.1 c.head-x.ensures.1 c.in_ok-g.ensures), tabled_over c.requires.room.0 c.name_goal.ensures.named.kept c.requires.tabled))
+    (omega (arith, c.decreases), ((room_kept c.name_target.ensures.named.kept c.requires.room.0, goal_ready c.requires.room.1 c.head-x.ensures.1 c.in_ok-g.ensures), tabled_over c.requires.room.0 c.name_target.ensures.named.kept c.requires.tabled))
 
 pub rows-returns-in_err-d-clause-rowed : goal.rows-returns-in_err-d-clause-rowed
 rows-returns-in_err-d-clause-rowed t c =

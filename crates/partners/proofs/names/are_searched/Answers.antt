@@ -20,7 +20,7 @@ returns-then-k-eq4 c =
 
 pub label_at-requires : goal.label_at-requires
 label_at-requires c =
-    (omega (arith, c.requires.0), (c.head_at-g.ensures.1.name, omega (arith, c.head_at-g.ensures.1.nlen)))
+    (omega (arith, c.requires.0), (c.head_at-g.ensures.1.name, omega (arith, c.head_at-g.ensures.1.name_len)))
 
 pub find-j-requires : goal.find-j-requires
 find-j-requires c =

@@ -8,4 +8,4 @@ use Rattle.partners.proofs.search.is_named.Goals as goal
 
 pub returns : goal.returns
 returns c =
-    c.same_label.ensures ∙ ap (λ (u : List ℕ). same_bytes u (label_at c.args.t.now c.args.n c.args.h.name c.args.h.nlen)) (take-length c.args.want.now)
+    c.same_label.ensures ∙ ap (λ (u : List ℕ). same_bytes u (label_at c.args.t.now c.args.n c.args.h.name c.args.h.name_len)) (take-length c.args.want.now)

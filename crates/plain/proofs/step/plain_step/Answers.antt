@@ -1,7 +1,7 @@
 use native.Mathlib.Omega.{arith}
 use Rattle.coercion.specs.Strings.{string_coercion, binary_coercion}
 use Rattle.plain.proofs.Steps.{kinds_read}
-use Rattle.plain.proofs.Turns.{spoken}
+use Rattle.plain.proofs.Picking.{spoken}
 use Rattle.plain.proofs.step.plain_step.Goals as goal
 
 pub returns-then-m : goal.returns-then-m

@@ -13,5 +13,5 @@ returns-then-at-eq0 c =
 pub returns-then-len-lt256 : goal.returns-then-len-lt256
 returns-then-len-lt256 c =
     λ h up s e.
-    stamp_passes h up s c.args.next (c.args.quad / 65536) (ap (λ (x : ℕ). x / 65536) (sym e))
-    (ap (λ (x : ℕ). x % 65536) e ∙ c.if-at-next.true ∙ sym (ap (λ (b : Bool). cond b 0 c.args.next) (ne_eqb (c.args.quad / 65536) 0 c.if-len-eq0.false)))
+    stamp_passes h up s c.args.next (c.args.bytes_4_7 / 65536) (ap (λ (x : ℕ). x / 65536) (sym e))
+    (ap (λ (x : ℕ). x % 65536) e ∙ c.if-at-next.true ∙ sym (ap (λ (b : Bool). cond b 0 c.args.next) (ne_eqb (c.args.bytes_4_7 / 65536) 0 c.if-len-eq0.false)))

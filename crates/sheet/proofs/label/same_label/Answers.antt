@@ -5,7 +5,7 @@ use native.Mathlib.Omega.{arith}
 use lib.ListN.{length, get_or}
 use borrow.Author.Tests.{eq-eqb}
 use Rattle.sheet.specs.Names.{same_bytes}
-use Rattle.sheet.proofs.Tests.{never}
+use Rattle.sheet.proofs.Booleans.{never}
 use Rattle.sheet.proofs.Bytewise.{same_lengths, same_done}
 use Rattle.sheet.proofs.Agreeing.{same_unlike, unlike}
 use Rattle.sheet.proofs.label.same_label.Goals as goal

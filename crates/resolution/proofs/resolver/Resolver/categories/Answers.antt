@@ -8,11 +8,11 @@ returns-then-self-at c =
 
 pub returns-then-not-is_supported : goal.returns-then-not-is_supported
 returns-then-not-is_supported c =
-    c.loop-last.invariant _ (seen_here _ _ _ _ c.loop-last-test.true _ c.core_kind-kind.ensures c.is_supported.ensures _ c.if-not-is_supported.true)
+    c.loop-last.invariant _ (seen_here _ _ _ _ c.loop-last-test.true _ c.category_kind-kind.ensures c.is_supported.ensures _ c.if-not-is_supported.true)
 
 pub loop-last-preserved : goal.loop-last-preserved
 loop-last-preserved c =
-    λ a g. c.loop-last.invariant a (seen_on _ _ _ _ c.loop-last-test.true _ c.core_kind-kind.ensures c.is_supported.ensures _ _ c.head_at-at.ensures.0 _ c.with_category-bits.ensures c.if-not-is_supported.false a g)
+    λ a g. c.loop-last.invariant a (seen_on _ _ _ _ c.loop-last-test.true _ c.category_kind-kind.ensures c.is_supported.ensures _ _ c.head_at-at.ensures.0 _ c.with_category-bits.ensures c.if-not-is_supported.false a g)
 
 pub returns : goal.returns
 returns c =

@@ -1,4 +1,4 @@
-use Rattle.resolution.proofs.Leaves.{fronted}
+use Rattle.resolution.proofs.PlainTypes.{fronted}
 use Rattle.resolution.proofs.resolver.Resolver.lay_front.Goals as goal
 
 pub returns : goal.returns

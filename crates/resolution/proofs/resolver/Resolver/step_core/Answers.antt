@@ -16,4 +16,4 @@ returns-then-d-own c =
 
 pub returns : goal.returns
 returns c =
-    core_stepped (for_list c.args.self.now.rules) _ c.requires.room.0 c.requires.room.1 c.requires.cored c.head_at-h.result (head_second c.args.self.now.space c.args.work.now c.head_at-h.result _ c.head_at-h.ensures.0) c.coerce.result refl (ap (λ (k : ℕ). c.args.d.label - k) c.label_bytes-own.ensures.0) c.nullable.ensures c.shift.ensures (none_known true (merged (rw c.for_list.ensures at c.merger-merger.ensures) c.coerce.ensures))
+    core_stepped (for_list c.args.self.now.rules) _ c.requires.room.0 c.requires.room.1 c.requires.cored c.head_at-h.result (head_second c.args.self.now.space c.args.work.now c.head_at-h.result _ c.head_at-h.ensures.0) c.coerce.result refl (ap (λ (k : ℕ). c.args.d.label - k) c.label_bytes-own.ensures.0) c.nullable.ensures c.move_candidate_down.ensures (none_known true (merged (rw c.for_list.ensures at c.merger-merger.ensures) c.coerce.ensures))

@@ -7,7 +7,7 @@ use Rattle.coercion.specs.Wrappers.{is_of}
 use Rattle.coercion.specs.Nested.{map_coercion}
 use Rattle.coercion.specs.Answers.{ask}
 use Rattle.coercion.specs.declared.Rules.{Rules}
-use Rattle.turns.specs.Turns.{map_rule, turns_of}
+use Rattle.rule_order.specs.Order.{map_rule, turns_of}
 
 -- What a question asks of two types is, where they are not equal (list) or alike (union and compare), what the merge's
 -- order of the rules asks.

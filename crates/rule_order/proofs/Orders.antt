@@ -10,9 +10,9 @@ use native.Mathlib.Omega.{arith}
 use lib.Dec.{eqb}
 use borrow.Author.Tests.{eqb-true, ne_eqb, lt-leb}
 use Rattle.sheet.specs.declared.kind.TheConstants as Kind
-use Rattle.sheet.specs.Tests.{between}
+use Rattle.sheet.specs.Booleans.{between}
 use Rattle.sheet.specs.Types.{arity}
-use Rattle.sheet.proofs.Tests.{never, and_fst, and_snd}
+use Rattle.sheet.proofs.Booleans.{never, and_fst, and_snd}
 use Rattle.coercion.specs.Data.{DataType, or_else, first_of, figures_of, as_type, is_list_question, for_list, for_question}
 use Rattle.sheet.specs.Kind.{is_numeric, is_string, is_list}
 use Rattle.coercion.specs.Same.{same_type, equal, alike}
@@ -30,7 +30,7 @@ use Rattle.coercion.specs.declared.Question.{Question}
 use Rattle.coercion.specs.declared.Rules.{Rules}
 use Rattle.plain.specs.Plain.{string_time, plain_rules}
 use Rattle.wrappers.proofs.Unwrapping.{wrapper_none}
-use Rattle.turns.specs.Turns.{struct_rule, map_rule, nested_of, either_wrapped, resolved, unwrapped, turns_for, turns_of}
+use Rattle.rule_order.specs.Order.{struct_rule, map_rule, nested_of, either_wrapped, resolved, unwrapped, turns_for, turns_of}
 
 -- answers with others between them that are none
 data Among : List (Option DataType) → List (Option DataType) → Type 0 where

@@ -7,8 +7,8 @@ use Rattle.wrappers.specs.Walks.{TellsBoth}
 use Rattle.wrappers.specs.declared.walk.Walk.{Walk}
 use Rattle.wrappers.proofs.Hints.{met}
 use Rattle.wrappers.proofs.Walking.{asked_turn, is_asked, way_left, way_right, none_left, none_right, way_straight}
-use Rattle.wrappers.proofs.walk.way.Goals.{in_default-via-in-37+in_default, in_default-via-in-38+in_default, in_default-via-in_default}
-use Rattle.wrappers.proofs.walk.way.Goals as goal
+use Rattle.wrappers.proofs.walk.chosen_wrapper.Goals.{in_default-via-in-37+in_default, in_default-via-in-38+in_default, in_default-via-in_default}
+use Rattle.wrappers.proofs.walk.chosen_wrapper.Goals as goal
 
 pub returns-in_err-h-in-37-eq38 : goal.returns-in_err-h-in-37-eq38
 returns-in_err-h-in-37-eq38 c =

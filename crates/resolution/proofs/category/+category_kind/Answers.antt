@@ -1,5 +1,5 @@
 use Rattle.resolution.proofs.CoreKinds.{core_own, core_value}
-use Rattle.resolution.proofs.category.+core_kind.Goals as goal
+use Rattle.resolution.proofs.category.+category_kind.Goals as goal
 
 pub returns-then-not-is_wrapper : goal.returns-then-not-is_wrapper
 returns-then-not-is_wrapper t c =
@@ -8,7 +8,7 @@ returns-then-not-is_wrapper t c =
 pub returns-in-Some : goal.returns-in-Some
 returns-in-Some t c =
     core_value _ _ _ _ c.head_at-h.ensures.0 c.is_wrapper.ensures _ c.if-not-is_wrapper.false
-    (λ i o parts l. c.in-Some.ensures.category i o parts l c.core_kind.result c.core_kind.ensures)
+    (λ i o parts l. c.in-Some.ensures.category i o parts l c.category_kind.result c.category_kind.ensures)
 
 pub returns-in-None : goal.returns-in-None
 returns-in-None t c =

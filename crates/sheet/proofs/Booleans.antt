@@ -4,7 +4,7 @@ use mathlib.Core.Bool.{Bool, true, false, not, ◌&&◌, ◌||◌, false≢true}
 use mathlib.Core.List.{List, [], ◌∷◌}
 use Prim.Native.Nat.{ℕ, zero, suc}
 use lib.ListN.{get_or}
-use Rattle.sheet.specs.Tests.{all_of, one_of}
+use Rattle.sheet.specs.Booleans.{all_of, one_of}
 
 pub never {ℓ} : {A : Type ℓ} → false ≡ true → A
 never e = absurd (false≢true e)

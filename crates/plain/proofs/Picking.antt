@@ -8,9 +8,9 @@ use native.Mathlib.Omega.{arith}
 use lib.Dec.{eqb}
 use lib.ListN.{get_or}
 use borrow.Author.Tests.{not-true}
-use Rattle.sheet.specs.Tests.{between}
+use Rattle.sheet.specs.Booleans.{between}
 use Rattle.sheet.specs.Kind.{is_kind, is_numeric, is_string, is_date, is_time}
-use Rattle.sheet.proofs.Tests.{never, and_fst, and_snd, or_fst, or_snd}
+use Rattle.sheet.proofs.Booleans.{never, and_fst, and_snd, or_fst, or_snd}
 use Rattle.coercion.specs.declared.Figures.{Figures}
 use Rattle.coercion.specs.Data.{DataType, first_of, figures_of, as_type}
 use Rattle.coercion.specs.Numbers.{binary_numeric_coercion}

@@ -5,11 +5,11 @@ ghost use Rattle.buffers.specs.Region.{Room, Inside};
 ghost use Rattle.resolution.specs.Reached.{Shifted, Mirrored};
 
 use crate::resolver::Resolver;
-use buffers::Spot;
+use buffers::Place;
 
 impl Resolver<'_> {
     /// Moves the candidate that ends at `d`.
-    pub(crate) fn shift(&self, work: &mut [u8], d: Spot)
+    pub(crate) fn move_candidate_down(&self, work: &mut [u8], d: Place)
         requires { Room work.old self.now.space × Inside self.now.space d }
         ensures { Shifted self.now.space work.old work.new d }
     {
@@ -20,7 +20,7 @@ impl Resolver<'_> {
     }
 
     /// Lays the sheet's bytes in the first half, so that its types can be read from there too.
-    pub(crate) fn mirror(&self, work: &mut [u8])
+    pub(crate) fn copy_sheet_down(&self, work: &mut [u8])
         requires { Room work.old self.now.space }
         ensures { Mirrored self.now.space self.now.sheet.now work.old work.new }
     {

@@ -1,6 +1,0 @@
-use Rattle.resolution.proofs.Folding.{met}
-use Rattle.resolution.proofs.resolver.Resolver.meet.Goals as goal
-
-pub returns : goal.returns
-returns c =
-    met _ _ c.requires.room c.requires.compared c.mirror.ensures c.merger-merger.ensures c.coerce.ensures
