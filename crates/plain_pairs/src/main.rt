@@ -7,11 +7,11 @@
 //! read, or is not in that form, is told of in a line behind the counts.
 #![tactic(auto)]
 
-pub mod plain;
+pub mod typed;
 
 ghost use Rattle.std.specs.Prelude.{◌≡◌, ◌+◌, ◌^◌, ◌<◌, ◌≤◌, length, IfOk};
 
-use crate::plain::{Plain, ROOM, spelled};
+use crate::typed::{Plain, ROOM, spelled};
 use anyhow::Context;
 use coercion::Question;
 use harness::reading::read_full;

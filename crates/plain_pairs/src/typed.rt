@@ -61,7 +61,7 @@ impl Plain {
         requires { (next ≤ 2) × (label ≤ 6) }
         ensures { Bounded result }
     {
-        let (flags, quad) = match self.zone() {
+        let (flags, bytes_4_7) = match self.zone() {
             None => (0, usize::from(self.zone)),
             Some([]) => (4, 0),
             Some(zone) => (4, label + 65536 * zone.len()),
@@ -71,7 +71,7 @@ impl Plain {
             flags,
             figure: self.figure,
             scale: self.scale,
-            quad,
+            bytes_4_7,
             next,
             ..Head::default()
         }
