@@ -110,13 +110,7 @@ impl From<Figures> for Shape {
     ghost from_gives = { λ f s. s ≡ record { kind = f.kind; figure = f.figure; scale = f.scale; size = 0; sorted = false } };
 
     fn from(f: Figures) -> Shape {
-        Shape {
-            kind: f.kind,
-            figure: f.figure,
-            scale: f.scale,
-            size: 0,
-            sorted: false,
-        }
+        Shape::from(PlainType::from(f))
     }
 }
 
