@@ -28,7 +28,8 @@ use Rattle.coercion.proofs.Commons.{Settled, settled}
 use Rattle.coercion.proofs.Fitting.{Fits, in_fits}
 use Rattle.coercion.proofs.PlainRight.{empty_label}
 use Rattle.coercion.specs.declared.Question.{Question}
-use Rattle.answers.specs.Call.{Call, bad_mask, bad_pair, refusal}
+use Rattle.answers.specs.Call.{Call, bad_mask, bad_pair, bad_space, rules_of, refusal}
+use Rattle.answers.specs.Terms.{terms_of}
 use Rattle.answers.specs.Listed.{listed}
 use Rattle.answers.specs.LeastType.{Asks, Calls, call, NonEmpty}
 use Rattle.answers.specs.Premises.{EveryListAsked, EveryCutAsked}
@@ -159,9 +160,10 @@ chain_bytes gs a h =
 -- a sheet that is accepted, a good mask, a list question and space
 unrefused : (c : Call) → c.question ≡ Question.List → Sheet.refusal c.sheet ≡ 0 → bad_mask c.mask ≡ false
     → length c.sheet ≤ length c.output → 2 * length c.sheet ≤ length c.work → refusal c ≡ 0
-unfolding bad_pair
+unfolding bad_pair bad_space refusal
 unrefused c q h m o w =
-    accepted_refusal c h ∙ rw (m, q, le-ltb (length c.output) (length c.sheet) o, le-ltb (length c.work) (2 * length c.sheet) w)
+    accepted_refusal (terms_of (rules_of c)) c.sheet c.output c.work h
+    ∙ rw (m, q, le-ltb (length c.output) (length c.sheet) o, le-ltb (length c.work) (2 * length c.sheet) w)
 
 pub asked : EveryListAsked
 asked f ts a h mask m output work o w =

@@ -1,7 +1,7 @@
 -- The refusals of a call: the sheet's own, and 6 to 8. Assumes nothing.
 use mathlib.Core.Path.{◌≡◌, refl, ap, sym, subst, ◌∙◌}
 use mathlib.Core.Bool.{Bool, true, false, cond, not, ◌&&◌}
-use mathlib.Core.List.{List, [], ◌∷◌, ◌++◌}
+use mathlib.Core.List.{List, [], ◌∷◌, ◌++◌, map}
 use Prim.Native.Nat.{ℕ, suc, ◌+◌, ◌*◌, ◌≤◌}
 use native.Mathlib.Omega.{arith}
 use lib.ListN.{length}
@@ -20,8 +20,12 @@ use Rattle.sheet.proofs.Stands.{stands_new, stands_end, stands_past, stands_next
 use Rattle.sheet.proofs.Accepted.{accepted_holds, accepted_carried, accepted_n, accepted_m, accepted_length}
 use Rattle.coercion.specs.declared.Question.{Question}
 use Rattle.buffers.specs.declared.Space.{Space}
-use Rattle.answers.specs.Call.{Call, bad_mask, bad_pair, bad_space, refusal}
-use Rattle.answers.specs.Code.{later_refusal, Measured}
+use Rattle.answers.specs.Call.{bad_mask, bad_pair, bad_space}
+use Rattle.answers.specs.Code.{number_of, Measured}
+use Rattle.answers.specs.Terms.{Cause, first_refusal, condition_of, Terms, later_causes, refusal_under}
+use Rattle.answers.specs.declared.Refusal.{Refusal}
+use Rattle.refusals.proofs.Verdicts.{number_some}
+use Rattle.std.specs.Prelude.{Result, Ok, Err}
 use Rattle.coercion.specs.Data.{is_list_question}
 
 -- whether a reader is past the last type, behind two others
@@ -84,10 +88,6 @@ module _ (s : List ℕ) (space : Space) (plain : Plain s) (measured : Measured s
   pub measured_short : space.m ≤ 16384
   measured_short = omega (arith, measured_m, (accepted_carried s plain measured.unrefused).short)
 
-  -- 8 space is asked of lengths within bounds
-  pub measured_low : space.half ≤ 32768
-  measured_low = omega (arith, measured_half, measured_few, measured_short)
-
   -- 7 pair: how many types are listed, by the second and the third record of their chain
   module _ {second : ℕ} (e : second ≡ next_at s (start space.n)) where
     listed_two : not (eqb second 0) && eqb (next_at s second) 0 ≡ eqb (arity (read s)) 2
@@ -104,24 +104,6 @@ pass : (b : Bool) (n x y z : ℕ) → cond b (suc n) x ≡ 0 → (x ≡ 0 → y 
 pass true n x y z h f = absurd (omega arith)
 pass false n x y z h f = f h
 
--- 6 to 8, as conditions
-abbrev later : Call → List Condition
-later c =
-    record { number = 6; met = bad_mask c.mask }
-    ∷ record { number = 7; met = bad_pair c.question c.sheet }
-    ∷ record { number = 8; met = bad_space c.sheet c.output c.work }
-    ∷ []
-
--- the refusal of a call on an accepted sheet is one of 6 to 8
-pub accepted_refusal : (c : Call) → Sheet.refusal c.sheet ≡ 0 → refusal c ≡ later_refusal c.question c.sheet c.mask (length c.output) (length c.work)
-unfolding refusal Sheet.refusal bad_space
-accepted_refusal c h =
-    pass (Sheet.torn c.sheet) 0 _ _ _ h (λ h.
-    pass (Sheet.bad_kind c.sheet) 1 _ _ _ h (λ h.
-    pass (Sheet.bad_chain c.sheet) 2 _ _ _ h (λ h.
-    pass (Sheet.bad_figure c.sheet) 3 _ _ _ h (λ h.
-    pass (Sheet.bad_label c.sheet) 4 _ _ _ h (λ h. refl)))))
-
 -- a condition that is met is the first
 met_first : (a b : List Condition) → ¬ (first_met a ≡ 0) → first_met (a ++ b) ≡ first_met a
 met_first [] b h = absurd (h refl)
@@ -132,10 +114,64 @@ met_first (x ∷ xs) b h = go x.met h (met_first xs b)
     go true h f = refl
     go false h f = f h
 
--- the refusal of a call on a sheet that is refused is the sheet's
-pub sheet_refusal : (c : Call) → ¬ (Sheet.refusal c.sheet ≡ 0) → refusal c ≡ Sheet.refusal c.sheet
-unfolding refusal Sheet.refusal
-sheet_refusal c h = met_first (Sheet.conditions c.sheet) (later c) h
+pub some_number : (r : Refusal) → ¬ (number_of r ≡ 0)
+some_number (Refusal.Sheet r) = number_some r
+some_number Refusal.Mask = λ h. omega arith
+some_number Refusal.Pair = λ h. omega arith
+some_number Refusal.Space = λ h. omega arith
+
+-- the number of the first cause that is met, 0 where none is
+abbrev pub number_met : Result Unit Refusal → ℕ
+number_met (Err r) = number_of r
+number_met (Ok u) = 0
+
+caused : (xs : List Cause) → first_met (map condition_of xs) ≡ number_met (first_refusal xs)
+caused [] = refl
+caused (x ∷ xs) = go x.met (caused xs)
+  where
+    go : (m : Bool) → first_met (map condition_of xs) ≡ number_met (first_refusal xs)
+        → cond m (number_of x.refusal) (first_met (map condition_of xs)) ≡ number_met (cond m (Err x.refusal) (first_refusal xs))
+    go true h = refl
+    go false h = h
+
+-- causes that are tried behind others
+abbrev pub or_else : Result Unit Refusal → Result Unit Refusal → Result Unit Refusal
+or_else (Err r) o = Err r
+or_else (Ok u) o = o
+
+tried : (xs ys : List Cause) → or_else (first_refusal xs) (first_refusal ys) ≡ first_refusal (xs ++ ys)
+tried [] ys = refl
+tried (x ∷ xs) ys = go x.met (tried xs ys)
+  where
+    go : (m : Bool) → or_else (first_refusal xs) (first_refusal ys) ≡ first_refusal (xs ++ ys)
+        → or_else (cond m (Err x.refusal) (first_refusal xs)) (first_refusal ys) ≡ cond m (Err x.refusal) (first_refusal (xs ++ ys))
+    go true h = refl
+    go false h = h
+
+module _ (terms : Terms) (s out w : List ℕ) where
+  -- the refusal of a call on a sheet that is refused is the sheet's
+  pub sheet_refusal : ¬ (Sheet.refusal s ≡ 0) → refusal_under terms s out w ≡ Sheet.refusal s
+  unfolding Sheet.refusal
+  sheet_refusal h = met_first (Sheet.conditions s) (map condition_of (later_causes terms s out w)) h
+
+  -- that of a call on an accepted sheet is one of 6 to 8
+  pub accepted_refusal : Sheet.refusal s ≡ 0 → refusal_under terms s out w ≡ number_met (first_refusal (later_causes terms s out w))
+  unfolding Sheet.refusal
+  accepted_refusal h =
+      pass (Sheet.torn s) 0 _ _ _ h (λ h.
+      pass (Sheet.bad_kind s) 1 _ _ _ h (λ h.
+      pass (Sheet.bad_chain s) 2 _ _ _ h (λ h.
+      pass (Sheet.bad_figure s) 3 _ _ _ h (λ h.
+      pass (Sheet.bad_label s) 4 _ _ _ h (λ h. caused (later_causes terms s out w))))))
+
+  -- 6 is tried, then its own, and then 8
+  pub tried_later : {a b c : Result Unit Refusal} → a ≡ cond (bad_mask terms.mask) (Err Refusal.Mask) (Ok tt) → b ≡ first_refusal (terms.causes s)
+      → c ≡ cond (bad_space s out w) (Err Refusal.Space) (Ok tt) → or_else a (or_else b c) ≡ first_refusal (later_causes terms s out w)
+  tried_later mask own space =
+      let last : Cause = record { refusal = Refusal.Space; met = bad_space s out w } in
+      (λ i. or_else (mask i) (or_else (own i) (space i)))
+      ∙ ap (or_else (cond (bad_mask terms.mask) (Err Refusal.Mask) (Ok tt))) (tried (terms.causes s) (last ∷ []))
+      ∙ tried (record { refusal = Refusal.Mask; met = bad_mask terms.mask } ∷ []) (terms.causes s ++ (last ∷ []))
 
 -- what the check of a sheet that is not torn says
 pub framed_measured : {s : List ℕ} {n m : ℕ} → FramedBy s n m → 0 ≡ Sheet.refusal s → Measured s (record { n = n; m = m; half = length s })

@@ -20,6 +20,7 @@ use Rattle.sheet.proofs.Lowest.{From, some, found, least}
 use Rattle.coercion.specs.Data.{DataType, single}
 use Rattle.coercion.proofs.Shorter.{answer_smaller, answer_shorter}
 use Rattle.answers.specs.Call.{Call, conditions, refusal, refused, written, Outcome, settled, rules_of, answer, outcome}
+use Rattle.answers.specs.Terms.{terms_of}
 use Rattle.answers.specs.Laws.{AnswerNoLonger, LowestGiven, MetRefused, RefusedUnchanged}
 use Rattle.answers.proofs.Answering.{reply_number, reply_kind}
 use Rattle.answers.proofs.Refusing.{sheet_refusal}
@@ -42,10 +43,11 @@ written_answer c k e = go (eqb (refusal c) 0) refl (answer c) refl e
     go false z a f e = absurd (let q : ◌≡◌ {A = ℕ} 1 3 = ap reply_kind e in omega arith)
 
 unrefused_sheet : (c : Call) → refusal c ≡ 0 → Sheet.refusal c.sheet ≡ 0
+unfolding refusal
 unrefused_sheet c h =
     elim (ℕ_discrete (Sheet.refusal c.sheet) 0) [
       | yes e ↦ e
-      | no n ↦ absurd (n (sym (sheet_refusal c n) ∙ h))
+      | no n ↦ absurd (n (sym (sheet_refusal (terms_of (rules_of c)) c.sheet c.output c.work n) ∙ h))
     ]
 
 pub no_longer : AnswerNoLonger

@@ -1,17 +1,15 @@
 -- What the functions of this crate say of a call.
-use Rattle.std.specs.Prelude.{◌≡◌, ℕ, ◌*◌, ◌≤◌, Bool, ◌||◌, List, [], ◌∷◌, length, ltb}
+use Rattle.std.specs.Prelude.{◌≡◌, ℕ, ◌*◌, ◌≤◌, List, length}
 use Rattle.sheet.specs.Encode.{encode}
 use Rattle.sheet.specs.Read.{records_of, labels_of}
-use Rattle.sheet.specs.Refusals.{first_met}
 use Rattle.sheet.specs.Refusals as Sheet
 use Rattle.coercion.specs.Data.{DataType, single}
-use Rattle.coercion.specs.declared.Question.{Question}
 use Rattle.coercion.specs.declared.Rules.{Rules}
 use Rattle.buffers.specs.Region.{Wrote}
 use Rattle.buffers.specs.declared.Space.{Space}
 use Rattle.buffers.specs.declared.Place.{Place}
 use Rattle.resolution.specs.Reached.{front}
-use Rattle.answers.specs.Call.{Call, bad_mask, bad_pair, Reply, refused, nothing, written, Outcome, at_front}
+use Rattle.answers.specs.Call.{Call, Reply, refused, nothing, written, Outcome, at_front}
 use Rattle.std.specs.Prelude.{Option, None, Some, Result, Ok, Err}
 use Rattle.answers.specs.declared.Refusal.{Refusal}
 
@@ -32,11 +30,6 @@ reply_of (Err r) = refused (number_of r)
 reply_of (Ok None) = nothing
 reply_of (Ok (Some k)) = written k
 
--- the number of a refusal that may be met, 0 where none is
-abbrev pub number_met : Result Unit Refusal → ℕ
-number_met (Err r) = number_of r
-number_met (Ok u) = 0
-
 -- what is handed to a call, and what is seen after it
 abbrev pub call_of : Rules → List ℕ → List ℕ → List ℕ → Call
 call_of rules sheet output work = record { question = rules.question; sheet = sheet; mask = rules.mask; output = output; work = work }
@@ -55,19 +48,6 @@ pub record Measured (sheet : List ℕ) (space : Space) : Type 0 where
 pub record Spared (space : Space) (o w : List ℕ) : Type 0 where
   pub output : space.half ≤ length o
   pub work : 2 * space.half ≤ length w
-
--- 8 space, of lengths
-abbrev pub is_short : ℕ → ℕ → ℕ → Bool
-is_short sheet output work = ltb output sheet || ltb work (2 * sheet)
-
--- the lowest of 6, 7 and 8 that is met, 0 where none is
-abbrev pub later_refusal : Question → List ℕ → ℕ → ℕ → ℕ → ℕ
-later_refusal question sheet mask output work =
-    first_met
-    (record { number = 6; met = bad_mask mask }
-    ∷ record { number = 7; met = bad_pair question sheet }
-    ∷ record { number = 8; met = is_short (length sheet) output work }
-    ∷ [])
 
 -- the type that ends at d in the second half of a work space was written to the output
 abbrev pub Emits : Space → Place → List ℕ → List ℕ → List ℕ → Type 0

@@ -5,3 +5,4 @@ pub mod Premises
 pub mod Marked
 pub mod Laws
 pub mod Code
+pub mod Terms

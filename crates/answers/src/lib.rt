@@ -2,9 +2,10 @@
 //! any bytes and any mask.
 #![tactic(auto)]
 
+mod call;
 mod emit;
 pub mod laws;
-mod refuse;
+mod rules;
 
 ghost use Rattle.std.specs.Prelude.{◌≡◌};
 ghost use Rattle.answers.specs.Call.{outcome};
@@ -12,12 +13,8 @@ ghost use Rattle.answers.specs.declared.Refusal.TheVariants.{Sheet};
 ghost use Rattle.answers.specs.Code.{number_of, reply_of, call_of, seen};
 ghost use Rattle.coercion.specs.declared.Question.{Question};
 
-use buffers::Space;
 use coercion::{Question, Rules};
-use emit::write_type;
-use refusals::check_framed;
 use refusals::header::Framed;
-use refuse::refused;
 
 /// Why a call is refused: for what is wrong with the sheet; for a mask with a bit outside 1 to 38; for a sheet that
 /// does not list two types where a question wants two; or for too little space. `u8::from` gives the refusal number,
@@ -86,29 +83,18 @@ pub fn comparison_coercion(sheet: &[u8], mask: u64, output: &mut [u8], work: &mu
     ask(Rules { question, mask }, sheet, output, work)
 }
 
-// A call, whatever it asks.
+// A call for a common type, whatever the question.
+#[tactic(auto, using(crate::proofs::Calling::rules_outcome))]
 fn ask(rules: Rules, sheet: &[u8], output: &mut [u8], work: &mut [u8]) -> Answer
     ensures { seen result output.new work.new ≡ outcome (call_of rules sheet.now output.old work.old) }
 {
-    let Some(framed) = Framed::of(sheet) else {
-        return Err(Refusal::Sheet(sheet::Refusal::Torn));
-    };
-    ask_framed(rules, framed, output, work)
+    call::ask(&rules, sheet, output, work)
 }
 
-/// A call, whatever it asks, on a sheet that is not torn.
+/// A call for a common type, whatever the question, on a sheet that is not torn.
+#[tactic(auto, using(crate::proofs::Calling::rules_outcome))]
 pub fn ask_framed(rules: Rules, framed: Framed<'_>, output: &mut [u8], work: &mut [u8]) -> Answer
     ensures { seen result output.new work.new ≡ outcome (call_of rules framed.entry.sheet.now output.old work.old) }
 {
-    check_framed(framed)?;
-    let Framed { sheet, n, m } = framed;
-    let half = sheet.len();
-    let space = Space { n, m, half };
-    refused(rules, sheet, space, output.len(), work.len())?;
-    let answer = match resolution::answer(sheet, work, space, rules) {
-        Ok(end) => Some(write_type(&*work, space, end, output)),
-        Err(_) => None,
-    };
-    work[..2 * half].fill(0);
-    Ok(answer)
+    call::ask_framed(&rules, framed, output, work)
 }

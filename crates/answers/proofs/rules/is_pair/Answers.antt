@@ -1,5 +1,5 @@
 use Rattle.answers.proofs.Refusing.{pair_one, pair_two}
-use Rattle.answers.proofs.refuse.is_pair.Goals as goal
+use Rattle.answers.proofs.rules.is_pair.Goals as goal
 
 pub returns-then-second-ne0 : goal.returns-then-second-ne0
 returns-then-second-ne0 c =

@@ -1,5 +1,5 @@
 use Rattle.answers.proofs.Refusing.{list_asked, pair_asked}
-use Rattle.answers.proofs.refuse.is_bad_pair.Goals as goal
+use Rattle.answers.proofs.rules.is_bad_pair.Goals as goal
 
 pub returns-then-not-is_list_question : goal.returns-then-not-is_list_question
 returns-then-not-is_list_question c =
