@@ -1,6 +1,7 @@
 -- That what the least-type theorem asks for can be had: in general, and at two lists whose calls are computed.
 use Rattle.std.specs.Prelude.{◌≡◌, ℕ, ◌+◌, ◌*◌, ◌≤◌, false, length, replicate}
 use mathlib.Core.List.{List, [], ◌∷◌, Perm, flatten}
+use Rattle.sheet.specs.declared.kind.TheConstants as Kind
 use Rattle.sheet.specs.Encode.{encode}
 use Rattle.coercion.specs.Data.{DataType, plain, of_kind}
 use Rattle.coercion.specs.Numbers.{decimal}
@@ -39,19 +40,19 @@ EveryCutAsked =
     → length types ≤ 1023 → Cut css
 
 abbrev pub int8 : DataType
-int8 = plain (of_kind 3)
+int8 = plain (of_kind Kind.INT8)
 
 abbrev pub int16 : DataType
-int16 = plain (of_kind 4)
+int16 = plain (of_kind Kind.INT16)
 
 abbrev pub int64 : DataType
-int64 = plain (of_kind 6)
+int64 = plain (of_kind Kind.INT64)
 
 abbrev pub uint8 : DataType
-uint8 = plain (of_kind 7)
+uint8 = plain (of_kind Kind.UINT8)
 
 abbrev pub uint32 : DataType
-uint32 = plain (of_kind 9)
+uint32 = plain (of_kind Kind.UINT32)
 
 -- Decimal128(38, 0) and Decimal128(38, 10), which no Decimal128 holds
 abbrev pub whole : DataType

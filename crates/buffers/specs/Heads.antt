@@ -4,7 +4,7 @@ use Rattle.sheet.specs.declared.kind.TheConstants as Kind
 use Rattle.sheet.specs.Head.{zoned_in, zone_at, zone_len}
 use Rattle.sheet.specs.Read.{label_at}
 use Rattle.sheet.specs.declared.Head.{Head}
-use Rattle.plain.specs.declared.zone.ZonePlace.{ZonePlace}
+use Rattle.buffers.specs.declared.zone.ZonePlace.{ZonePlace}
 
 -- the kind and the size of two lists' common list, by their heads
 abbrev pub list_kind : Head → Head → ℕ

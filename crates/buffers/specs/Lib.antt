@@ -1,3 +1,4 @@
+pub mod Zones
 pub mod Written
 pub mod Source
 pub mod Differ

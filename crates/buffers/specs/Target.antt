@@ -20,8 +20,8 @@ abbrev pub letters : DataType → ℕ
 letters t = length (zone_bytes t.shape.zone) + length (labels t.parts)
 
 -- the place of a target: its record, and its labels with the name
-abbrev pub spot_of : Target → Place
-spot_of g = record { at = g.at; label = g.label }
+abbrev pub place_of_target : Target → Place
+place_of_target g = record { at = g.at; label = g.label }
 
 -- the place past a target's record and its labels, with a zone of zlen bytes
 abbrev pub past : Target → ℕ → Place
@@ -38,7 +38,7 @@ NoRoom space g z y = (space.n < g.at + z) ⊎ (space.m < g.label + g.name_len + 
 -- what an answer says: the type was written under whatever name stands there; there is none; or there is no room
 abbrev pub Means : Space → List ℕ → List ℕ → Target → ℕ → ℕ → Written → Option DataType → Type 0
 Means space w v g z y (Ok d) None = ⊥
-Means space w v g z y (Ok d) (Some t) = (name : List ℕ) → Named space w g name → Wrote space v (spot_of g) d (field_for g name t)
+Means space w v g z y (Ok d) (Some t) = (name : List ℕ) → Named space w g name → Wrote space v (place_of_target g) d (field_for g name t)
 Means space w v g z y (Err NoType) None = Unit
 Means space w v g z y (Err NoType) (Some t) = ⊥
 Means space w v g z y (Err Full) m = NoRoom space g z y

@@ -1,4 +1,4 @@
 -- What is written into the work space, and where a side is read.
 pub use Rattle.sheet.specs.Writes.{Put}
 -- the buffer that a side is read from: the candidate stands in the work space, the other type in the sheet
-pub use Rattle.plain.specs.Zones.{side}
+pub use Rattle.buffers.specs.Zones.{side}

@@ -23,6 +23,7 @@ pub mod sides;
 pub mod span;
 pub mod stamp;
 mod write;
+mod zone;
 
 use coercion::Figures;
 use plain::value::PlainType;

@@ -3,6 +3,7 @@
 ghost use Rattle.std.specs.Prelude.{◌≡◌, not, length};
 ghost use Prim.Native.Nat.{ℕ, ◌≤◌};
 ghost use Rattle.sheet.specs.Bounds.{Filled};
+ghost use Rattle.sheet.specs.declared.kind.TheConstants as Kind;
 ghost use Rattle.buffers.specs.Writes.{side};
 ghost use Rattle.buffers.specs.Region.{Room, Ready};
 ghost use Rattle.buffers.specs.Target.{LaidZoned};
@@ -13,10 +14,10 @@ ghost use Rattle.buffers.specs.Typed.{Merges};
 
 use crate::lay::{lay_plain, lay_zoned};
 use crate::sides::Sides;
+use crate::zone::{ZonePlace, zone_coercion};
 use crate::{Failure, Target, Written};
 use coercion::{Figures, Rules};
 use plain::step::{Step, plain_heads};
-use plain::zone::{ZonePlace, zone_coercion};
 use sheet::label::fill;
 use sheet::{Head, kind};
 
@@ -53,7 +54,7 @@ impl Sides<'_> {
     // zone is read before one byte is written.
     fn stamp_zoned(&self, work: &mut [u8], unit: u8, x: Head, y: Head, g: Target) -> Written
         requires { Room work.old self.now.space × Ready self.now.space g }
-        ensures { LaidZoned self.now.space work.old work.new g 22 unit (either_zone (side self.now.swap self.now.sheet.now work.old) (side (not self.now.swap) self.now.sheet.now work.old) self.now.space.n x y) result }
+        ensures { LaidZoned self.now.space work.old work.new g Kind.TIMESTAMP unit (either_zone (side self.now.swap self.now.sheet.now work.old) (side (not self.now.swap) self.now.sheet.now work.old) self.now.space.n x y) result }
     {
         // The zone is held here, as it may stand in what is then written.
         let mut buf = [0u8; 255];

@@ -20,7 +20,7 @@ use Rattle.coercion.specs.Nested.{before, join_fields, by_name}
 use Rattle.coercion.specs.declared.Rules.{Rules}
 use Rattle.buffers.specs.Writes.{side}
 use Rattle.buffers.specs.Region.{Room, Kept, Inside, Grows, Wrote}
-use Rattle.buffers.specs.Target.{letters, spot_of, field_for, Means, Tied}
+use Rattle.buffers.specs.Target.{letters, place_of_target, field_for, Means, Tied}
 use Rattle.partners.specs.Feeds.{Feeds, Fed, Unfed, RowIs}
 use Rattle.buffers.specs.Typed.{Chain, Typed, ChainIs, target_at, NamedAt}
 use Rattle.buffers.specs.Differ.{RowsKnown}
@@ -243,7 +243,7 @@ module _ (known : Option ℕ) (named : Bool) (rules : Rules) (space : Space) (le
       record First (name : List ℕ) (x t : DataType) : Type 0 where
         type : DataType
         common : both x t ≡ Some type
-        wrote : Wrote space u (spot_of goal) d (field_for goal name type)
+        wrote : Wrote space u (place_of_target goal) d (field_for goal name type)
         records : d.at ≤ to.at + (size x + size t)
         letters : d.label ≤ to.label + length name + (letters x + letters t)
 
@@ -349,7 +349,7 @@ module _ (known : Option ℕ) (named : Bool) (rules : Rules) (space : Space) (le
           link end o = en ∙ rw (eq-eqb d.at e'.at (omega (arith, o.records))) refl
           link (field n b₁ sh ps rs) o = en ∙ rw (ne_eqb d.at e'.at (λ q. omega (arith, o.records))) refl
 
-          go : (o : Option Fields) (name : List ℕ) (t : DataType) → Wrote space u (spot_of goal) d (field_for goal name t) → (z₀ y₀ z₁ y₁ : ℕ) → ChainIs space y d z₀ y₀ (Ok e') o
+          go : (o : Option Fields) (name : List ℕ) (t : DataType) → Wrote space u (place_of_target goal) d (field_for goal name t) → (z₀ y₀ z₁ y₁ : ℕ) → ChainIs space y d z₀ y₀ (Ok e') o
               → ChainIs space y' to z₁ y₁ (Ok e') (and_then o (λ fields. Some (before name row.nullable t fields)))
           go None name t o z₀ y₀ z₁ y₁ c = absurd c
           go (Some fields) name t o z₀ y₀ z₁ y₁ c =

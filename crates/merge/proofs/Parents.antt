@@ -19,7 +19,7 @@ use Rattle.coercion.specs.Nested.{join_fields, list_of, struct_coercion, entry_t
 use Rattle.coercion.proofs.Maybe.{If, if_then}
 use Rattle.buffers.specs.Writes.{side}
 use Rattle.buffers.specs.Region.{Room, region, Kept, Grows, Ready, Named, Passes, Wrote, CopiedHead}
-use Rattle.buffers.specs.Target.{letters, spot_of, field_for, Means, Writes, Laid, type_of, shape_for}
+use Rattle.buffers.specs.Target.{letters, place_of_target, field_for, Means, Writes, Laid, type_of, shape_for}
 use Rattle.rule_order.specs.Order.{both_wrapped, map_rule}
 use Rattle.buffers.specs.Typed.{Chain, Typed, Merges, ChainIs, target_at, NamedAt}
 use Rattle.buffers.specs.Differ.{RowsKnown}
@@ -67,7 +67,7 @@ parent_copied {name = name} {nullable} {shape} {parts} {rest} e c a =
 -- the record, and the chain of its parts
 pub parent_wrote : {space : Space} {w v : List ℕ} (u : List ℕ) {g : Target} {shape : Shape} {link : ℕ} {d e : Place} (parts : Fields) → Parent space w v g shape link d
     → link ≡ link_to (g.at + 1) parts → Kept space v u d.at d.label → Wrote space u d e parts
-    → (name : List ℕ) → Named space w g name → Wrote space u (spot_of g) e (field_for g name (type_of shape parts))
+    → (name : List ℕ) → Named space w g name → Wrote space u (place_of_target g) e (field_for g name (type_of shape parts))
 unfolding count labels
 parent_wrote {space} {w} {v} u {g} {shape} {link} {d} {e} parts p el k q name nm =
     let own = own_labels name shape in

@@ -3,6 +3,7 @@
 
 ghost use Rattle.std.specs.Prelude.{◌≡◌, true, not, cond, eqb};
 ghost use Rattle.sheet.specs.Head.{head_at};
+ghost use Rattle.sheet.specs.declared.kind.TheConstants as Kind;
 ghost use Rattle.buffers.specs.Writes.{side};
 ghost use Rattle.buffers.specs.Region.{Room, Inside, Ready};
 ghost use Rattle.sheet.specs.Kind.{is_wrapper};
@@ -36,7 +37,7 @@ pub(crate) fn passes(k: u8, j: u8) -> bool
 
 // Where the run of Dictionaries begins, after a wrapper of kind k about the value at a record.
 fn run_after(k: u8, value: usize, run: usize) -> usize
-    ensures { result ≡ cond (eqb k 38) value run }
+    ensures { result ≡ cond (eqb k Kind.RUN_END_ENCODED) value run }
 {
     if k == kind::RUN_END_ENCODED {
         value

@@ -4,6 +4,7 @@ ghost use Rattle.std.specs.Prelude.{◌≡◌, not, ◌+◌, ◌≤◌, ◌&&◌
 ghost use Rattle.coercion.specs.Answers.{coercion, list_struct};
 ghost use Rattle.coercion.specs.Nested.{struct_coercion};
 ghost use Rattle.sheet.specs.Head.{head_at, sorted_in};
+ghost use Rattle.sheet.specs.declared.kind.TheConstants as Kind;
 ghost use Rattle.buffers.specs.Writes.{side};
 ghost use Rattle.buffers.specs.Region.{Room, Inside, Ready};
 ghost use Rattle.rule_order.specs.Order.{map_rule};
@@ -96,7 +97,7 @@ impl Merger<'_> {
         g: Target,
     ) -> Written
         requires room { Room work.old self.now.sides.space × Ready self.now.sides.space g }
-        requires structs { ((head_at (side self.now.sides.swap self.now.sides.sheet.now work.old) l).kind ≡ 35) × ((head_at (side (not self.now.sides.swap) self.now.sides.sheet.now work.old) r).kind ≡ 35) }
+        requires structs { ((head_at (side self.now.sides.swap self.now.sides.sheet.now work.old) l).kind ≡ Kind.STRUCT) × ((head_at (side (not self.now.sides.swap) self.now.sides.sheet.now work.old) r).kind ≡ Kind.STRUCT) }
         requires tabled { Tabled self.now.sides.space self.now.sides.sheet.now work.old table.old }
         ensures merges_known { MergesKnown known.now.differs (is_list_question self.now.rules.question) (list_struct (coercion self.now.rules)) self.now.sides.space (known.now.left + 1) self.now.sides.swap self.now.sides.sheet.now work.old work.new l r g result }
         ensures stays_tabled { Tabled self.now.sides.space self.now.sides.sheet.now work.new table.new }

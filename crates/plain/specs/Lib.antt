@@ -1,6 +1,5 @@
 pub mod Ordered
 pub mod Sides
-pub mod Zones
 pub mod Plain
 pub mod Steps
 pub mod Value

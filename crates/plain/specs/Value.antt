@@ -1,6 +1,7 @@
 -- Types without parts, zone or order, by value.
 use Rattle.std.specs.Prelude.{◌≡◌, ◌<◌, Bool, false, ◌&&◌, ltb}
 use Rattle.std.specs.Prelude.{Option, None, Some}
+use Rattle.sheet.specs.declared.kind.TheConstants as Kind
 use Rattle.sheet.specs.Types.{absent, end}
 use Rattle.sheet.specs.Carried.{FieldsRight}
 use Rattle.sheet.specs.declared.Head.{Head}
@@ -12,7 +13,7 @@ use Rattle.plain.specs.declared.value.PlainType.{PlainType}
 
 -- a head of a kind without parts that is neither sorted nor zoned
 abbrev pub is_plain : Head → Bool
-is_plain h = ltb h.kind 32 && ltb h.flags 2
+is_plain h = ltb h.kind Kind.LIST && ltb h.flags 2
 
 -- the value that such a head holds
 abbrev pub plain_type_of : Head → PlainType
@@ -32,7 +33,7 @@ type_of_plain x =
 -- a type that a value is, and that may stand in a sheet
 pub record Valued (x : PlainType) (t : DataType) : Type 0 where
   pub is : t ≡ type_of_plain x
-  pub low : x.kind < 32
+  pub low : x.kind < Kind.LIST
   pub right : FieldsRight 0 (single t)
 
 -- an answer fits a record

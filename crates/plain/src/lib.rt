@@ -12,4 +12,3 @@ pub mod strings;
 pub mod taken;
 pub mod times;
 pub mod value;
-pub mod zone;

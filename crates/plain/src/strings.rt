@@ -15,6 +15,7 @@ pub fn string_coercion(k: u8, j: u8) -> Option<u8>
 
 // The rules of `binary_coercion` for two kinds in one order: Binary, LargeBinary or BinaryView with a string, a
 // binary or a FixedSizeBinary.
+#[tactic(auto, unfolding(sheet::specs::Booleans::between))]
 fn ordered_binary(k: u8, j: u8) -> Option<u8>
     ensures { result ≡ ordered_binary k j }
 {

@@ -21,6 +21,7 @@ pub const MONTH_DAY_NANO: u8 = 2;
 
 // The rules of `temporal_coercion` for two kinds in one order: two spans; a date with an integer, Date64 with Date32,
 // and a date with a time or a Timestamp.
+#[tactic(auto, unfolding(sheet::specs::Booleans::between))]
 fn ordered_temporal(k: u8, j: u8) -> Option<Figures>
     ensures { result ≡ ordered_temporal k j }
 {

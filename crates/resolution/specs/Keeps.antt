@@ -34,7 +34,7 @@ with_core shape (field n b s p (field n₂ b₂ s₂ p₂ rest)) t =
 
 -- a type x changes only the core of a type c, and that core has no parts
 pub record CoreAlone (rules : Rules) (x c : DataType) : Type 0 where
-  pub low : (core_of c.shape c.parts).shape.kind < 32
+  pub low : (core_of c.shape c.parts).shape.kind < Kind.LIST
   pub is : coercion rules x c ≡ and_then (coercion rules (core_of c.shape c.parts) x) (λ t. Some (with_core c.shape c.parts t))
 
 -- whether a step lays Utf8View

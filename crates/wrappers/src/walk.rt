@@ -1,6 +1,7 @@
 //! Walks down the wrappers of two types in lent buffers. Each is handed the number of records that may be left, which
 //! falls with each wrapper that comes off. A kind is the byte of a record.
 ghost use Rattle.std.specs.Prelude.{◌≡◌, true, not, cond, ◌+◌, ◌<◌, unwrap_or, IfSome};
+ghost use Rattle.sheet.specs.declared.kind.TheConstants as Kind;
 ghost use Rattle.buffers.specs.Writes.{side};
 ghost use Rattle.wrappers.specs.Ways.{wrappers_of, allows, meets, hint_of, wrappers_may};
 ghost use Rattle.wrappers.specs.Walks.{Core, Tells, TellsBoth, Learns, Way};
@@ -20,14 +21,14 @@ struct Walk<'a> {
 /// The wrapper whose rule is asked of two types, and what is known of the types that the rule goes on with.
 #[derive(Clone, Copy)]
 pub struct Choice {
-    /// 37 for the rule for Dictionaries, 38 for that for run ends.
+    /// A Dictionary for the rule for Dictionaries, run ends for that for run ends.
     pub kind: u8,
     /// 0 for nothing, and else 1 to 3 by `hint_of` of specs/Ways.antt.
     pub hint: u8,
 }
 
 fn kind_for(dictionary: bool) -> u8
-    ensures { result ≡ cond dictionary 37 38 }
+    ensures { result ≡ cond dictionary Kind.DICTIONARY Kind.RUN_END_ENCODED }
 {
     if dictionary {
         kind::DICTIONARY

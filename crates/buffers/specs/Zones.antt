@@ -1,6 +1,6 @@
 -- The zone of two Timestamps as a part of a slice.
 use Rattle.std.specs.Prelude.{ℕ, ◌-◌, Bool, true, false, cond, not, List, take, drop}
-use Rattle.plain.specs.declared.zone.ZonePlace.{ZonePlace}
+use Rattle.buffers.specs.declared.zone.ZonePlace.{ZonePlace}
 
 -- the bytes that a side is read from
 abbrev pub side : Bool → List ℕ → List ℕ → List ℕ

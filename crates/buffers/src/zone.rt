@@ -1,10 +1,10 @@
 //! The zone of two Timestamps: the left's if it has one, else the right's.
 ghost use Rattle.std.specs.Prelude.{◌≡◌, not, ◌≤◌, length};
-ghost use Rattle.plain.specs.Zones.{side, choice};
+ghost use Rattle.buffers.specs.Zones.{side, choice};
 
 /// Where a zone stands in a slice. A present zone may be empty, and an absent one has an empty place.
 #[derive(Clone, Copy)]
-pub struct ZonePlace {
+pub(crate) struct ZonePlace {
     /// Whether the Timestamp has a zone; read of the left alone.
     pub present: bool,
     /// Where the zone begins.
@@ -15,7 +15,7 @@ pub struct ZonePlace {
 
 /// The left's zone if it has one, else the right's, as a part of the slice that it stands in. The left stands in the
 /// candidate where swap is set, and else in the sheet; the right stands in the other.
-pub fn zone_coercion<'a>(
+pub(crate) fn zone_coercion<'a>(
     sheet: &'a [u8],
     candidate: &'a [u8],
     swap: bool,
