@@ -1,19 +1,9 @@
--- What the heads of two records tell of the common list and the zone of their types.
-use Rattle.std.specs.Prelude.{ℕ, ◌+◌, ◌*◌, min, cond, ◌&&◌, ◌||◌, List, eqb}
-use Rattle.sheet.specs.declared.kind.TheConstants as Kind
+-- What the heads of two records tell of the zone of their types.
+use Rattle.std.specs.Prelude.{ℕ, ◌+◌, ◌*◌, min, cond, List}
 use Rattle.sheet.specs.Head.{zoned_in, zone_at, zone_len}
 use Rattle.sheet.specs.Read.{label_at}
 use Rattle.sheet.specs.declared.Head.{Head}
 use Rattle.buffers.specs.declared.zone.ZonePlace.{ZonePlace}
-
--- the kind and the size of two lists' common list, by their heads
-abbrev pub list_kind : Head → Head → ℕ
-list_kind x y =
-    cond (eqb x.kind Kind.FIXED_SIZE_LIST && eqb y.kind Kind.FIXED_SIZE_LIST) (cond (eqb x.bytes_4_7 y.bytes_4_7) Kind.FIXED_SIZE_LIST Kind.LIST)
-    (cond (eqb x.kind Kind.LARGE_LIST || eqb y.kind Kind.LARGE_LIST) Kind.LARGE_LIST Kind.LIST)
-
-abbrev pub list_size : Head → Head → ℕ
-list_size x y = cond (eqb x.kind Kind.FIXED_SIZE_LIST && eqb y.kind Kind.FIXED_SIZE_LIST) (cond (eqb x.bytes_4_7 y.bytes_4_7) y.bytes_4_7 0) 0
 
 -- where the zone of a record stands in a slice of a length, as far as it lies inside
 abbrev pub place_of : Head → ℕ → ℕ → ZonePlace

@@ -18,7 +18,6 @@ pub mod copy;
 pub mod field;
 pub mod laws;
 pub mod lay;
-pub mod lists;
 pub mod sides;
 pub mod span;
 pub mod stamp;

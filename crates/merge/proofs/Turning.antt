@@ -25,7 +25,7 @@ use Rattle.buffers.specs.Source.{SameTypes}
 use Rattle.buffers.specs.Writes.{side}
 use Rattle.buffers.specs.Region.{Room, Kept}
 use Rattle.buffers.specs.Target.{letters, Means, CopiedType, shape_for}
-use Rattle.buffers.specs.Heads.{list_kind, list_size}
+use Rattle.merge.specs.Lists.{list_kind, list_size}
 use Rattle.plain.specs.Steps.{Reads}
 use Rattle.plain.specs.Plain.{plain_rules}
 use Rattle.rule_order.proofs.Orders.{map_turns}
@@ -44,7 +44,7 @@ use Rattle.buffers.proofs.Frames.{kept_trans}
 use Rattle.merge.proofs.Knowing.{parts_known, value_known}
 use Rattle.merge.proofs.Merging.{typed_side, typed_same, nothing_known, any_known, any_hint, means_for, means_after, hinted_within, known_as, as_known, merges_swapped, merges_left, merges_right, merges_none}
 use Rattle.wrappers.specs.Ways.{Hint, without}
-use Rattle.wrappers.specs.Walks.{Way, kind_in}
+use Rattle.wrappers.specs.Walks.{Chosen, kind_in}
 use Rattle.wrappers.specs.declared.walk.Choice.{Choice}
 use Rattle.wrappers.proofs.Choosing.{typed_whole, way_rule, way_none}
 use Rattle.wrappers.proofs.Hints.{hint_for, without_value, without_self}
@@ -197,7 +197,7 @@ module _ {hint mask : ℕ} (known : Option ℕ) (named : Bool) (rules : Rules) (
 
 -- the rule for wrappers that is asked
 module _ {hint : ℕ} {known : Option ℕ} {named : Bool} (rules : Rules) (c : DataType → DataType → Option DataType) (space : Space) (left : ℕ) (swap : Bool) (s w : List ℕ) (l r : ℕ) (g : Target)
-    {t : Option Choice} (way : Way hint rules.mask (left + 1) swap s w l r t) where
+    {t : Option Choice} (way : Chosen hint rules.mask (left + 1) swap s w l r t) where
   pub way_merged : (v : List ℕ) (o : Written) → MergesHinted hint rules.mask known named (wrapper_coercion (kind_in t) c) space (left + 1) swap s w v l r g o
       → MergesHinted hint rules.mask known named (wrapper_rule rules c) space (left + 1) swap s w v l r g o
   way_merged v o =

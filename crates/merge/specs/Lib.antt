@@ -1,3 +1,4 @@
+pub mod Lists
 pub mod Known
 pub mod Merge
 pub mod Descent

@@ -14,8 +14,7 @@ ghost use Rattle.std.specs.Prelude.{◌≡◌, not};
 use buffers::sides::Sides;
 use coercion::Rules;
 
-/// A merge of two types: where they are read from, what is asked, and the mask of the kinds that
-/// Null may become, bit k for kind k.
+/// A merge of two types: where they are read from, and the rules.
 #[derive(Clone, Copy)]
 pub struct Merger<'a> {
     pub sides: Sides<'a>,

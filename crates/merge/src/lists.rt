@@ -1,10 +1,12 @@
 //! The merge of two lists, and the record of a type with parts.
 
-ghost use Rattle.std.specs.Prelude.{◌+◌, ◌<◌};
+ghost use Rattle.std.specs.Prelude.{◌≡◌, ◌+◌, ◌<◌};
+ghost use Rattle.sheet.specs.Bounds.{Bounded};
 ghost use Rattle.coercion.specs.Answers.{coercion};
 ghost use Rattle.buffers.specs.Region.{Room, Ready};
 ghost use Rattle.buffers.specs.Target.{shape_for};
 ghost use Rattle.rule_order.specs.Order.{list_rule};
+ghost use Rattle.merge.specs.Lists.{list_kind, list_size};
 ghost use Rattle.merge.specs.Merge.{Tabled, MergesKnown, Under};
 ghost use Rattle.coercion.specs.Data.{is_list_question};
 
@@ -12,10 +14,43 @@ use crate::Merger;
 use crate::known::Known;
 use buffers::field::first_link;
 use buffers::lay::lay;
-use buffers::lists::{list_kind, list_size};
 use buffers::{Failure, Place, Shape, Target, Written};
 use coercion::Figures;
 use partners::{Chains, Feed};
+use sheet::{Head, kind};
+
+// The kind of two lists' common list, as `list_coercion` has it: FixedSizeList for two of one
+// size, LargeList where one is, else List.
+fn list_kind(x: Head, y: Head) -> u8
+    ensures { result ≡ list_kind x y }
+{
+    if x.kind == kind::FIXED_SIZE_LIST && y.kind == kind::FIXED_SIZE_LIST {
+        if x.bytes_4_7 == y.bytes_4_7 {
+            kind::FIXED_SIZE_LIST
+        } else {
+            kind::LIST
+        }
+    } else if x.kind == kind::LARGE_LIST || y.kind == kind::LARGE_LIST {
+        kind::LARGE_LIST
+    } else {
+        kind::LIST
+    }
+}
+
+// The size of two lists' common list; 0 where it has none.
+fn list_size(x: Head, y: Head) -> usize
+    requires { Bounded y }
+    ensures { (result ≡ list_size x y) × (result < 4294967296) }
+{
+    if x.kind == kind::FIXED_SIZE_LIST
+        && y.kind == kind::FIXED_SIZE_LIST
+        && x.bytes_4_7 == y.bytes_4_7
+    {
+        y.bytes_4_7
+    } else {
+        0
+    }
+}
 
 impl Merger<'_> {
     /// `list_coercion`, of two lists.

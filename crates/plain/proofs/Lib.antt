@@ -1,6 +1,5 @@
 pub mod Integers
 pub mod Moments
-pub mod Categories
 pub mod NumberSides
 pub mod TwoStrings
 pub mod Ordering

@@ -1,9 +1,8 @@
-//! The common type of two types without parts, by value: the rules of the source for them, and the
-//! categories of a list. No buffer is read or written here.
+//! The common type of two types without parts, by value: the rules of the source for them. No buffer
+//! is read or written here.
 
 #![tactic(auto)]
 
-pub mod category;
 pub mod laws;
 pub mod numbers;
 pub mod sides;

@@ -7,3 +7,4 @@ pub mod Valued
 pub mod Keeping
 pub mod Coring
 pub mod CoreKinds
+pub mod Categories

@@ -6,9 +6,8 @@ ghost use Rattle.coercion.specs.Data.{types_of};
 ghost use Rattle.coercion.specs.Answers.{categories_fit};
 ghost use Rattle.resolution.specs.Reached.{ListedTypes, seen_bits};
 
-use crate::category::category_kind;
+use crate::category::{category_kind, is_mixed, is_supported, with_category};
 use crate::resolver::Resolver;
-use plain::category::{is_mixed, is_supported, with_category};
 use sheet::record::head_at;
 
 impl Resolver<'_> {

@@ -11,7 +11,7 @@ use Rattle.coercion.specs.Answers.{keep_dictionary, both_parts, run_ends_of, wra
 use Rattle.coercion.specs.declared.Question.{Question}
 use Rattle.coercion.specs.declared.Rules.{Rules}
 use Rattle.plain.specs.Plain.{plain_rules}
-use Rattle.wrappers.specs.Walks.{way_of}
+use Rattle.wrappers.specs.Walks.{chosen_kind}
 
 -- the rule for two Structs
 abbrev pub struct_rule : Question → (DataType → DataType → Option DataType) → DataType → DataType → Option DataType
@@ -63,7 +63,7 @@ resolved rules coerce l r =
 
 -- the one of the two rules for wrappers that is asked
 abbrev pub wrapper_rule : Rules → (DataType → DataType → Option DataType) → DataType → DataType → Option DataType
-wrapper_rule rules coerce l r = wrapper_coercion (way_of rules.mask l r) coerce l r
+wrapper_rule rules coerce l r = wrapper_coercion (chosen_kind rules.mask l r) coerce l r
 
 -- two types of a union or a comparison that are not alike
 unfoldable pub unwrapped : Rules → (DataType → DataType → Option DataType) → DataType → DataType → Option DataType

@@ -12,7 +12,7 @@ use Rattle.coercion.specs.Data.{DataType, may_become}
 use Rattle.coercion.specs.Wrappers.{value_in, is_of}
 use Rattle.sheet.specs.Kind.{is_wrapper}
 use Rattle.wrappers.specs.Ways.{wrappers_of, core_kind, is_null_core, meets, may_merge, dictionary_may, hint_of, wrappers_may, Hint, value_else, without}
-use Rattle.wrappers.specs.Walks.{crosses, way_of}
+use Rattle.wrappers.specs.Walks.{crosses, chosen_kind}
 use Rattle.wrappers.proofs.Meeting.{meets_off, judged, judged_turned, judged_same, judged_cross}
 use Rattle.wrappers.proofs.Cores.{one_of_two, wrap_wrappers, wrap_core}
 use Rattle.wrappers.proofs.Ways.{may_judged, dictionary_only, runs_only}
@@ -170,8 +170,8 @@ module _ (mask : ℕ) (l r : DataType) {h : ℕ} (eh : h ≡ cond (may_merge mas
     abbrev kind : ℕ
     kind = cond (eqb h 0) 0 (cond b Kind.DICTIONARY Kind.RUN_END_ENCODED)
 
-    pub cross_is : kind ≡ way_of mask l r
-    unfolding way_of
+    pub cross_is : kind ≡ chosen_kind mask l r
+    unfolding chosen_kind
     cross_is = rw c.both (go (may_merge mask l r) refl)
       where
         go : (m : Bool) → may_merge mask l r ≡ m → kind ≡ cond m (cond (dictionary_may mask l r) 37 38) 0

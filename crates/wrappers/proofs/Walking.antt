@@ -19,7 +19,7 @@ use Rattle.sheet.specs.Kind.{is_wrapper}
 use Rattle.wrappers.specs.Ways.{wrappers_of, core_kind, allows, meets, may_merge, hint_of, wrappers_may, Hint, without}
 use Rattle.std.specs.Prelude.{Option, None, IfSome, unwrap_or}
 use Rattle.std.specs.Bool.{then_some}
-use Rattle.wrappers.specs.Walks.{Core, Tells, TellsBoth, Learns, way_of, kind_in, hint_in, Way}
+use Rattle.wrappers.specs.Walks.{Core, Tells, TellsBoth, Learns, chosen_kind, kind_in, hint_in, Chosen}
 use Rattle.wrappers.specs.declared.walk.Choice.{Choice}
 use Rattle.wrappers.proofs.Cores.{wrapper_is, one_of_two, bare_wrappers, bare_core, wrap_wrappers, wrap_core}
 use Rattle.wrappers.proofs.Values.{side_twice, kind_of_lem, kind_is, Value, value_of}
@@ -192,7 +192,7 @@ module _ (hint mask left : ℕ) (swap : Bool) (s w : List ℕ) (l r : ℕ) {k j 
   module _ {h : ℕ} (g : (kind_in t ≡ cond (eqb h 0) 0 (cond b 37 38)) × (hint_in t ≡ h)) (wraps : IfSome t (λ u. is_wrapper u.kind ≡ true)) (c : Learns hint mask (left + 1) swap s w l r h) where
     crossed : ((space : Space) (x y : DataType) → Typed space (side swap s w) l x → Typed space (side (not swap) s w) r y → size x + size y ≤ left + 1
         → h ≡ cond (may_merge mask x y) (hint_of mask (core_kind x.shape x.parts) (core_kind y.shape y.parts)) 0 → Crossing mask x y b)
-        → Way hint mask (left + 1) swap s w l r t
+        → Chosen hint mask (left + 1) swap s w l r t
     crossed e =
         record {
           is = λ space x y a d q f. g.0 ∙ cross_is mask x y (c.is space x y a d q f) (e space x y a d q (c.is space x y a d q f));
@@ -201,7 +201,7 @@ module _ (hint mask left : ℕ) (swap : Bool) (s w : List ℕ) (l r : ℕ) {k j 
         }
 
     pub way_left : {v : ℕ} → (eqb k 37 && eqb j 38) ≡ true → v ≡ (head_at (side swap s w) (head_at (side swap s w) l).first).next
-        → TellsBoth (λ x y. cond (eqb h 2) (met mask x y) true) (left + 1) swap s w v r b → Way hint mask (left + 1) swap s w l r t
+        → TellsBoth (λ x y. cond (eqb h 2) (met mask x y) true) (left + 1) swap s w v r b → Chosen hint mask (left + 1) swap s w l r t
     way_left z ev m =
         let p = and_fst (eqb k 37) (eqb j 38) z in
         let q = and_snd (eqb k 37) (eqb j 38) z in
@@ -213,7 +213,7 @@ module _ (hint mask left : ℕ) (swap : Bool) (s w : List ℕ) (l r : ℕ) {k j 
         (m.is space u.type y u.typed d (omega (arith, u.smaller))))
 
     pub way_right : {v : ℕ} → (eqb k 38 && eqb j 37) ≡ true → v ≡ (head_at (side (not swap) s w) (head_at (side (not swap) s w) r).first).next
-        → TellsBoth (λ x y. cond (eqb h 3) (met mask x y) true) (left + 1) (not swap) s w v l b → Way hint mask (left + 1) swap s w l r t
+        → TellsBoth (λ x y. cond (eqb h 3) (met mask x y) true) (left + 1) (not swap) s w v l b → Chosen hint mask (left + 1) swap s w l r t
     way_right z ev m =
         let p = and_fst (eqb k 38) (eqb j 37) z in
         let q = and_snd (eqb k 38) (eqb j 37) z in
@@ -226,8 +226,8 @@ module _ (hint mask left : ℕ) (swap : Bool) (s w : List ℕ) (l r : ℕ) {k j 
 
   -- all other pairs
   module _ (ei : kind_in t ≡ cond b 37 38) (eh : hint_in t ≡ cond (eqb k j) hint 0) where
-    pub way_straight : IfSome t (λ u. is_wrapper u.kind ≡ true) → (eqb k 37 && eqb j 38) ≡ false → (eqb k 38 && eqb j 37) ≡ false → b ≡ (eqb k 37 || eqb j 37) → Way hint mask (left + 1) swap s w l r t
-    unfolding way_of
+    pub way_straight : IfSome t (λ u. is_wrapper u.kind ≡ true) → (eqb k 37 && eqb j 38) ≡ false → (eqb k 38 && eqb j 37) ≡ false → b ≡ (eqb k 37 || eqb j 37) → Chosen hint mask (left + 1) swap s w l r t
+    unfolding chosen_kind
     way_straight wraps z n e =
         record {
           is =
@@ -242,14 +242,14 @@ module _ (hint mask left : ℕ) (swap : Bool) (s w : List ℕ) (l r : ℕ) {k j 
 -- a Dictionary and run ends that can have no common type
 module _ (hint mask left : ℕ) (swap : Bool) (s w : List ℕ) (l r : ℕ) {k j : ℕ} (ek : k ≡ (head_at (side swap s w) l).kind) (ej : j ≡ (head_at (side (not swap) s w) r).kind)
     {t : Option Choice} (e : t ≡ None) (c : Learns hint mask (left + 1) swap s w l r 0) where
-  pub none_left : (eqb k 37 && eqb j 38) ≡ true → Way hint mask (left + 1) swap s w l r t
+  pub none_left : (eqb k 37 && eqb j 38) ≡ true → Chosen hint mask (left + 1) swap s w l r t
   none_left z =
-      subst (λ (o : Option Choice). Way hint mask (left + 1) swap s w l r o) (sym e)
+      subst (λ (o : Option Choice). Chosen hint mask (left + 1) swap s w l r o) (sym e)
       (way_left hint mask left swap s w l r ek ej true {t = None} (refl, refl) tt c z refl (meets_spared mask left swap s w _ r refl))
 
-  pub none_right : (eqb k 38 && eqb j 37) ≡ true → Way hint mask (left + 1) swap s w l r t
+  pub none_right : (eqb k 38 && eqb j 37) ≡ true → Chosen hint mask (left + 1) swap s w l r t
   none_right z =
-      subst (λ (o : Option Choice). Way hint mask (left + 1) swap s w l r o) (sym e)
+      subst (λ (o : Option Choice). Chosen hint mask (left + 1) swap s w l r o) (sym e)
       (way_right hint mask left swap s w l r ek ej true {t = None} (refl, refl) tt c z refl (meets_spared mask left (not swap) s w _ l refl))
 
 -- the wrapper that is asked

@@ -37,8 +37,8 @@ crosses l r = (is_of Kind.DICTIONARY l && is_of Kind.RUN_END_ENCODED r) || (is_o
 
 -- the wrapper whose rule is asked: it has the answer of the two rules in turn (proofs/Choosing.antt); 0 where neither
 -- rule can give one, and run ends where neither type is a wrapper
-unfoldable pub way_of : ℕ → DataType → DataType → ℕ
-way_of mask l r =
+unfoldable pub chosen_kind : ℕ → DataType → DataType → ℕ
+chosen_kind mask l r =
     cond (crosses l r) (cond (may_merge mask l r) (cond (dictionary_may mask l r) Kind.DICTIONARY Kind.RUN_END_ENCODED) 0)
     (cond (is_of Kind.DICTIONARY l || is_of Kind.DICTIONARY r) Kind.DICTIONARY Kind.RUN_END_ENCODED)
 
@@ -52,9 +52,9 @@ hint_in None = 0
 hint_in (Some t) = t.hint
 
 -- that wrapper, and what is known of the types that its rule goes on with
-pub record Way (hint mask left : ℕ) (swap : Bool) (s w : List ℕ) (l r : ℕ) (t : Option Choice) : Type 0 where
+pub record Chosen (hint mask left : ℕ) (swap : Bool) (s w : List ℕ) (l r : ℕ) (t : Option Choice) : Type 0 where
   pub is : (space : Space) (x y : DataType) → Typed space (side swap s w) l x → Typed space (side (not swap) s w) r y → size x + size y ≤ left → Hint hint mask x y
-      → kind_in t ≡ way_of mask x y
+      → kind_in t ≡ chosen_kind mask x y
   pub on : (space : Space) (x y : DataType) → Typed space (side swap s w) l x → Typed space (side (not swap) s w) r y → size x + size y ≤ left → Hint hint mask x y
       → Hint (hint_in t) mask (without (kind_in t) x) (without (kind_in t) y)
   pub wrapper : IfSome t (λ u. is_wrapper u.kind ≡ true)

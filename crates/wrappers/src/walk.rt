@@ -4,7 +4,7 @@ ghost use Rattle.std.specs.Prelude.{◌≡◌, true, not, cond, ◌+◌, ◌<◌
 ghost use Rattle.sheet.specs.declared.kind.TheConstants as Kind;
 ghost use Rattle.buffers.specs.Writes.{side};
 ghost use Rattle.wrappers.specs.Ways.{wrappers_of, allows, meets, hint_of, wrappers_may};
-ghost use Rattle.wrappers.specs.Walks.{Core, Tells, TellsBoth, Learns, Way};
+ghost use Rattle.wrappers.specs.Walks.{Core, Tells, TellsBoth, Learns, Chosen};
 
 use buffers::sides::Sides;
 use plain::sides::may_become;
@@ -178,7 +178,7 @@ pub fn chosen_wrapper(
     l: usize,
     r: usize,
 ) -> Option<Choice>
-    ensures { Way hint mask (left + 1) sides.now.swap sides.now.sheet.now work.now l r result }
+    ensures { Chosen hint mask (left + 1) sides.now.swap sides.now.sheet.now work.now l r result }
 {
     let walk = Walk {
         sides: *sides,
