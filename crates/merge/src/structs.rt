@@ -175,9 +175,10 @@ impl Merger<'_> {
         self.struct_coercion(work, table, &known, l, r, g)
     }
 
-    /// The rows of two chains: each field of the left is coerced with the one that feeds it, and
-    /// then come the rows behind it.
+    /// The rows of two chains: each field of the left is coerced with the one that feeds it. Inlined,
+    /// so that the end of a chain costs no call.
     #[cycle(merging)]
+    #[inline(always)]
     pub(crate) fn rows(
         &self,
         work: &mut [u8],
@@ -192,10 +193,31 @@ impl Merger<'_> {
         ensures rowed { Rowed known.now.differs (is_list_question self.now.rules.question) (coercion self.now.rules) self.now.sides.space known.now.left self.now.sides.swap self.now.sides.sheet.now work.old work.new feed chains.now.l chains.now.r chains.now.p to result }
         ensures stays_tabled { Tabled self.now.sides.space self.now.sides.sheet.now work.new table.new }
     {
-        let Chains { l, r, p } = *chains;
+        let Chains { l, p, .. } = *chains;
         if l == 0 {
             return row_end(p, to);
         }
+        self.first_row(work, table, known, feed, chains, to)
+    }
+
+    // The first row of two chains, and then the rows behind it.
+    #[cycle(merging)]
+    fn first_row(
+        &self,
+        work: &mut [u8],
+        table: &mut [u32],
+        known: &Known,
+        feed: Feed,
+        chains: &Chains,
+        to: Place,
+    ) -> Written
+        requires room { Room work.old self.now.sides.space × Inside self.now.sides.space to }
+        requires some { ¬ (chains.now.l ≡ 0) }
+        requires tabled { Tabled self.now.sides.space self.now.sides.sheet.now work.old table.old }
+        ensures rowed { Rowed known.now.differs (is_list_question self.now.rules.question) (coercion self.now.rules) self.now.sides.space known.now.left self.now.sides.swap self.now.sides.sheet.now work.old work.new feed chains.now.l chains.now.r chains.now.p to result }
+        ensures stays_tabled { Tabled self.now.sides.space self.now.sides.sheet.now work.new table.new }
+    {
+        let Chains { l, r, p } = *chains;
         if known.left == 0 {
             return Err(Failure::NoType);
         }

@@ -216,43 +216,43 @@ pub rows-returns-then-l-eq0-clause-rowed : goal.rows-returns-then-l-eq0-clause-r
 rows-returns-then-l-eq0-clause-rowed t c =
     rows_end c.args.known.now.differs _ _ c.args.self.now.sides.space c.args.known.now.left c.args.self.now.sides.swap _ _ c.args.feed _ _ _ _ _ c.requires.room.1 c.if-l-eq0.true c.row_end.ensures
 
-pub rows-returns-then-known-eq0-clause-rowed : goal.rows-returns-then-known-eq0-clause-rowed
-rows-returns-then-known-eq0-clause-rowed t c =
-    rows_spent c.args.known.now.differs _ _ c.args.self.now.sides.space c.args.known.now.left c.args.self.now.sides.swap _ _ c.args.feed _ _ _ _ c.if-l-eq0.false c.if-known-eq0.true
+pub first_row-returns-then-known-eq0-clause-rowed : goal.first_row-returns-then-known-eq0-clause-rowed
+first_row-returns-then-known-eq0-clause-rowed t c =
+    rows_spent c.args.known.now.differs _ _ c.args.self.now.sides.space c.args.known.now.left c.args.self.now.sides.swap _ _ c.args.feed _ _ _ _ c.requires.some c.if-known-eq0.true
 
-pub rows-returns-then-partner-eq0-clause-rowed : goal.rows-returns-then-partner-eq0-clause-rowed
-rows-returns-then-partner-eq0-clause-rowed t c =
-    rows_unfed c.args.known.now.differs _ _ c.args.self.now.sides.space c.args.known.now.left c.args.self.now.sides.swap _ _ c.args.feed _ _ _ _ _ c.if-l-eq0.false (rw c.known_names-names.ensures at (c.row-row.ensures c.requires.tabled.partners)) c.if-partner-eq0.true
+pub first_row-returns-then-partner-eq0-clause-rowed : goal.first_row-returns-then-partner-eq0-clause-rowed
+first_row-returns-then-partner-eq0-clause-rowed t c =
+    rows_unfed c.args.known.now.differs _ _ c.args.self.now.sides.space c.args.known.now.left c.args.self.now.sides.swap _ _ c.args.feed _ _ _ _ _ c.requires.some (rw c.known_names-names.ensures at (c.row-row.ensures c.requires.tabled.partners)) c.if-partner-eq0.true
 
-pub rows-returns-in_err-g-clause-rowed : goal.rows-returns-in_err-g-clause-rowed
-rows-returns-in_err-g-clause-rowed t c =
-    rw (stopped _ c.from_residual.ensures.1) (rw c.in_err-g.ensures.goal (rows_crowded c.args.known.now.differs _ _ c.args.self.now.sides.space c.args.known.now.left c.args.self.now.sides.swap _ _ c.args.feed _ _ _ _ c.requires.room.0 c.requires.room.1 _ c.head-x.ensures.0 c.if-l-eq0.false _ (rw c.known_names-names.ensures at (c.row-row.ensures c.requires.tabled.partners)) c.if-partner-eq0.false _ _ c.in_err-g.ensures.named refl))
+pub first_row-returns-in_err-g-clause-rowed : goal.first_row-returns-in_err-g-clause-rowed
+first_row-returns-in_err-g-clause-rowed t c =
+    rw (stopped _ c.from_residual.ensures.1) (rw c.in_err-g.ensures.goal (rows_crowded c.args.known.now.differs _ _ c.args.self.now.sides.space c.args.known.now.left c.args.self.now.sides.swap _ _ c.args.feed _ _ _ _ c.requires.room.0 c.requires.room.1 _ c.head-x.ensures.0 c.requires.some _ (rw c.known_names-names.ensures at (c.row-row.ensures c.requires.tabled.partners)) c.if-partner-eq0.false _ _ c.in_err-g.ensures.named refl))
 
-pub rows-returns-in_err-g-clause-stays_tabled : goal.rows-returns-in_err-g-clause-stays_tabled
-rows-returns-in_err-g-clause-stays_tabled t c =
+pub first_row-returns-in_err-g-clause-stays_tabled : goal.first_row-returns-in_err-g-clause-stays_tabled
+first_row-returns-in_err-g-clause-stays_tabled t c =
     tabled_over c.requires.room.0 c.name_target.ensures.named.kept c.requires.tabled
 
-pub rows-common-requires : goal.rows-common-requires
-rows-common-requires t c =
+pub first_row-common-requires : goal.first_row-common-requires
+first_row-common-requires t c =
     (omega (arith, c.decreases), ((room_kept c.name_target.ensures.named.kept c.requires.room.0, goal_ready c.requires.room.1 c.head-x.ensures.1 c.in_ok-g.ensures), tabled_over c.requires.room.0 c.name_target.ensures.named.kept c.requires.tabled))
 
-pub rows-returns-in_err-d-clause-rowed : goal.rows-returns-in_err-d-clause-rowed
-rows-returns-in_err-d-clause-rowed t c =
+pub first_row-returns-in_err-d-clause-rowed : goal.first_row-returns-in_err-d-clause-rowed
+first_row-returns-in_err-d-clause-rowed t c =
     let one = none_hint c.args.self.now.sides.swap (rw c.in_ok-g.ensures.goal at c.in_err-d.ensures.merges_hinted) in
-    rw (stopped _ c.from_residual-in_err-d.ensures.1) (rows_stopped c.args.known.now.differs _ _ c.args.self.now.sides.space c.args.known.now.left c.args.self.now.sides.swap _ _ c.args.feed _ _ _ _ c.requires.room.0 c.requires.room.1 _ c.head-x.ensures.0 c.if-l-eq0.false _ (rw c.known_names-names.ensures at (c.row-row.ensures c.requires.tabled.partners)) c.if-partner-eq0.false _ _ c.in_ok-g.ensures.named _ c.row_known-own.ensures refl _ _ one)
+    rw (stopped _ c.from_residual-in_err-d.ensures.1) (rows_stopped c.args.known.now.differs _ _ c.args.self.now.sides.space c.args.known.now.left c.args.self.now.sides.swap _ _ c.args.feed _ _ _ _ c.requires.room.0 c.requires.room.1 _ c.head-x.ensures.0 c.requires.some _ (rw c.known_names-names.ensures at (c.row-row.ensures c.requires.tabled.partners)) c.if-partner-eq0.false _ _ c.in_ok-g.ensures.named _ c.row_known-own.ensures refl _ _ one)
 
-pub rows-returns-in_err-e-clause-rowed : goal.rows-returns-in_err-e-clause-rowed
-rows-returns-in_err-e-clause-rowed t c =
+pub first_row-returns-in_err-e-clause-rowed : goal.first_row-returns-in_err-e-clause-rowed
+first_row-returns-in_err-e-clause-rowed t c =
     let one = none_hint c.args.self.now.sides.swap (rw c.in_ok-g.ensures.goal at c.in_ok-d.ensures.merges_hinted) in
-    rw (stopped _ c.from_residual-in_err-e.ensures.1) (rows_rest_stopped c.args.known.now.differs _ _ c.args.self.now.sides.space c.args.known.now.left c.args.self.now.sides.swap _ _ c.args.feed _ _ _ _ c.requires.room.0 c.requires.room.1 _ c.head-x.ensures.0 c.if-l-eq0.false _ (rw c.known_names-names.ensures at (c.row-row.ensures c.requires.tabled.partners)) c.if-partner-eq0.false _ _ c.in_ok-g.ensures.named _ c.row_known-own.ensures refl _ _ one _ _ c.in_err-e.ensures.rowed)
+    rw (stopped _ c.from_residual-in_err-e.ensures.1) (rows_rest_stopped c.args.known.now.differs _ _ c.args.self.now.sides.space c.args.known.now.left c.args.self.now.sides.swap _ _ c.args.feed _ _ _ _ c.requires.room.0 c.requires.room.1 _ c.head-x.ensures.0 c.requires.some _ (rw c.known_names-names.ensures at (c.row-row.ensures c.requires.tabled.partners)) c.if-partner-eq0.false _ _ c.in_ok-g.ensures.named _ c.row_known-own.ensures refl _ _ one _ _ c.in_err-e.ensures.rowed)
 
-pub rows-returns-clause-rowed : goal.rows-returns-clause-rowed
-rows-returns-clause-rowed t c =
+pub first_row-returns-clause-rowed : goal.first_row-returns-clause-rowed
+first_row-returns-clause-rowed t c =
     let one = none_hint c.args.self.now.sides.swap (rw c.in_ok-g.ensures.goal at c.in_ok-d.ensures.merges_hinted) in
-    rows_done c.args.known.now.differs _ _ c.args.self.now.sides.space c.args.known.now.left c.args.self.now.sides.swap _ _ c.args.feed _ _ _ _ c.requires.room.0 c.requires.room.1 _ c.head-x.ensures.0 c.if-l-eq0.false _ (rw c.known_names-names.ensures at (c.row-row.ensures c.requires.tabled.partners)) c.if-partner-eq0.false _ _ c.in_ok-g.ensures.named _ c.row_known-own.ensures refl _ _ one _ _ _ _ c.in_ok-e.ensures.rowed c.next_link.ensures.0 c.tie.ensures
+    rows_done c.args.known.now.differs _ _ c.args.self.now.sides.space c.args.known.now.left c.args.self.now.sides.swap _ _ c.args.feed _ _ _ _ c.requires.room.0 c.requires.room.1 _ c.head-x.ensures.0 c.requires.some _ (rw c.known_names-names.ensures at (c.row-row.ensures c.requires.tabled.partners)) c.if-partner-eq0.false _ _ c.in_ok-g.ensures.named _ c.row_known-own.ensures refl _ _ one _ _ _ _ c.in_ok-e.ensures.rowed c.next_link.ensures.0 c.tie.ensures
 
-pub rows-returns-clause-stays_tabled : goal.rows-returns-clause-stays_tabled
-rows-returns-clause-stays_tabled t c =
+pub first_row-returns-clause-stays_tabled : goal.first_row-returns-clause-stays_tabled
+first_row-returns-clause-stays_tabled t c =
     let one = none_hint c.args.self.now.sides.swap (rw c.in_ok-g.ensures.goal at c.in_ok-d.ensures.merges_hinted) in
     tabled_over c.requires.room.0 (tied_kept _ _ _ _ _ c.tie.ensures 0 (omega (arith, one.writes.passes.1.0, one.writes.passes.0.records))) c.rows.ensures.stays_tabled
 

@@ -38,7 +38,10 @@ abbrev pub decreases-rewrapped : goal.decreases-rewrapped
 decreases-rewrapped l = 16 * l.left + 11
 
 abbrev pub decreases-rows : goal.decreases-rows
-decreases-rows l = 16 * l.known.now.left + 5
+decreases-rows l = 16 * l.known.now.left + 6
+
+abbrev pub decreases-first_row : goal.decreases-first_row
+decreases-first_row l = 16 * l.known.now.left + 5
 
 abbrev pub decreases-struct_coercion : goal.decreases-struct_coercion
 decreases-struct_coercion l = 16 * l.known.now.left + 9
