@@ -127,10 +127,8 @@ impl Merger<'_> {
     }
 
     // The rules of union and compare, after the test for alikeness. Of the two rules for wrappers
-    // one is asked, as the other has no answer that it lacks. It is not inlined, so that the frame of
-    // `common`, through which all parts go, stays small.
+    // one is asked, as the other has no answer that it lacks.
     #[cycle(merging)]
-    #[inline(never)]
     fn unwrap(
         &self,
         work: &mut [u8],

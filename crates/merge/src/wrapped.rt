@@ -195,15 +195,15 @@ impl Merger<'_> {
         };
         let kind = t.kind;
         let (k, j) = self.sides.kinds(&*work, l, r);
-        let a = self.sides.value(&*work, l);
-        let b = self.sides.right_value(&*work, r);
         let rest = Known {
             differs: None,
             hint: t.hint,
             ..*known
         };
         if k == kind {
+            let a = self.sides.value(&*work, l);
             if j == kind {
+                let b = self.sides.right_value(&*work, r);
                 let own = row_known(known.differs, a, 0, b, b);
                 let known = Known {
                     differs: own,
@@ -218,6 +218,7 @@ impl Merger<'_> {
         }
         // The common type takes the left's names, so the value is asked on its own side.
         if j == kind {
+            let b = self.sides.right_value(&*work, r);
             let turned = self.sides.swapped();
             if turned.same_sides(&*work, b, l, true) {
                 return turned.copy_type(work, r, g);

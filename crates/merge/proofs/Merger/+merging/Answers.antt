@@ -306,7 +306,7 @@ wrapper-returns-then-k-kind-clause-merges_hinted t c =
 
 pub wrapper-returns-then-same_sides-2-clause-merges_hinted : goal.wrapper-returns-then-same_sides-2-clause-merges_hinted
 wrapper-returns-then-same_sides-2-clause-merges_hinted t c =
-    way_merged c.args.self.now.rules _ _ _ c.args.self.now.sides.swap _ _ _ _ _ c.in-Some.ensures _ _ (any_hint _ _ c.args.self.now.sides.swap (any_known _ c.args.self.now.sides.swap (wrapper_right_same _ _ _ c.args.self.now.sides.swap _ _ _ _ _ c.kinds-k.ensures.left c.kinds-k.ensures.right (c.in-Some.ensures.wrapper) _ _ c.if-k-kind.false c.if-j-kind-2.true c.right_value-b.ensures (rw c.swapped-turned.ensures at c.same_sides-then-j-kind-2.ensures) c.if-same_sides-2.true (rw c.swapped-turned.ensures at c.copy_type-then-same_sides-2.ensures))))
+    way_merged c.args.self.now.rules _ _ _ c.args.self.now.sides.swap _ _ _ _ _ c.in-Some.ensures _ _ (any_hint _ _ c.args.self.now.sides.swap (any_known _ c.args.self.now.sides.swap (wrapper_right_same _ _ _ c.args.self.now.sides.swap _ _ _ _ _ c.kinds-k.ensures.left c.kinds-k.ensures.right (c.in-Some.ensures.wrapper) _ _ c.if-k-kind.false c.if-j-kind-2.true c.right_value-b-then-j-kind-2.ensures (rw c.swapped-turned.ensures at c.same_sides-then-j-kind-2.ensures) c.if-same_sides-2.true (rw c.swapped-turned.ensures at c.copy_type-then-same_sides-2.ensures))))
 
 pub wrapper-returns-then-same_sides-2-clause-stays_tabled : goal.wrapper-returns-then-same_sides-2-clause-stays_tabled
 wrapper-returns-then-same_sides-2-clause-stays_tabled t c =
@@ -314,7 +314,7 @@ wrapper-returns-then-same_sides-2-clause-stays_tabled t c =
 
 pub wrapper-returns-then-j-kind-2-clause-merges_hinted : goal.wrapper-returns-then-j-kind-2-clause-merges_hinted
 wrapper-returns-then-j-kind-2-clause-merges_hinted t c =
-    way_merged c.args.self.now.rules _ _ _ c.args.self.now.sides.swap _ _ _ _ _ c.in-Some.ensures _ _ (wrapper_right _ _ _ c.args.self.now.sides.swap _ _ _ _ _ c.kinds-k.ensures.left c.kinds-k.ensures.right (c.in-Some.ensures.wrapper) _ _ c.if-k-kind.false c.if-j-kind-2.true c.right_value-b.ensures (rw c.swapped-turned.ensures at c.same_sides-then-j-kind-2.ensures) c.args.self.now.rules.mask c.args.known.now.hint c.in-Some.t.hint (c.in-Some.ensures.on c.args.self.now.sides.space) c.args.known.now.differs c.if-same_sides-2.false c.common-then-j-kind-2.ensures.merges_hinted)
+    way_merged c.args.self.now.rules _ _ _ c.args.self.now.sides.swap _ _ _ _ _ c.in-Some.ensures _ _ (wrapper_right _ _ _ c.args.self.now.sides.swap _ _ _ _ _ c.kinds-k.ensures.left c.kinds-k.ensures.right (c.in-Some.ensures.wrapper) _ _ c.if-k-kind.false c.if-j-kind-2.true c.right_value-b-then-j-kind-2.ensures (rw c.swapped-turned.ensures at c.same_sides-then-j-kind-2.ensures) c.args.self.now.rules.mask c.args.known.now.hint c.in-Some.t.hint (c.in-Some.ensures.on c.args.self.now.sides.space) c.args.known.now.differs c.if-same_sides-2.false c.common-then-j-kind-2.ensures.merges_hinted)
 
 pub wrapper-returns-clause-merges_hinted : goal.wrapper-returns-clause-merges_hinted
 wrapper-returns-clause-merges_hinted t c =
