@@ -1,6 +1,7 @@
 //! Types without parts, as the file has them and as sheets do.
 ghost use Rattle.std.specs.Prelude.{◌≡◌, ◌≤◌, length, IfSome, [], ◌∷◌};
 ghost use Rattle.sheet.specs.Bounds.{Bounded};
+ghost use Rattle.sheet.specs.Reader.{type_at, listed_at};
 
 use sheet::Head;
 use sheet::kind::TIMESTAMP;
@@ -77,8 +78,10 @@ impl Plain {
         }
     }
 
-    /// The type of a one-type sheet.
-    pub fn read(sheet: &[u8]) -> Plain {
+    /// The type of a one-type sheet. A zone that the file does not have is 255, and so is a size over 255.
+    pub fn read(sheet: &[u8]) -> Plain
+        ensures { (result.kind ≡ (type_at sheet.now (listed_at sheet.now)).kind) × ((result.figure ≡ (type_at sheet.now (listed_at sheet.now)).figure) × (result.scale ≡ (type_at sheet.now (listed_at sheet.now)).scale)) }
+    {
         let head = Reader::new(sheet).head();
         let zone = if head.zoned() {
             number_of(label_at(sheet, 2, head.zone_at(), head.zone_len()))
